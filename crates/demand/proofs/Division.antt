@@ -1,0 +1,48 @@
+-- Floor and ceiling by a variable divisor, and bounds of products.
+-- Assumes nothing.
+--
+--   div-mono, ceil-mono      neither falls
+--   div-add-ceil             ⌊(a + b) / k⌋ ≤ ⌊a / k⌋ + ⌈b / k⌉
+--   ceil-add                 ⌈(a + b) / k⌉ ≤ ⌈a / k⌉ + ⌈b / k⌉
+--   ceil-one-more            1 + ⌊a / k⌋ = ⌈(a + 1) / k⌉
+--   ceil-le                  ⌈a / k⌉ ≤ a
+--   prod-le                  a product of bounded numbers is bounded
+use mathlib.Core.Path.{_≡_}
+use Prim.Native.Nat.{ℕ, _+_, _*_, _-_, _/_, _≤_, _<_}
+use native.Mathlib.Nat.{div-mul-le-self, le-div-iff-mul-le, div-lt-iff-lt-mul, lt-div-mul-add, mul-le-mul, mul-le-mul-left, add-div-right}
+use native.Mathlib.Omega.{arith}
+use Rattle.demand.specs.Demand.{ceil}
+
+pub div-mono : {a b k : ℕ} → 0 < k → a ≤ b → a / k ≤ b / k
+div-mono {a} {b} {k} pos h = le-div-iff-mul-le pos .1 (omega (arith, div-mul-le-self a k))
+
+pub div-add-ceil : (a b : ℕ) {k : ℕ} → 0 < k → (a + b) / k ≤ a / k + ceil b k
+unfolding ceil
+div-add-ceil a b {k} pos =
+    let below : (a + b) / k < a / k + (b + (k - 1)) / k + 1 = div-lt-iff-lt-mul pos .1 (omega (arith, lt-div-mul-add {a = a} pos, lt-div-mul-add {a = b + (k - 1)} pos)) in
+    omega arith
+
+pub ceil-mono : {a b k : ℕ} → 0 < k → a ≤ b → ceil a k ≤ ceil b k
+unfolding ceil
+ceil-mono pos h = div-mono pos (omega arith)
+
+pub ceil-add : (a b : ℕ) {k : ℕ} → 0 < k → ceil (a + b) k ≤ ceil a k + ceil b k
+unfolding ceil
+ceil-add a b {k} pos =
+    let e : a + b + (k - 1) ≡ a + (k - 1) + b = omega arith in
+    rw e (div-add-ceil (a + (k - 1)) b pos)
+
+pub ceil-one-more : (a : ℕ) {k : ℕ} → 0 < k → ceil (a + 1) k ≡ 1 + a / k
+unfolding ceil
+ceil-one-more a {k} pos =
+    let e : a + 1 + (k - 1) ≡ a + k = omega arith in
+    rw e (omega (arith, add-div-right a pos))
+
+pub ceil-le : (a : ℕ) {k : ℕ} → 0 < k → ceil a k ≤ a
+unfolding ceil
+ceil-le a {k} pos =
+    let below : (a + (k - 1)) / k < a + 1 = div-lt-iff-lt-mul pos .1 (omega (arith, mul-le-mul-left a pos)) in
+    omega arith
+
+pub prod-le : (m n : ℕ) {a b : ℕ} → a ≤ m → b ≤ n → a * b ≤ m * n
+prod-le m n h k = mul-le-mul h k

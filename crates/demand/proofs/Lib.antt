@@ -1,0 +1,10 @@
+-- Laws that belong to no one function.
+pub mod Division
+pub mod Sums
+pub mod DemandLaws
+pub mod ChargeLaws
+pub mod LaneLaws
+pub mod SizeLaws
+pub mod RunLaws
+pub mod BusyLaws
+pub mod VerdictLaws

@@ -1,0 +1,110 @@
+-- The size rules as tests say what they say as records.
+-- Assumes nothing.
+--
+--   sized-is, sized-costs-is    a test that tells the rule is the definition's
+--   first-bad-none              no bad place: all records are within the sizes
+--   first-bad-good, -bad, -end  one record more
+use mathlib.Core.Path.{_≡_, refl, sym, subst, _∙_}
+use mathlib.Core.Bool.{Bool, true, false, cond, _&&_}
+use mathlib.Core.List.{List, [], _∷_}
+use Prim.Native.Nat.{ℕ, suc, _+_, _≤_, _<_}
+use native.Mathlib.Numerals.{add-one}
+use native.Mathlib.Omega.{arith}
+use borrow.Author.Needs.{needs}
+use borrow.Author.Tests.{leb-true, leb-false}
+use lib.Dec.{leb}
+use lib.ListN.{length, drop, getD}
+use lib.Seq.{drop-cons}
+use Rattle.demand.specs.declared.Piece.{Piece}
+use Rattle.demand.specs.declared.Costs.{Costs}
+use Rattle.demand.specs.Sizes.{timeMost, costMost, SizedCosts, Sized, sizedCosts, sized, Tells, Each}
+use Rattle.demand.specs.Answer.{firstBad}
+
+-- ---- tests
+
+module _ (P : Type 0) where
+  tells-unique : (a b : Bool) → Tells P a → Tells P b → a ≡ b
+  tells-unique true true p q = refl
+  tells-unique true false p q = absurd (q p)
+  tells-unique false true p q = absurd (p q)
+  tells-unique false false p q = refl
+
+  tells-as : (Q : Type 0) → (P → Q) → (Q → P) → (a : Bool) → Tells P a → Tells Q a
+  tells-as Q to from true p = to p
+  tells-as Q to from false p = λ q. p (from q)
+
+  tells-both : (Q : Type 0) (a b : Bool) → Tells P a → Tells Q b → Tells (P × Q) (a && b)
+  tells-both Q true true p q = (p, q)
+  tells-both Q true false p q = λ h. q (h .1)
+  tells-both Q false true p q = λ h. p (h .0)
+  tells-both Q false false p q = λ h. p (h .0)
+
+tells-leb : (m n : ℕ) → Tells (m ≤ n) (leb m n)
+tells-leb m n = look (leb m n) refl
+  where
+    look : (b : Bool) → leb m n ≡ b → Tells (m ≤ n) b
+    look true e = leb-true m n e
+    look false e = λ h. omega (arith, leb-false m n e)
+
+-- several bounds, each a pair of numbers
+abbrev Bounds : List (ℕ × ℕ) → Type 0
+Bounds [] = Unit {0}
+Bounds (b ∷ bs) = Bounds bs × (b .0 ≤ b .1)
+
+abbrev bounds : List (ℕ × ℕ) → Bool
+bounds [] = true
+bounds (b ∷ bs) = bounds bs && leb (b .0) (b .1)
+
+tells-bounds : (bs : List (ℕ × ℕ)) → Tells (Bounds bs) (bounds bs)
+tells-bounds [] = tt
+tells-bounds (b ∷ bs) = tells-both (Bounds bs) (b .0 ≤ b .1) (bounds bs) (leb (b .0) (b .1)) (tells-bounds bs) (tells-leb (b .0) (b .1))
+
+sized-bounds : Piece → List (ℕ × ℕ)
+sized-bounds p = (p .migrate, costMost) ∷ (p .preempt, costMost) ∷ (p .jitter, timeMost) ∷ (p .period, timeMost) ∷ (p .window, p .period) ∷ (p .budget, p .window) ∷ (1, p .budget) ∷ []
+
+tells-sized : (p : Piece) → Tells (Sized p) (sized p)
+unfolding sized sized-bounds
+tells-sized p =
+    tells-as (Bounds (sized-bounds p)) (Sized p) (λ b. record { budget-some = omega arith; budget-fits = omega arith; window-fits = omega arith; period-fits = omega arith; jitter-fits = omega arith; preempt-fits = omega arith; migrate-fits = omega arith })
+    (λ s. search needs) (sized p) (tells-bounds (sized-bounds p))
+
+sized-costs-bounds : Costs → List (ℕ × ℕ)
+sized-costs-bounds c = (c .precision, costMost) ∷ (c .ipij, costMost) ∷ (c .ipio, costMost) ∷ (c .migro, costMost) ∷ (c .beto, costMost) ∷ (c .ipb, costMost) ∷ (c .tseto, costMost) ∷ (c .schedo, costMost) ∷ (c .relo, costMost) ∷ []
+
+tells-sized-costs : (c : Costs) → Tells (SizedCosts c) (sizedCosts c)
+unfolding sizedCosts sized-costs-bounds
+tells-sized-costs c =
+    tells-as (Bounds (sized-costs-bounds c)) (SizedCosts c) (λ b. record { relo-fits = omega arith; schedo-fits = omega arith; tseto-fits = omega arith; ipb-fits = omega arith; beto-fits = omega arith; migro-fits = omega arith; ipio-fits = omega arith; ipij-fits = omega arith; precision-fits = omega arith })
+    (λ s. search needs) (sizedCosts c) (tells-bounds (sized-costs-bounds c))
+
+pub sized-is : (p : Piece) (b : Bool) → Tells (Sized p) b → b ≡ sized p
+sized-is p b tells = tells-unique (Sized p) b (sized p) tells (tells-sized p)
+
+pub sized-costs-is : (c : Costs) (b : Bool) → Tells (SizedCosts c) b → b ≡ sizedCosts c
+sized-costs-is c b tells = tells-unique (SizedCosts c) b (sizedCosts c) tells (tells-sized-costs c)
+
+pub sized-true : (p : Piece) → sized p ≡ true → Sized p
+sized-true p e = subst (λ (b : Bool). Tells (Sized p) b) e (tells-sized p)
+
+pub sized-costs-true : (c : Costs) → sizedCosts c ≡ true → SizedCosts c
+sized-costs-true c e = subst (λ (b : Bool). Tells (SizedCosts c) b) e (tells-sized-costs c)
+
+-- ---- the first bad record
+
+first-bad-step : (k : ℕ) (p : Piece) (ps : List Piece) (b : Bool) → sized p ≡ b → firstBad k (p ∷ ps) ≡ cond b (firstBad (k + 1) ps) k
+first-bad-step k p ps b e = rw e
+
+module _ (ps : List Piece) (i : ℕ) (d : Piece) (inside : i < length ps) where
+  pub first-bad-good : sized (getD ps i d) ≡ true → firstBad (i + 1) (drop i ps) ≡ firstBad (i + 1 + 1) (drop (i + 1) ps)
+  first-bad-good e = rw (add-one, drop-cons ps i d) (first-bad-step (suc i) (getD ps i d) (drop (suc i) ps) true e)
+
+  pub first-bad-here : sized (getD ps i d) ≡ false → firstBad (i + 1) (drop i ps) ≡ i + 1
+  first-bad-here e = rw (drop-cons ps i d) (first-bad-step (i + 1) (getD ps i d) (drop (suc i) ps) false e)
+
+pub first-bad-none : (k : ℕ) (ps : List Piece) → firstBad (suc k) ps ≡ 0 → Each Sized ps
+first-bad-none k [] e = tt
+first-bad-none k (p ∷ ps) e = look (sized p) refl (λ rest. first-bad-none (suc k) ps rest) (λ good. rw add-one at (sym (first-bad-step (suc k) p ps true good) ∙ e)) (λ bad. sym (first-bad-step (suc k) p ps false bad) ∙ e)
+  where
+    look : (b : Bool) → sized p ≡ b → (firstBad (suc (suc k)) ps ≡ 0 → Each Sized ps) → (sized p ≡ true → firstBad (suc (suc k)) ps ≡ 0) → (sized p ≡ false → suc k ≡ 0) → Each Sized (p ∷ ps)
+    look true good rest more never = (sized-true p good, rest (more good))
+    look false bad rest more never = absurd (omega (arith, never bad))

@@ -1,0 +1,33 @@
+-- How a core under judgement lies in one array of numbers, seven to a piece, so that it is worked out once and lent.
+--
+--   lane a i             the charged piece at place i
+--   rows a n             those at the first n places
+--   term s t q           the figure s of q at t
+use mathlib.Core.List.{List, [], _∷_, _++_}
+use Prim.Native.Nat.{ℕ, zero, suc, _+_, _*_}
+use lib.ListN.{getD}
+use Rattle.demand.specs.declared.Charged.{Charged}
+use Rattle.demand.specs.declared.Sum.{Sum}
+use Rattle.demand.specs.declared.Sum.the-variants.{Load, Busy, Interrupts}
+use Rattle.demand.specs.Demand.{load, interrupts}
+use Rattle.demand.specs.Busy.{busyLoad}
+
+unfoldable pub lane : List ℕ → ℕ → Charged
+lane a i = record {
+  charge = getD a (7 * i) 0;
+  window = getD a (7 * i + 1) 0;
+  period = getD a (7 * i + 2) 0;
+  jitter = getD a (7 * i + 3) 0;
+  release = getD a (7 * i + 4) 0;
+  ipi = getD a (7 * i + 5) 0;
+  ipij = getD a (7 * i + 6) 0;
+}
+
+abbrev pub rows : List ℕ → ℕ → List Charged
+rows a zero = []
+rows a (suc n) = rows a n ++ (lane a n ∷ [])
+
+abbrev pub term : Sum → ℕ → Charged → ℕ
+term Load t q = load t q
+term Busy t q = busyLoad t q
+term Interrupts t q = interrupts q t

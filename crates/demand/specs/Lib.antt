@@ -1,0 +1,8 @@
+-- What the contracts of `demand` cite, in document 01's order.
+pub mod Sizes
+pub mod Charge
+pub mod Demand
+pub mod Busy
+pub mod Verdict
+pub mod Answer
+pub mod Lanes

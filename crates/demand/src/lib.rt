@@ -1,0 +1,175 @@
+// What one core is asked for, and the verdict on it: document 01, "A piece and its charge" to "Verdict on a core".
+//
+// Every public function takes any input. It refuses what document 01 refuses, and its contract is an equation with one definition of `specs/`.
+mod charges;
+mod demands;
+mod lanes;
+mod lengths;
+mod sizes;
+mod spans;
+
+use charges::stall_of;
+use demands::{demand_at, largest_window};
+use lanes::lay_out;
+use lengths::{climb, tight_of};
+use sizes::check_run;
+use spans::judge_core;
+
+ghost use mathlib.Core.Path.{_≡_};
+ghost use Rattle.demand.specs.Answer.{answerOf, busyFigure, demandFigure, tightFigure};
+
+/// How a piece stands in its task: the whole of it, or the first or the last part of a split.
+pub enum Kind {
+    Whole,
+    First,
+    Last,
+}
+
+/// A piece as a record gives it: budget x, window D, period T, jitter J, cache charges P and M.
+pub struct Piece {
+    pub kind: Kind,
+    pub budget: u64,
+    pub window: u64,
+    pub period: u64,
+    pub jitter: u64,
+    pub preempt: u64,
+    pub migrate: u64,
+}
+
+/// The nine cost constants, in the sheet's order; `precision` is π.
+pub struct Costs {
+    pub relo: u64,
+    pub schedo: u64,
+    pub tseto: u64,
+    pub ipb: u64,
+    pub beto: u64,
+    pub migro: u64,
+    pub ipio: u64,
+    pub ipij: u64,
+    pub precision: u64,
+}
+
+/// A piece once it is charged: all that demand, busy length and verdict look at, with its kind gone.
+pub struct Charged {
+    pub charge: u64,
+    pub window: u64,
+    pub period: u64,
+    pub jitter: u64,
+    pub release: u64,
+    pub ipi: u64,
+    pub ipij: u64,
+}
+
+/// The verdict on a core.
+pub enum Verdict {
+    Passes,
+    Overloaded(u64),
+    Undecided,
+}
+
+/// A length that is looked for up to a limit.
+pub enum Found {
+    At(u64),
+    Nothing,
+}
+
+/// Which figure of the pieces is summed.
+pub enum Sum {
+    Load,
+    Busy,
+    Interrupts,
+}
+
+/// Why a run of records is refused.
+pub enum Refusal {
+    TooMany,
+    BadCosts,
+    BadRecord(u64),
+}
+
+/// Whether a run of records is taken.
+pub enum Check {
+    Fine,
+    Bad(Refusal),
+}
+
+/// What is said of a run of records.
+pub enum Answer {
+    Judged(Verdict),
+    Refused(Refusal),
+}
+
+/// A figure of a run of records.
+pub enum Figure {
+    Of(Found),
+    Barred(Refusal),
+}
+
+/// A run of piece records: the first `count` of `pieces`.
+pub struct Run {
+    pub count: usize,
+    pub pieces: [Piece; 79],
+}
+
+/// The verdict on the run: 6, then 2, then 3 with the record's place, else the verdict.
+pub fn judge(costs: Costs, run: Run) -> Answer
+    ensures exact { λ r. ⌜ r ≡ answerOf costs (run .count) (run .pieces) ⌝ }
+{
+    match check_run(costs, run) {
+        Check::Bad(why) => Answer::Refused(why),
+        Check::Fine => {
+            let core = lay_out(costs, run);
+            let n = run.count;
+            Answer::Judged(judge_core(&core, n, stall_of(costs)))
+        }
+    }
+}
+
+/// The busy length L of the run, if there is one up to the limit.
+pub fn busy_length(costs: Costs, run: Run) -> Figure
+    ensures exact { λ r. ⌜ r ≡ busyFigure costs (run .count) (run .pieces) ⌝ }
+{
+    match check_run(costs, run) {
+        Check::Bad(why) => Figure::Barred(why),
+        Check::Fine => {
+            let core = lay_out(costs, run);
+            let n = run.count;
+            Figure::Of(climb(&core, n, Sum::Busy, 0, 100000000))
+        }
+    }
+}
+
+/// The demand g(t) of the run, for a t that a judged length can be.
+pub fn demand_of(costs: Costs, run: Run, t: u64) -> Figure
+    ensures exact { λ r. ⌜ r ≡ demandFigure costs (run .count) (run .pieces) t ⌝ }
+{
+    match check_run(costs, run) {
+        Check::Bad(why) => Figure::Barred(why),
+        Check::Fine => {
+            if 101000000 < t {
+                return Figure::Of(Found::Nothing);
+            }
+            let core = lay_out(costs, run);
+            let n = run.count;
+            let w = largest_window(&core, n);
+            Figure::Of(Found::At(demand_at(&core, n, stall_of(costs), w, t)))
+        }
+    }
+}
+
+/// The tight window of the run's last piece beside those before it, where that is at most the piece's own window.
+pub fn tight_window(costs: Costs, run: Run) -> Figure
+    ensures exact { λ r. ⌜ r ≡ tightFigure costs (run .count) (run .pieces) ⌝ }
+{
+    match check_run(costs, run) {
+        Check::Bad(why) => Figure::Barred(why),
+        Check::Fine => {
+            let n = run.count;
+            if n == 0 {
+                return Figure::Of(Found::Nothing);
+            }
+            let core = lay_out(costs, run);
+            Figure::Of(tight_of(&core, n, stall_of(costs)))
+        }
+    }
+}

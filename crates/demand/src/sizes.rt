@@ -1,0 +1,103 @@
+// Whether costs and records are within the sizes, and the refusals in their order.
+use crate::{Check, Costs, Piece, Refusal, Run};
+
+ghost use mathlib.Core.Path.{_≡_};
+ghost use Prim.Native.Nat.{_≤_};
+ghost use lib.ListN.{take};
+ghost use Rattle.demand.specs.Answer.{firstBad, checkRun};
+ghost use Rattle.demand.specs.Sizes.{Sized, SizedCosts, Tells};
+
+pub fn sized_costs(costs: Costs) -> bool
+    ensures { λ r. ⌜ Tells (SizedCosts costs) r ⌝ }
+{
+    if 100000 < costs.relo {
+        return false;
+    }
+    if 100000 < costs.schedo {
+        return false;
+    }
+    if 100000 < costs.tseto {
+        return false;
+    }
+    if 100000 < costs.ipb {
+        return false;
+    }
+    if 100000 < costs.beto {
+        return false;
+    }
+    if 100000 < costs.migro {
+        return false;
+    }
+    if 100000 < costs.ipio {
+        return false;
+    }
+    if 100000 < costs.ipij {
+        return false;
+    }
+    if 100000 < costs.precision {
+        return false;
+    }
+    true
+}
+
+pub fn sized_piece(piece: Piece) -> bool
+    ensures { λ r. ⌜ Tells (Sized piece) r ⌝ }
+{
+    if piece.budget < 1 {
+        return false;
+    }
+    if piece.window < piece.budget {
+        return false;
+    }
+    if piece.period < piece.window {
+        return false;
+    }
+    if 1000000 < piece.period {
+        return false;
+    }
+    if 1000000 < piece.jitter {
+        return false;
+    }
+    if 100000 < piece.preempt {
+        return false;
+    }
+    if 100000 < piece.migrate {
+        return false;
+    }
+    true
+}
+
+// The place, from 1, of the first record outside the sizes, or 0.
+pub fn first_bad(run: Run) -> u64
+    requires { ⌜ run .count ≤ 79 ⌝ }
+    ensures { λ r. ⌜ r ≡ firstBad 1 (take (run .count) (run .pieces)) ⌝ }
+{
+    let mut i: usize = 0;
+    let mut place: u64 = 1;
+    while i < run.count {
+        let piece = run.pieces[i];
+        if !sized_piece(piece) {
+            return place;
+        }
+        i += 1;
+        place += 1;
+    }
+    0
+}
+
+// 6, then 2, then 3 with the record's place.
+pub fn check_run(costs: Costs, run: Run) -> Check
+    ensures { λ r. ⌜ r ≡ checkRun costs (run .count) (run .pieces) ⌝ }
+{
+    if 79 < run.count {
+        return Check::Bad(Refusal::TooMany);
+    }
+    if !sized_costs(costs) {
+        return Check::Bad(Refusal::BadCosts);
+    }
+    let place = first_bad(run);
+    if place == 0 {
+        return Check::Fine;
+    }
+    Check::Bad(Refusal::BadRecord(place))
+}
