@@ -16,9 +16,12 @@ use lib.Dec.{leb}
 use Rattle.demand.specs.declared.Charged.{Charged}
 use Rattle.demand.specs.declared.Found.{Found}
 use Rattle.demand.specs.declared.Found.the-variants.{At, Nothing}
+use Rattle.demand.specs.declared.Sum.{Sum}
 use Rattle.demand.specs.declared.Sum.the-variants.{Busy}
 use Rattle.demand.specs.Sizes.{Each, busyMost}
 use Rattle.demand.specs.Busy.{Least, Holds, Finds, climbing, leastHolding, busySum, busyLength}
+use Rattle.demand.specs.Demand.{total}
+use Rattle.demand.specs.Lanes.{term}
 use Rattle.demand.proofs.DemandLaws.{Recurs, sum-mono}
 
 pub least-le : {P : ℕ → Type 0} {n : ℕ} → Least P n → (k : ℕ) → P k → n ≤ k
@@ -63,6 +66,13 @@ module _ (f : ℕ → ℕ) (mono : (m n : ℕ) → m ≤ n → f m ≤ f n) wher
 
   pub least-holding-is : (top : ℕ) (r : Found) → Finds f top r → r ≡ leastHolding f top
   least-holding-is top r found = finds-unique f top r (leastHolding f top) found (least-holding-finds top)
+
+-- what the code climbs by: a base and one of the three sums
+abbrev pub asked : Sum → ℕ → List Charged → ℕ → ℕ
+asked s base qs t = base + total (term s t) qs
+
+pub asked-mono : (s : Sum) (base : ℕ) (qs : List Charged) → Each Recurs qs → (m n : ℕ) → m ≤ n → asked s base qs m ≤ asked s base qs n
+asked-mono s base qs recurs m n h = omega (arith, sum-mono qs recurs s h)
 
 pub busy-sum-mono : (qs : List Charged) → Each Recurs qs → (m n : ℕ) → m ≤ n → busySum qs m ≤ busySum qs n
 unfolding busySum

@@ -4,20 +4,30 @@
 --   nobody          what an array of pieces is said to hold past its end
 --   length-mapped   how long that array is
 --   each-at         what holds of each record of a run
+--   check-many, check-costs, check-record, check-all      the refusals in their order
+--   check-taken     what is known of a run that is not refused
 --   bad-good, bad-here, bad-end      the search for the first bad record, one record on
 use mathlib.Core.Path.{_≡_, refl, sym, _∙_}
-use mathlib.Core.Bool.{true, false}
+use mathlib.Core.Bool.{Bool, true, false, cond}
 use mathlib.Core.List.{List, [], _∷_, map}
 use Prim.Native.Nat.{ℕ, zero, suc, _+_, _≤_, _<_}
 use native.Mathlib.Nat.{not-suc-le-zero, le-of-suc-le-suc}
 use native.Mathlib.Omega.{arith}
+use borrow.Author.Tests.{le-leb, lt-leb, leb-true}
+use lib.Dec.{leb}
 use lib.ListN.{length, take, drop, getD, length-map, drop-of-length-le}
 use lib.Seq.{getD-take, length-take-le}
 use Rattle.demand.specs.declared.Kind.the-variants.{Whole}
 use Rattle.demand.specs.declared.Piece.{Piece}
-use Rattle.demand.specs.Sizes.{Each, sized}
-use Rattle.demand.specs.Answer.{firstBad}
-use Rattle.demand.proofs.SizeLaws.{first-bad-good, first-bad-here}
+use Rattle.demand.specs.declared.Costs.{Costs}
+use Rattle.demand.specs.declared.Refusal.{Refusal}
+use Rattle.demand.specs.declared.Refusal.the-variants.{TooMany, BadCosts, BadRecord}
+use Rattle.demand.specs.declared.Check.{Check}
+use Rattle.demand.specs.declared.Check.the-variants.{Fine, Bad}
+use Rattle.demand.specs.Sizes.{runMost, Sized, SizedCosts, Countable, Each, sized, sizedCosts}
+use Rattle.demand.specs.Answer.{firstBad, badRecord, checkRun}
+use Rattle.demand.proofs.ChargeLaws.{all-countable}
+use Rattle.demand.proofs.SizeLaws.{first-bad-good, first-bad-here, first-bad-none, sized-costs-true}
 
 abbrev pub nobody : Piece
 nobody = record { kind = Whole; budget = 0; window = 0; period = 0; jitter = 0; preempt = 0; migrate = 0 }
@@ -41,3 +51,47 @@ module _ (n : ℕ) (ps : List Piece) (room : n ≤ length ps) where
 
   pub bad-end : (k : ℕ) → firstBad k (drop n (take n ps)) ≡ 0
   bad-end k = rw (drop-of-length-le (take n ps) {i = n} (omega (arith, length-take-le n ps room)))
+
+-- ---- the refusals
+
+module _ (c : Costs) (n : ℕ) (ps : List Piece) where
+  pub check-many : runMost < n → checkRun c n ps ≡ Bad TooMany
+  unfolding checkRun
+  check-many h = simp (lt-leb n runMost h)
+
+  pub check-costs : n ≤ runMost → sizedCosts c ≡ false → checkRun c n ps ≡ Bad BadCosts
+  unfolding checkRun
+  check-costs h bad = simp (le-leb n runMost h, bad)
+
+  pub check-records : n ≤ runMost → sizedCosts c ≡ true → checkRun c n ps ≡ badRecord (firstBad 1 (take n ps))
+  unfolding checkRun
+  check-records h good = simp (le-leb n runMost h, good)
+
+pub bad-record-some : (k : ℕ) → (k ≡ 0 → ⊥) → badRecord k ≡ Bad (BadRecord k)
+bad-record-some zero h = absurd (h refl)
+bad-record-some (suc k) h = refl
+
+-- what is known of a run that is not refused
+pub record Taken (c : Costs) (n : ℕ) (ps : List Piece) : Type 0 where
+  pub few : n ≤ runMost
+  pub costs : SizedCosts c
+  pub each : Each Sized (take n ps)
+
+pub taken-countable : (c : Costs) (n : ℕ) (ps : List Piece) → Taken c n ps → Each Countable (take n ps)
+taken-countable c n ps ok = all-countable (take n ps) (ok .each)
+
+bad-record-fine : (k : ℕ) → badRecord k ≡ Fine → k ≡ 0
+bad-record-fine zero e = refl
+bad-record-fine (suc k) e = let z : _≡_ {A = ℕ} 0 1 = cc in absurd (omega arith)
+
+pub check-taken : (c : Costs) (n : ℕ) (ps : List Piece) → checkRun c n ps ≡ Fine → Taken c n ps
+unfolding checkRun
+check-taken c n ps e = few (leb n runMost) refl e
+  where
+    all : (b : Bool) → sizedCosts c ≡ b → n ≤ runMost → cond b (badRecord (firstBad 1 (take n ps))) (Bad BadCosts) ≡ Fine → Taken c n ps
+    all true good h f = record { few = h; costs = sized-costs-true c good; each = first-bad-none 0 (take n ps) (bad-record-fine (firstBad 1 (take n ps)) f) }
+    all false bad h f = let z : _≡_ {A = ℕ} 0 1 = cc in absurd (omega arith)
+
+    few : (b : Bool) → leb n runMost ≡ b → cond b (cond (sizedCosts c) (badRecord (firstBad 1 (take n ps))) (Bad BadCosts)) (Bad TooMany) ≡ Fine → Taken c n ps
+    few true h f = all (sizedCosts c) refl (leb-true n runMost h) f
+    few false h f = let z : _≡_ {A = ℕ} 0 1 = cc in absurd (omega arith)
