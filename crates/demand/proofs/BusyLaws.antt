@@ -5,10 +5,11 @@
 --   clear-one, clear-step         a climb passes nothing over
 --   least-holding-finds           `leastHolding` finds it
 --   finds-unique                  what is found is one
-use mathlib.Core.Path.{_≡_, refl, ap}
+--   busy-length-asked, tight-window-asked      both as the code climbs to them
+use mathlib.Core.Path.{_≡_, refl, sym, ap, subst, fun-ext}
 use mathlib.Core.Bool.{Bool, true, false}
-use mathlib.Core.List.{List}
-use Prim.Native.Nat.{ℕ, zero, suc, _+_, _≤_, _<_}
+use mathlib.Core.List.{List, [], _∷_, _++_}
+use Prim.Native.Nat.{ℕ, zero, suc, _+_, _-_, _≤_, _<_}
 use native.Mathlib.Decide.{decLt}
 use native.Mathlib.Omega.{arith}
 use borrow.Author.Tests.{leb-true, leb-false}
@@ -17,10 +18,11 @@ use Rattle.demand.specs.declared.Charged.{Charged}
 use Rattle.demand.specs.declared.Found.{Found}
 use Rattle.demand.specs.declared.Found.the-variants.{At, Nothing}
 use Rattle.demand.specs.declared.Sum.{Sum}
-use Rattle.demand.specs.declared.Sum.the-variants.{Busy}
+use Rattle.demand.specs.declared.Sum.the-variants.{Busy, Interrupts}
 use Rattle.demand.specs.Sizes.{Each, busyMost}
-use Rattle.demand.specs.Busy.{Least, Holds, Finds, climbing, leastHolding, busySum, busyLength}
+use Rattle.demand.specs.Busy.{Least, Holds, Finds, climbing, leastHolding, busySum, busyLength, later, tightSum, tightWindow}
 use Rattle.demand.specs.Demand.{total}
+use Rattle.demand.specs.Answer.{tightOfLast}
 use Rattle.demand.specs.Lanes.{term}
 use Rattle.demand.proofs.DemandLaws.{Recurs, sum-mono}
 
@@ -67,6 +69,9 @@ module _ (f : ℕ → ℕ) (mono : (m n : ℕ) → m ≤ n → f m ≤ f n) wher
   pub least-holding-is : (top : ℕ) (r : Found) → Finds f top r → r ≡ leastHolding f top
   least-holding-is top r found = finds-unique f top r (leastHolding f top) found (least-holding-finds top)
 
+  pub found-within : (top n : ℕ) → leastHolding f top ≡ At n → n ≤ top
+  found-within top n e = subst (λ (r : Found). Finds f top r) e (least-holding-finds top) .1
+
 -- what the code climbs by: a base and one of the three sums
 abbrev pub asked : Sum → ℕ → List Charged → ℕ → ℕ
 asked s base qs t = base + total (term s t) qs
@@ -81,3 +86,18 @@ busy-sum-mono qs recurs m n h = sum-mono qs recurs Busy h
 pub busy-length-finds : (qs : List Charged) → Each Recurs qs → Finds (busySum qs) busyMost (busyLength qs)
 unfolding busyLength
 busy-length-finds qs recurs = least-holding-finds (busySum qs) (busy-sum-mono qs recurs) busyMost
+
+pub busy-length-asked : (qs : List Charged) → busyLength qs ≡ leastHolding (asked Busy 0 qs) busyMost
+unfolding busyLength busySum
+busy-length-asked qs = ap (λ (f : ℕ → ℕ). leastHolding f busyMost) (fun-ext (λ l. omega arith))
+
+-- ---- the tight window
+
+pub tight-window-asked : (b : ℕ) (qs : List Charged) (q : Charged) (top : ℕ) → tightWindow b qs q top ≡ later (q .jitter) (leastHolding (asked Interrupts (b + q .charge) qs) (top - q .jitter))
+unfolding tightWindow tightSum
+tight-window-asked b qs q top = refl
+
+pub tight-of-last : (b : ℕ) (all qs : List Charged) (q : Charged) → tightOfLast b all (qs ++ (q ∷ [])) ≡ tightWindow b all q (q .window)
+tight-of-last b all [] q = refl
+tight-of-last b all (p ∷ []) q = refl
+tight-of-last b all (p ∷ r ∷ qs) q = tight-of-last b all (r ∷ qs) q

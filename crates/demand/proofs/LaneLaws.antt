@@ -1,11 +1,12 @@
 -- Laws of a core that lies in an array.
 -- Assumes nothing.
 --
---   rows-more             one place more
+--   rows-length, rows-more   n places, and one place more
 --   total-more, largest-more, earliest-more     and what that adds to each figure
 --   lane-each             what holds of all rows holds of each lane
 --   least-live-rows       t0, by the lane at place 0
 --   rows-put              seven numbers written at a place are a piece there, and nothing before it changes
+--   tight-of-rows         the tight window of the last lane
 --   core-more             the pieces of a core, one more
 use mathlib.Core.Path.{_≡_, refl, sym, ap, subst, _∙_}
 use mathlib.Core.List.{List, [], _∷_, _++_, map}
@@ -14,7 +15,7 @@ use native.Mathlib.Nat.{add-zero, not-suc-le-zero, le-of-suc-le-suc}
 use native.Mathlib.Decide.{decLt}
 use native.Mathlib.Numerals.{add-one}
 use native.Mathlib.Omega.{arith}
-use lib.ListN.{length, take, getD, set, length-set}
+use lib.ListN.{length, take, getD, set, length-set, length-append}
 use lib.Seq.{take-suc, getD-set-same, getD-set-other}
 use Rattle.demand.specs.declared.Charged.{Charged}
 use Rattle.demand.specs.declared.Piece.{Piece}
@@ -22,9 +23,18 @@ use Rattle.demand.specs.declared.Costs.{Costs}
 use Rattle.demand.specs.Sizes.{Each}
 use Rattle.demand.specs.Charge.{charged, coreOf}
 use Rattle.demand.specs.Demand.{total, largestWindow, earliest, leastLive}
+use Rattle.demand.specs.declared.Found.{Found}
+use Rattle.demand.specs.declared.Sum.the-variants.{Interrupts}
+use Rattle.demand.specs.Busy.{leastHolding, later, tightWindow}
+use Rattle.demand.specs.Answer.{tightOfLast}
 use Rattle.demand.specs.Lanes.{lane, rows}
+use Rattle.demand.proofs.BusyLaws.{asked, tight-of-last, tight-window-asked}
 use Rattle.demand.proofs.Sums.{total-snoc, each-front, each-last}
 use Rattle.demand.proofs.DemandLaws.{largest-snoc, earliest-snoc}
+
+pub rows-length : (a : List ℕ) (n : ℕ) → length (rows a n) ≡ n
+rows-length a zero = refl
+rows-length a (suc n) = rw (length-append, rows-length a n) (omega arith)
 
 pub rows-more : (a : List ℕ) (i : ℕ) → rows a (i + 1) ≡ rows a i ++ (lane a i ∷ [])
 rows-more a i = rw add-one
@@ -112,6 +122,19 @@ put-before a at q k h =
 pub rows-put : (a : List ℕ) (i : ℕ) (q : Charged) → 7 * i + 7 ≤ length a → rows (put a (7 * i) q) (i + 1) ≡ rows a i ++ (q ∷ [])
 rows-put a i q room =
     cc (rows-more (put a (7 * i) q) i, rows-same (put a (7 * i) q) a i (put-before a (7 * i) q), put-lane a i q room)
+
+pub tight-of-rows : (b : ℕ) (all : List Charged) (a : List ℕ) (n : ℕ) → 1 ≤ n → tightOfLast b all (rows a n) ≡ tightWindow b all (lane a (n - 1)) (lane a (n - 1) .window)
+tight-of-rows b all a zero h = absurd (not-suc-le-zero h)
+tight-of-rows b all a (suc n) h =
+    let e : suc n - 1 ≡ n = omega arith in
+    rw e (tight-of-last b all (rows a n) (lane a n))
+
+-- the tight window by what a climb finds
+pub tight-found : (b : ℕ) (a : List ℕ) (n : ℕ) → 1 ≤ n → (q : Charged) → q ≡ lane a (n - 1) → (top : ℕ) → top ≡ q .window - q .jitter → (r : Found) → r ≡ leastHolding (asked Interrupts (b + q .charge) (rows a n)) top → later (q .jitter) r ≡ tightOfLast b (rows a n) (rows a n)
+tight-found b a n some q last top room r found =
+    let climbed : later (q .jitter) r ≡ tightWindow b (rows a n) q (q .window) = rw (found, room) (sym (tight-window-asked b (rows a n) q (q .window))) in
+    let of-last : tightWindow b (rows a n) q (q .window) ≡ tightOfLast b (rows a n) (rows a n) = rw last (sym (tight-of-rows b (rows a n) a n some)) in
+    climbed ∙ of-last
 
 map-snoc : {A B : Type 0} (f : A → B) (ps : List A) (p : A) → map f (ps ++ (p ∷ [])) ≡ map f ps ++ (f p ∷ [])
 map-snoc f [] p = refl

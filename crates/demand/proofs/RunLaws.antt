@@ -5,6 +5,7 @@
 --   length-mapped   how long that array is
 --   each-at         what holds of each record of a run
 --   check-many, check-costs, check-record, check-all      the refusals in their order
+--   answer-fine, answer-bad, figure-fine, figure-bad      what is then answered
 --   check-taken     what is known of a run that is not refused
 --   bad-good, bad-here, bad-end      the search for the first bad record, one record on
 use mathlib.Core.Path.{_≡_, refl, sym, _∙_}
@@ -24,9 +25,15 @@ use Rattle.demand.specs.declared.Refusal.{Refusal}
 use Rattle.demand.specs.declared.Refusal.the-variants.{TooMany, BadCosts, BadRecord}
 use Rattle.demand.specs.declared.Check.{Check}
 use Rattle.demand.specs.declared.Check.the-variants.{Fine, Bad}
-use Rattle.demand.specs.Sizes.{runMost, Sized, SizedCosts, Countable, Each, sized, sizedCosts}
-use Rattle.demand.specs.Answer.{firstBad, badRecord, checkRun}
-use Rattle.demand.proofs.ChargeLaws.{all-countable}
+use Rattle.demand.specs.Sizes.{runMost, Sized, SizedCosts, Countable, Ranged, Each, sized, sizedCosts}
+use Rattle.demand.specs.declared.Answer.the-variants.{Judged, Refused}
+use Rattle.demand.specs.declared.Charged.{Charged}
+use Rattle.demand.specs.declared.Found.{Found}
+use Rattle.demand.specs.declared.Figure.the-variants.{Of, Barred}
+use Rattle.demand.specs.Charge.{coreOf}
+use Rattle.demand.specs.Verdict.{verdictOf}
+use Rattle.demand.specs.Answer.{firstBad, badRecord, checkRun, answerOf, figured}
+use Rattle.demand.proofs.ChargeLaws.{all-countable, core-ranged}
 use Rattle.demand.proofs.SizeLaws.{first-bad-good, first-bad-here, first-bad-none, sized-costs-true}
 
 abbrev pub nobody : Piece
@@ -95,3 +102,23 @@ check-taken c n ps e = few (leb n runMost) refl e
     few : (b : Bool) → leb n runMost ≡ b → cond b (cond (sizedCosts c) (badRecord (firstBad 1 (take n ps))) (Bad BadCosts)) (Bad TooMany) ≡ Fine → Taken c n ps
     few true h f = all (sizedCosts c) refl (leb-true n runMost h) f
     few false h f = let z : _≡_ {A = ℕ} 0 1 = cc in absurd (omega arith)
+
+-- ---- the answers
+
+-- a run that is taken, laid out: its pieces are charged and can be counted with
+pub laid-ranged : (c : Costs) (n : ℕ) (ps : List Piece) → Taken c n ps → (qs : List Charged) → qs ≡ coreOf c (take n ps) → Each Ranged qs
+laid-ranged c n ps ok qs laid = rw laid (core-ranged c (ok .costs) (take n ps) (taken-countable c n ps ok))
+
+pub figure-fine : (k : Check) (f : Found) → k ≡ Fine → Of f ≡ figured k f
+figure-fine k f e = rw e
+
+pub figure-bad : (k : Check) (f : Found) (r : Refusal) → k ≡ Bad r → Barred r ≡ figured k f
+figure-bad k f r e = rw e
+
+pub answer-fine : (c : Costs) (n : ℕ) (ps : List Piece) → checkRun c n ps ≡ Fine → answerOf c n ps ≡ Judged (verdictOf c (take n ps))
+unfolding answerOf
+answer-fine c n ps e = rw e
+
+pub answer-bad : (c : Costs) (n : ℕ) (ps : List Piece) (r : Refusal) → checkRun c n ps ≡ Bad r → answerOf c n ps ≡ Refused r
+unfolding answerOf
+answer-bad c n ps r e = rw e

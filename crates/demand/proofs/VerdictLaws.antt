@@ -13,10 +13,12 @@ use mathlib.Core.Bool.{Bool, true, false}
 use mathlib.Core.List.{List, [], _∷_}
 use mathlib.Core.Logic.{_⊎_, ⊎-elim}
 use Prim.Native.Nat.{ℕ, zero, suc, _+_, _-_, _≤_, _<_}
+use native.Mathlib.Nat.{not-suc-le-zero}
 use native.Mathlib.Decide.{decLt}
 use native.Mathlib.Omega.{arith}
 use borrow.Author.Tests.{ltb-true, ltb-false}
 use lib.Dec.{ltb}
+use lib.ListN.{length}
 use Rattle.demand.specs.declared.Charged.{Charged}
 use Rattle.demand.specs.declared.Found.{Found}
 use Rattle.demand.specs.declared.Found.the-variants.{At, Nothing}
@@ -90,6 +92,16 @@ pub verdict-means : (b : ℕ) (qs : List Charged) → Each Recurs qs → Means b
 unfolding verdict
 verdict-means b [] recurs = _⊎_.inl refl
 verdict-means b (q ∷ qs) recurs = span-means b (q ∷ qs) (leastLive (q ∷ qs)) (least-live-least q qs) (busyLength (q ∷ qs)) (busy-length-finds (q ∷ qs) recurs)
+
+-- where there is a piece the span decides
+pub verdict-span : (b : ℕ) (qs : List Charged) → 1 ≤ length qs → verdict b qs ≡ overSpan b qs (leastLive qs) (busyLength qs)
+unfolding verdict
+verdict-span b [] some = absurd (not-suc-le-zero some)
+verdict-span b (q ∷ qs) some = refl
+
+pub verdict-empty : (b : ℕ) → verdict b [] ≡ Passes
+unfolding verdict
+verdict-empty b = refl
 
 -- ---- the meaning has one answer
 

@@ -1,0 +1,71 @@
+-- `busy_length` meets its contract: the refusal that `check_run` gives, or the climb over the charged pieces.
+use Rattle.demand.specs.declared.Found.{Found}
+use Rattle.demand.specs.declared.Figure.the-variants.{Of}
+use Rattle.demand.specs.Answer.{checkRun}
+use Rattle.demand.specs.Charge.{coreOf}
+use Rattle.demand.proofs.RunLaws.{laid-ranged, figure-fine, figure-bad}
+use mathlib.Core.Path.{_≡_, sym, ap, _∙_}
+use mathlib.Core.List.{List}
+use lib.ListN.{take}
+use Rattle.demand.specs.declared.Charged.{Charged}
+use Rattle.demand.specs.Answer.{busyFigure}
+use Rattle.demand.specs.Lanes.{rows}
+use Rattle.demand.specs.Sizes.{Ranged, Each}
+use Rattle.demand.specs.Busy.{busyLength}
+use Rattle.demand.proofs.BusyLaws.{busy-length-asked}
+use Rattle.demand.proofs.ChargeLaws.{core-ranged}
+use Rattle.demand.proofs.RunLaws.{check-taken, taken-countable}
+use borrow.Author.Needs.{needs}
+use Rattle.demand.proofs.busy_length.Statement.{statement}
+use Rattle.demand.proofs.busy_length.Tie as tie
+use Rattle.demand.proofs.busy_length.Reads as reads
+use Rattle.demand.proofs.busy_length.Lts as lts
+use Rattle.demand.proofs.lanes.lay_out.Reads as lay-out-reads
+use Rattle.demand.proofs.lengths.climb.Reads as climb-reads
+use Rattle.demand.proofs.sizes.check_run.Reads as check-run-reads
+
+check-run-requires : tie.Need-check-run-requires
+check-run-requires c κs = search needs
+
+enum-known-why : tie.Need-enum-known-why
+enum-known-why c = search needs
+
+enum-told : tie.Need-enum-told
+enum-told c = search needs
+
+lay-out-requires : tie.Need-lay-out-requires
+lay-out-requires c κs =
+    let s = c .before .before .before .args in
+    let ok = check-taken (s .costs) (s .run .count) (s .run .pieces) (sym (c .before .before .check-run .ensures) ∙ c .enum-told .given .1) in
+    (ok .costs, (ok .few, taken-countable (s .costs) (s .run .count) (s .run .pieces) ok))
+
+climb-requires : tie.Need-climb-requires
+climb-requires c κs =
+    let s = c .before .before .before .before .before .args in
+    let ok = check-taken (s .costs) (s .run .count) (s .run .pieces) (sym (c .before .before .before .before .check-run .ensures) ∙ c .before .before .enum-told .given .1) in
+    ((ok .few, laid-ranged (s .costs) (s .run .count) (s .run .pieces) ok (rows (c .before .lay-out .result) (s .run .count)) (c .before .lay-out .ensures)), search needs)
+
+returns : tie.Need-returns
+unfolding busyFigure
+returns c =
+    let s = c .before .before .before .before .args in
+    figure-bad (checkRun (s .costs) (s .run .count) (s .run .pieces)) (busyLength (coreOf (s .costs) (take (s .run .count) (s .run .pieces)))) (c .before .why .given .0 .0) (sym (c .before .before .before .check-run .ensures) ∙ c .before .why .given .1)
+
+returns-2 : tie.Need-returns-2
+unfolding busyFigure
+returns-2 c =
+    let s = c .before .before .before .before .before .before .args in
+    ap (λ (f : Found). Of f) (c .climb .ensures ∙ (sym (busy-length-asked (rows (c .before .before .lay-out .result) (s .run .count))) ∙ ap (λ (qs : List Charged). busyLength qs) (c .before .before .lay-out .ensures)))
+    ∙ figure-fine (checkRun (s .costs) (s .run .count) (s .run .pieces)) (busyLength (coreOf (s .costs) (take (s .run .count) (s .run .pieces)))) (sym (c .before .before .before .before .before .check-run .ensures) ∙ c .before .before .before .enum-told .given .1)
+
+pub busy-length-spec : {M : Type 1} → statement M
+busy-length-spec =
+    tie.close
+    (tie.spec
+    check-run-requires
+    enum-known-why
+    enum-told
+    lay-out-requires
+    climb-requires
+    returns
+    returns-2)
