@@ -112,7 +112,7 @@ unfolding lane
 put-lane a i q room =
     let tail = put-tail a (7 * i) q room in
     let e : lane (put a (7 * i) q) i ≡ record { charge = q .charge; window = q .window; period = q .period; jitter = q .jitter; release = q .release; ipi = q .ipi; ipij = q .ipij } =
-        cc (put-head a (7 * i) q room, tail 0 (omega arith), tail 1 (omega arith), tail 2 (omega arith), tail 3 (omega arith), tail 4 (omega arith), tail 5 (omega arith)) in
+    cc (put-head a (7 * i) q room, tail 0 (omega arith), tail 1 (omega arith), tail 2 (omega arith), tail 3 (omega arith), tail 4 (omega arith), tail 5 (omega arith)) in
     e
 
 put-before : (a : List ℕ) (at : ℕ) (q : Charged) (k : ℕ) → k < at → getD (put a at q) k 0 ≡ getD a k 0

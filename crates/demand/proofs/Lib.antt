@@ -8,3 +8,5 @@ pub mod SizeLaws
 pub mod RunLaws
 pub mod BusyLaws
 pub mod VerdictLaws
+pub mod Judgement
+pub mod Cases

@@ -1,4 +1,4 @@
--- Laws of the verdict.
+-- Laws of the verdict, over charged pieces. `Judgement.antt` says them of the pieces of a core.
 -- Assumes nothing.
 --
 --   calm-more             a step of the descent passes over calm lengths only
@@ -6,8 +6,6 @@
 --   verdict-means         the executable definition satisfies the meaning
 --   verdict-unique        two verdicts that satisfy the meaning coincide
 --   passes-forever        "passes" covers every live length without end
---   overloaded-greatest   "overloaded" carries the greatest overloaded length of the judged span
---   undecided-exactly     "undecided" exactly where there is no busy length up to the limit
 use mathlib.Core.Path.{_≡_, refl, sym, ap, subst}
 use mathlib.Core.Bool.{Bool, true, false}
 use mathlib.Core.List.{List, [], _∷_}
@@ -158,6 +156,3 @@ pub passes-forever : (b : ℕ) (qs : List Charged) → Each Recurs qs → Means 
 passes-forever b qs recurs means t live =
     ⊎-elim (λ e. absurd (none-live qs t e live))
     (λ h. calm-forever b qs recurs (h .0) (h .1) (h .2 .busy .here) (h .3) t (least-le (h .2 .start) t live)) means
-
-pub overloaded-greatest : (b : ℕ) (qs : List Charged) → Each Recurs qs → (t : ℕ) → verdict b qs ≡ Overloaded t → (t₀ : ℕ) × (l : ℕ) × Judged qs t₀ l × Worst b qs t₀ l t
-overloaded-greatest b qs recurs t e = subst (λ (v : Verdict). Means b qs v) e (verdict-means b qs recurs)

@@ -6,3 +6,4 @@ pub mod Busy
 pub mod Verdict
 pub mod Answer
 pub mod Lanes
+pub mod Cases

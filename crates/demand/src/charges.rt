@@ -1,6 +1,8 @@
 // A piece becomes a charged piece, once; after this nothing goes by kinds.
-use crate::{Charged, Costs, Kind, Piece};
-
+use crate::Charged;
+use crate::Costs;
+use crate::Kind;
+use crate::Piece;
 ghost use mathlib.Core.Path.{_≡_};
 ghost use Prim.Native.Nat.{_≤_};
 ghost use Rattle.demand.specs.Charge.{byKind, charge, charged, stall};
@@ -52,5 +54,9 @@ pub fn stall_of(costs: Costs) -> u64
     ensures { λ r. ⌜ (r ≡ stall costs) × (r ≤ 200000) ⌝ }
 {
     let switch = costs.schedo + costs.tseto;
-    if costs.ipb < switch { switch } else { costs.ipb }
+    if costs.ipb < switch {
+        switch
+    } else {
+        costs.ipb
+    }
 }

@@ -1,7 +1,7 @@
 // Jobs due, interrupts, the three sums and the demand g(t), over charged pieces. Nothing wraps: lengths are at most 101,000,000.
+use crate::Charged;
+use crate::Sum;
 use crate::lanes::lane_at;
-use crate::{Charged, Sum};
-
 ghost use mathlib.Core.Path.{_≡_};
 ghost use Prim.Native.Nat.{_+_, _*_, _-_, _<_, _≤_, min, max};
 ghost use Rattle.demand.specs.Busy.{busyLoad};

@@ -1,7 +1,8 @@
 // A core under judgement, laid out once in one array of numbers, seven to a piece, and lent from then on.
+use crate::Charged;
+use crate::Costs;
+use crate::Run;
 use crate::charges::charged_of;
-use crate::{Charged, Costs, Run};
-
 ghost use mathlib.Core.Path.{_≡_};
 ghost use mathlib.Core.List.{[], _∷_, _++_};
 ghost use Prim.Native.Nat.{_+_, _<_, _≤_};

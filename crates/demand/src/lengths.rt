@@ -1,8 +1,9 @@
 // The least length that holds a sum: the busy length and the tight window alike.
-use crate::demands::{less, sum_at};
+use crate::Found;
+use crate::Sum;
+use crate::demands::less;
+use crate::demands::sum_at;
 use crate::lanes::lane_at;
-use crate::{Found, Sum};
-
 ghost use mathlib.Core.Path.{_≡_};
 ghost use Prim.Native.Nat.{_+_, _≤_};
 ghost use Rattle.demand.specs.Answer.{tightOfLast};
@@ -37,7 +38,13 @@ pub fn tight_of(core: &[u64; 553], n: usize, b: u64) -> Found
 {
     let q = lane_at(core, n - 1);
     let jitter = q.jitter;
-    match climb(core, n, Sum::Interrupts, b + q.charge, less(q.window, jitter)) {
+    match climb(
+        core,
+        n,
+        Sum::Interrupts,
+        b + q.charge,
+        less(q.window, jitter),
+    ) {
         Found::Nothing => Found::Nothing,
         Found::At(t) => Found::At(jitter + t),
     }

@@ -9,12 +9,13 @@ mod sizes;
 mod spans;
 
 use charges::stall_of;
-use demands::{demand_at, largest_window};
+use demands::demand_at;
+use demands::largest_window;
 use lanes::lay_out;
-use lengths::{climb, tight_of};
+use lengths::climb;
+use lengths::tight_of;
 use sizes::check_run;
 use spans::judge_core;
-
 ghost use mathlib.Core.Path.{_≡_};
 ghost use Rattle.demand.specs.Answer.{answerOf, busyFigure, demandFigure, tightFigure};
 

@@ -1,6 +1,9 @@
 // Whether costs and records are within the sizes, and the refusals in their order.
-use crate::{Check, Costs, Piece, Refusal, Run};
-
+use crate::Check;
+use crate::Costs;
+use crate::Piece;
+use crate::Refusal;
+use crate::Run;
 ghost use mathlib.Core.Path.{_≡_};
 ghost use Prim.Native.Nat.{_≤_};
 ghost use lib.ListN.{take};

@@ -1,8 +1,12 @@
 // The verdict over the judged span: from its top down by QPA (001), with care at the largest window.
-use crate::demands::{demand_at, greater, largest_window, least_live};
+use crate::Found;
+use crate::Sum;
+use crate::Verdict;
+use crate::demands::demand_at;
+use crate::demands::greater;
+use crate::demands::largest_window;
+use crate::demands::least_live;
 use crate::lengths::climb;
-use crate::{Found, Sum, Verdict};
-
 ghost use mathlib.Core.Path.{_≡_};
 ghost use Prim.Native.Nat.{_≤_};
 ghost use Rattle.demand.specs.Demand.{demand};

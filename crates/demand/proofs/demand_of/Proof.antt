@@ -77,7 +77,7 @@ returns-3 c =
     let s = c .before .before .before .before .before .before .before .before .before .before .args in
     let found = cond (leb (s .t) lengthMost) (At (demand (stall (s .costs)) (coreOf (s .costs) (take (s .run .count) (s .run .pieces))) (s .t))) Nothing in
     let g : c .demand-at .result ≡ demand (stall (s .costs)) (coreOf (s .costs) (take (s .run .count) (s .run .pieces))) (s .t) =
-        c .demand-at .ensures ∙ (ap (λ (b : ℕ). demand b (rows (c .before .before .before .before .before .lay-out .result) (s .run .count)) (s .t)) (c .before .stall-of .ensures .0) ∙ ap (λ (qs : List Charged). demand (stall (s .costs)) qs (s .t)) (c .before .before .before .before .before .lay-out .ensures)) in
+    c .demand-at .ensures ∙ (ap (λ (b : ℕ). demand b (rows (c .before .before .before .before .before .lay-out .result) (s .run .count)) (s .t)) (c .before .stall-of .ensures .0) ∙ ap (λ (qs : List Charged). demand (stall (s .costs)) qs (s .t)) (c .before .before .before .before .before .lay-out .ensures)) in
     ap (λ (f : Found). Of f) (simp (le-leb (s .t) lengthMost (c .before .before .before .before .before .before .if1 .left), g)) ∙ figure-fine (checkRun (s .costs) (s .run .count) (s .run .pieces)) found (sym (c .before .before .before .before .before .before .before .before .before .check-run .ensures) ∙ c .before .before .before .before .before .before .before .enum-told .given .1)
 
 pub demand-of-spec : {M : Type 1} → statement M

@@ -1,0 +1,91 @@
+// The run examples of document 01, one line a case, through the proved code; `stdout` beside `src` is what must come out.
+mod print;
+mod runs;
+
+use demand::Kind;
+use print::show_busy;
+use print::show_demand;
+use print::show_tight;
+use print::show_verdict;
+use runs::costs;
+use runs::empty;
+use runs::free;
+use runs::piece;
+use runs::whole;
+use runs::with;
+
+// K1 to K7, without costs but for the last.
+fn verdicts() {
+    show_verdict(b"K1", free(), empty());
+    show_verdict(b"K2", free(), with(empty(), whole(1, 1, 1)));
+    let twice_five = with(with(empty(), whole(5, 5, 10)), whole(5, 5, 10));
+    show_verdict(b"K3", free(), twice_five);
+    let twice_six = with(with(empty(), whole(6, 10, 10)), whole(6, 10, 10));
+    show_verdict(b"K4", free(), twice_six);
+    let two = with(with(empty(), whole(2, 10, 10)), whole(2, 10, 10));
+    let four = with(with(two, whole(2, 10, 10)), whole(2, 10, 10));
+    show_verdict(b"K5", free(), with(four, whole(2, 2, 10)));
+    show_verdict(b"K6", free(), with(four, whole(3, 3, 10)));
+    let windows = with(with(empty(), whole(8, 10, 50)), whole(1, 12, 50));
+    show_verdict(b"K7", costs(0, 0, 0, 4, 0, 0), windows);
+}
+
+// K8 to K11, with the figures that document 01 gives.
+fn figures() {
+    let one = with(empty(), whole(5, 100, 100));
+    show_busy(b"K8", costs(2, 3, 1, 4, 0, 0), one);
+    show_demand(b"K8", costs(2, 3, 1, 4, 0, 0), one, 100);
+    show_verdict(b"K8", costs(2, 3, 1, 4, 0, 0), one);
+    show_tight(
+        b"K9",
+        costs(2, 3, 1, 4, 2, 1),
+        with(empty(), piece(Kind::First, 5, 100, 100, 0)),
+    );
+    show_tight(
+        b"K10",
+        costs(2, 3, 1, 4, 2, 1),
+        with(empty(), piece(Kind::First, 5, 100, 100, 5)),
+    );
+    show_verdict(
+        b"K11",
+        free(),
+        with(empty(), piece(Kind::Whole, 1, 5, 10, 5)),
+    );
+}
+
+// The three cores of 001's table IV.
+fn table_four() {
+    let one = with(
+        with(empty(), piece(Kind::First, 5, 5, 16, 0)),
+        whole(14, 40, 40),
+    );
+    show_verdict(b"table IV, core 1", free(), with(one, whole(16, 48, 48)));
+    let two = with(
+        with(empty(), piece(Kind::First, 1, 1, 12, 0)),
+        whole(9, 20, 20),
+    );
+    let more = with(with(two, whole(6, 15, 15)), piece(Kind::Last, 1, 11, 16, 0));
+    show_verdict(b"table IV, core 2", free(), more);
+    let three = with(
+        with(empty(), whole(5, 10, 10)),
+        piece(Kind::Last, 5, 11, 12, 0),
+    );
+    show_verdict(b"table IV, core 3", free(), three);
+}
+
+// What is refused, in its order: 6, 2, 3.
+fn refusals() {
+    let bad = with(with(empty(), whole(1, 1, 1)), whole(2, 1, 1));
+    show_verdict(b"second record", free(), bad);
+    show_verdict(b"bad constant", costs(0, 0, 0, 100001, 0, 0), bad);
+    let mut many = bad;
+    many.count = 80;
+    show_verdict(b"80 records", costs(0, 0, 0, 100001, 0, 0), many);
+}
+
+fn main() {
+    verdicts();
+    figures();
+    table_four();
+    refusals();
+}

@@ -1,0 +1,100 @@
+// One line a case: its name, a tab, and the answer.
+use demand::Answer;
+use demand::Costs;
+use demand::Figure;
+use demand::Found;
+use demand::Refusal;
+use demand::Run;
+use demand::Verdict;
+use libc::STDOUT_FILENO;
+
+fn name(text: &[u8]) {
+    io::write_all(STDOUT_FILENO, text);
+    io::write_all(STDOUT_FILENO, b"\t");
+}
+
+fn number(n: u64) {
+    io::write_all(STDOUT_FILENO, b"\t");
+    io::print_decimal(STDOUT_FILENO, n);
+    io::write_all(STDOUT_FILENO, b"\n");
+}
+
+fn refusal(why: Refusal) {
+    io::write_all(STDOUT_FILENO, b"refusal");
+    match why {
+        Refusal::TooMany => {
+            io::write_all(STDOUT_FILENO, b"\t6");
+            number(0);
+        }
+        Refusal::BadCosts => {
+            io::write_all(STDOUT_FILENO, b"\t2");
+            number(0);
+        }
+        Refusal::BadRecord(place) => {
+            io::write_all(STDOUT_FILENO, b"\t3");
+            number(place);
+        }
+    }
+}
+
+fn verdict(v: Verdict) {
+    match v {
+        Verdict::Passes => {
+            io::write_all(STDOUT_FILENO, b"passes\n");
+        }
+        Verdict::Overloaded(t) => {
+            io::write_all(STDOUT_FILENO, b"overloaded");
+            number(t);
+        }
+        Verdict::Undecided => {
+            io::write_all(STDOUT_FILENO, b"undecided\n");
+        }
+    }
+}
+
+fn figure(f: Figure) {
+    match f {
+        Figure::Barred(why) => {
+            refusal(why);
+        }
+        Figure::Of(found) => match found {
+            Found::At(n) => {
+                number(n);
+            }
+            Found::Nothing => {
+                io::write_all(STDOUT_FILENO, b"none\n");
+            }
+        },
+    }
+}
+
+pub fn show_verdict(case: &[u8], costs: Costs, run: Run) {
+    name(case);
+    match demand::judge(costs, run) {
+        Answer::Judged(v) => {
+            verdict(v);
+        }
+        Answer::Refused(why) => {
+            refusal(why);
+        }
+    }
+}
+
+pub fn show_busy(case: &[u8], costs: Costs, run: Run) {
+    name(case);
+    io::write_all(STDOUT_FILENO, b"busy length");
+    figure(demand::busy_length(costs, run));
+}
+
+pub fn show_demand(case: &[u8], costs: Costs, run: Run, t: u64) {
+    name(case);
+    io::write_all(STDOUT_FILENO, b"demand at ");
+    io::print_decimal(STDOUT_FILENO, t);
+    figure(demand::demand_of(costs, run, t));
+}
+
+pub fn show_tight(case: &[u8], costs: Costs, run: Run) {
+    name(case);
+    io::write_all(STDOUT_FILENO, b"tight window");
+    figure(demand::tight_window(costs, run));
+}
