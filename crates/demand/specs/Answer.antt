@@ -6,7 +6,7 @@
 --   answerOf c n ps       the refusal, else the verdict
 --   told a                document 01's number for each case, with what it carries
 use mathlib.Core.Bool.{cond}
-use mathlib.Core.List.{List, [], _∷_}
+use mathlib.Core.List.{List, [], _∷_, _++_}
 use Prim.Native.Nat.{ℕ, zero, suc, _+_}
 use lib.Dec.{leb}
 use lib.ListN.{take}
@@ -25,11 +25,15 @@ use Rattle.demand.specs.declared.Answer.{Answer}
 use Rattle.demand.specs.declared.Answer.the-variants.{Judged, Refused}
 use Rattle.demand.specs.declared.Figure.{Figure}
 use Rattle.demand.specs.declared.Figure.the-variants.{Of, Barred}
+use Rattle.demand.specs.declared.Split.{Split}
+use Rattle.demand.specs.declared.Splitting.{Splitting}
+use Rattle.demand.specs.declared.Splitting.the-variants.{Best, Denied}
 use Rattle.demand.specs.Sizes.{runMost, lengthMost, sizedCosts, sized}
 use Rattle.demand.specs.Charge.{coreOf, stall}
 use Rattle.demand.specs.Demand.{demand}
 use Rattle.demand.specs.Busy.{busyLength, tightWindow}
 use Rattle.demand.specs.Verdict.{verdictOf}
+use Rattle.demand.specs.Split.{greatestSplit}
 
 abbrev pub firstBad : ℕ → List Piece → ℕ
 firstBad k [] = 0
@@ -71,6 +75,15 @@ tightOfLast b all (q ∷ p ∷ qs) = tightOfLast b all (p ∷ qs)
 
 unfoldable pub tightFigure : Costs → ℕ → List Piece → Figure
 tightFigure c n ps = figured (checkRun c n ps) (tightOfLast (stall c) (coreOf c (take n ps)) (coreOf c (take n ps)))
+
+-- ---- the split of a task beside a run: the task is checked as the record behind the run's, so the run has at most 78
+
+abbrev pub splitted : Check → Split → Splitting
+splitted Fine s = Best s
+splitted (Bad r) s = Denied r
+
+unfoldable pub splitOf : Costs → ℕ → List Piece → Piece → ℕ → Splitting
+splitOf c n ps p g = splitted (checkRun c (n + 1) (take n ps ++ (p ∷ []))) (greatestSplit c g (take n ps) p)
 
 -- ---- the numbers
 

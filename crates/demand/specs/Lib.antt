@@ -4,6 +4,7 @@ pub mod Charge
 pub mod Demand
 pub mod Busy
 pub mod Verdict
+pub mod Split
 pub mod Answer
 pub mod Lanes
 pub mod Cases

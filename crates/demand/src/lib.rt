@@ -74,6 +74,12 @@ pub enum Found {
     Nothing,
 }
 
+/// A task's greatest allowed split: the first piece's budget x and its tight window, or none.
+pub enum Split {
+    Cut(u64, u64),
+    Nowhere,
+}
+
 /// Which figure of the pieces is summed.
 pub enum Sum {
     Load,
@@ -104,6 +110,12 @@ pub enum Answer {
 pub enum Figure {
     Of(Found),
     Barred(Refusal),
+}
+
+/// What is said of splitting a task on the core of a run.
+pub enum Splitting {
+    Best(Split),
+    Denied(Refusal),
 }
 
 /// A run of piece records: the first `count` of `pieces`.
