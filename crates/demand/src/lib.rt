@@ -15,9 +15,12 @@ use lanes::lay_out;
 use lengths::climb;
 use lengths::tight_of;
 use sizes::check_run;
+use sizes::sized_costs;
+use sizes::sized_piece;
 use spans::judge_core;
 ghost use mathlib.Core.Path.{_≡_};
 ghost use Rattle.demand.specs.Answer.{answerOf, busyFigure, demandFigure, tightFigure};
+ghost use Rattle.demand.specs.Sizes.{sized, sizedCosts};
 
 /// How a piece stands in its task: the whole of it, or the first or the last part of a split.
 pub enum Kind {
@@ -122,6 +125,20 @@ pub enum Splitting {
 pub struct Run {
     pub count: usize,
     pub pieces: [Piece; 79],
+}
+
+/// Whether a record is within the sizes.
+pub fn within_sizes(piece: Piece) -> bool
+    ensures exact { λ r. ⌜ r ≡ sized piece ⌝ }
+{
+    sized_piece(piece)
+}
+
+/// Whether the nine constants are within their sizes.
+pub fn costs_within(costs: Costs) -> bool
+    ensures exact { λ r. ⌜ r ≡ sizedCosts costs ⌝ }
+{
+    sized_costs(costs)
 }
 
 /// The verdict on the run: 6, then 2, then 3 with the record's place, else the verdict.

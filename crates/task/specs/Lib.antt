@@ -1,0 +1,3 @@
+-- What the contracts of `task` cite.
+pub mod Names
+pub mod Tasks
