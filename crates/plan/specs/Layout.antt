@@ -1,0 +1,63 @@
+-- The plan's rows and words, from what the walk placed: document 01, "The plan keeps each core's row ..". One piece at a time, from nothing on, so
+-- that what is not used stays zero and two equal plans are equal structs.
+--
+--   stored k q           the piece q of the task at place k, as the plan keeps it
+--   pieceAt ps i         the piece with the number i, as the verdict sees it
+--   putOf s p k q        one piece more, on core p
+--   none                 nothing placed
+--   layoutOn s l         each piece of l in turn
+use mathlib.Core.Bool.{cond}
+use mathlib.Core.List.{List, [], _∷_}
+use Prim.Native.Nat.{ℕ, _+_, _*_, _^_, _<_}
+use lib.Dec.{eqb}
+use lib.ListN.{set, getD, replicate}
+use lib.Bits.{bitOr}
+use Rattle.demand.specs.declared.Kind.{Kind}
+use Rattle.demand.specs.declared.Kind.the-variants.{Whole, First, Last}
+use Rattle.demand.specs.declared.Piece.{Piece}
+use Rattle.plan.specs.declared.Stored.{Stored}
+use Rattle.plan.specs.declared.Layout.{Layout}
+use Rattle.plan.specs.Walk.{Placed}
+
+abbrev pub kindNumber : Kind → ℕ
+kindNumber Whole = 0
+kindNumber First = 1
+kindNumber Last = 2
+
+abbrev pub kindOf : ℕ → Kind
+kindOf n = cond (eqb n 0) Whole (cond (eqb n 1) First Last)
+
+abbrev pub stored : ℕ → Piece → Stored
+stored k q = record { task = k; kind = kindNumber (q .kind); budget = q .budget; window = q .window; period = q .period; jitter = q .jitter; preempt = q .preempt; migrate = q .migrate }
+
+abbrev pub pieceOf : Stored → Piece
+pieceOf s = record { kind = kindOf (s .kind); budget = s .budget; window = s .window; period = s .period; jitter = s .jitter; preempt = s .preempt; migrate = s .migrate }
+
+abbrev pub blank : Stored
+blank = record { task = 0; kind = 0; budget = 0; window = 0; period = 0; jitter = 0; preempt = 0; migrate = 0 }
+
+abbrev pub pieceAt : List Stored → ℕ → Piece
+pieceAt ps i = pieceOf (getD ps i blank)
+
+unfoldable pub putOf : Layout → ℕ → ℕ → Piece → Layout
+putOf s p k q = record {
+  count = s .count + 1;
+  pieces = set (s .pieces) (s .count) (stored k q);
+  rows = set (s .rows) (p * 64 + getD (s .lens) p 0) (s .count);
+  lens = set (s .lens) p (getD (s .lens) p 0 + 1);
+  words = set (s .words) p (bitOr (getD (s .words) p 0) (2 ^ k));
+}
+
+-- where there is room for one more
+pub record PutFits (s : Layout) (p k : ℕ) : Type 0 where
+  pub core : p < 16
+  pub place : k < 64
+  pub room : s .count < 79
+  pub seat : getD (s .lens) p 0 < 64
+
+unfoldable pub none : Layout
+none = record { count = 0; pieces = replicate 79 blank; rows = replicate 1024 0; lens = replicate 16 0; words = replicate 16 0 }
+
+abbrev pub layoutOn : Layout → List (Placed ℕ) → Layout
+layoutOn s [] = s
+layoutOn s (e ∷ l) = layoutOn (putOf s (e .on) (e .item) (e .piece)) l

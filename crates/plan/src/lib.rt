@@ -1,0 +1,68 @@
+// The C=D walk and the plan that it gives: document 01, "The C=D walk" and "Edits on a held plan".
+mod layouts;
+mod orders;
+mod rows;
+mod walks;
+
+use demand::Costs;
+use task::Machine;
+use task::Tasks;
+ghost use mathlib.Core.Path.{_≡_};
+ghost use Prim.Native.Nat.{_≤_};
+ghost use Rattle.plan.specs.Plan.{planOf, noPlan};
+
+/// A piece as the plan keeps it: its task's place, from 0, its kind's number (0 whole, 1 first, 2 last), and its figures.
+pub struct Stored {
+    pub task: usize,
+    pub kind: u64,
+    pub budget: u64,
+    pub window: u64,
+    pub period: u64,
+    pub jitter: u64,
+    pub preempt: u64,
+    pub migrate: u64,
+}
+
+/// What the walk placed: the pieces in placement order; each core's row of piece numbers, 64 to a core, and how long it is; each core's word,
+/// with a bit by place in the task list for every task that has a piece there. Zeros fill what is not used.
+pub struct Layout {
+    pub count: usize,
+    pub pieces: [Stored; 79],
+    pub rows: [usize; 1024],
+    pub lens: [usize; 16],
+    pub words: [u64; 16],
+}
+
+/// A plan: machine, costs, task list, and what the walk over them placed.
+pub struct Plan {
+    pub machine: Machine,
+    pub costs: Costs,
+    pub tasks: Tasks,
+    pub layout: Layout,
+}
+
+/// An answer: document 01's refusal number with what it carries, or 0 and 0, and a plan beside it.
+pub struct Reply {
+    pub number: u64,
+    pub carries: usize,
+    pub plan: Plan,
+}
+
+/// A core's row on the walk: the numbers of its pieces, in placement order.
+pub struct Row {
+    pub len: usize,
+    pub numbers: [usize; 64],
+}
+
+/// A walk under way: the core, its row, and what was placed; or the place, from 1, of the task that it stuck at.
+pub struct Going {
+    pub stuck: usize,
+    pub core: usize,
+    pub row: Row,
+    pub layout: Layout,
+}
+
+/// Places in packing order.
+pub struct Order {
+    pub places: [usize; 64],
+}
