@@ -6,9 +6,10 @@
 --   each-at         what holds of each record of a run
 --   check-many, check-costs, check-record, check-all      the refusals in their order
 --   answer-fine, answer-bad, figure-fine, figure-bad      what is then answered
+--   taken-check, taken-answer      a run within the sizes is not refused
 --   check-taken     what is known of a run that is not refused
 --   bad-good, bad-here, bad-end      the search for the first bad record, one record on
-use mathlib.Core.Path.{_≡_, refl, sym, _∙_}
+use mathlib.Core.Path.{_≡_, refl, sym, ap, _∙_}
 use mathlib.Core.Bool.{Bool, true, false, cond}
 use mathlib.Core.List.{List, [], _∷_, map}
 use Prim.Native.Nat.{ℕ, zero, suc, _+_, _≤_, _<_}
@@ -34,7 +35,7 @@ use Rattle.demand.specs.Charge.{coreOf}
 use Rattle.demand.specs.Verdict.{verdictOf}
 use Rattle.demand.specs.Answer.{firstBad, badRecord, checkRun, answerOf, figured}
 use Rattle.demand.proofs.ChargeLaws.{all-countable, core-ranged}
-use Rattle.demand.proofs.SizeLaws.{first-bad-good, first-bad-here, first-bad-none, sized-costs-true}
+use Rattle.demand.proofs.SizeLaws.{first-bad-good, first-bad-here, first-bad-none, sized-costs-true, sized-is, sized-costs-is}
 
 abbrev pub nobody : Piece
 nobody = record { kind = Whole; budget = 0; window = 0; period = 0; jitter = 0; preempt = 0; migrate = 0 }
@@ -122,3 +123,15 @@ answer-fine c n ps e = rw e
 pub answer-bad : (c : Costs) (n : ℕ) (ps : List Piece) (r : Refusal) → checkRun c n ps ≡ Bad r → answerOf c n ps ≡ Refused r
 unfolding answerOf
 answer-bad c n ps r e = rw e
+
+-- ---- a run within the sizes is taken
+
+first-bad-all : (k : ℕ) (ps : List Piece) → Each Sized ps → firstBad k ps ≡ 0
+first-bad-all k [] ok = refl
+first-bad-all k (p ∷ ps) ok = rw (sym (sized-is p true (ok .0))) (first-bad-all (k + 1) ps (ok .1))
+
+pub taken-check : (c : Costs) (n : ℕ) (ps : List Piece) → Taken c n ps → checkRun c n ps ≡ Fine
+taken-check c n ps ok = check-records c n ps (ok .few) (sym (sized-costs-is c true (ok .costs))) ∙ ap badRecord (first-bad-all 1 (take n ps) (ok .each))
+
+pub taken-answer : (c : Costs) (n : ℕ) (ps : List Piece) → Taken c n ps → answerOf c n ps ≡ Judged (verdictOf c (take n ps))
+taken-answer c n ps ok = answer-fine c n ps (taken-check c n ps ok)

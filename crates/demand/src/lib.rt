@@ -11,6 +11,7 @@ mod spans;
 use charges::stall_of;
 use demands::demand_at;
 use demands::largest_window;
+use demands::less;
 use lanes::lay_out;
 use lengths::climb;
 use lengths::tight_of;
@@ -21,6 +22,7 @@ use spans::judge_core;
 ghost use mathlib.Core.Path.{_≡_};
 ghost use Rattle.demand.specs.Answer.{answerOf, busyFigure, demandFigure, tightFigure};
 ghost use Rattle.demand.specs.Sizes.{sized, sizedCosts};
+ghost use Rattle.demand.specs.Split.{firstPiece, lastPiece};
 
 /// How a piece stands in its task: the whole of it, or the first or the last part of a split.
 pub enum Kind {
@@ -139,6 +141,36 @@ pub fn costs_within(costs: Costs) -> bool
     ensures exact { λ r. ⌜ r ≡ sizedCosts costs ⌝ }
 {
     sized_costs(costs)
+}
+
+/// The first piece of a task that is given as its whole piece, with budget x and window w.
+pub fn first_piece(task: Piece, x: u64, w: u64) -> Piece
+    ensures exact { λ r. ⌜ r ≡ firstPiece task x w ⌝ }
+{
+    Piece {
+        kind: Kind::First,
+        budget: x,
+        window: w,
+        period: task.period,
+        jitter: task.jitter,
+        preempt: task.preempt,
+        migrate: task.migrate,
+    }
+}
+
+/// The last piece that this leaves.
+pub fn last_piece(costs: Costs, task: Piece, x: u64, w: u64) -> Piece
+    ensures exact { λ r. ⌜ r ≡ lastPiece costs task x w ⌝ }
+{
+    Piece {
+        kind: Kind::Last,
+        budget: less(task.budget, x),
+        window: less(task.window, w),
+        period: task.period,
+        jitter: costs.precision,
+        preempt: task.preempt,
+        migrate: task.migrate,
+    }
 }
 
 /// The verdict on the run: 6, then 2, then 3 with the record's place, else the verdict.

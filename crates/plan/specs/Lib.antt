@@ -1,5 +1,6 @@
--- What the contracts of `plan` cite, in document 01's order.
+-- What the contracts of `plan` cite, in document 01's order; then how the code carries a walk.
 pub mod Order
 pub mod Walk
 pub mod Layout
 pub mod Plan
+pub mod Going

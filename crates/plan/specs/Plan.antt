@@ -7,14 +7,15 @@ use mathlib.Core.List.{List, [], _∷_, _++_}
 use Prim.Native.Nat.{ℕ, zero, suc, _-_}
 use lib.ListN.{take, length, replicate}
 use Rattle.demand.specs.declared.Costs.{Costs}
+use Rattle.demand.specs.declared.Piece.{Piece}
 use Rattle.task.specs.declared.Task.{Task}
 use Rattle.task.specs.declared.Tasks.{Tasks}
 use Rattle.task.specs.declared.Machine.{Machine}
-use Rattle.task.specs.Tasks.{taskAt, stateFault, tasksMost}
+use Rattle.task.specs.Tasks.{wholePiece, taskAt, stateFault, tasksMost}
 use Rattle.plan.specs.declared.Plan.{Plan}
 use Rattle.plan.specs.declared.Reply.{Reply}
 use Rattle.plan.specs.Order.{pack, denserAt, upto}
-use Rattle.plan.specs.Walk.{Outcome, fine, stuck, walk, start, rulesOf, cdRules}
+use Rattle.plan.specs.Walk.{Outcome, fine, stuck, walk, start, rulesFor}
 use Rattle.plan.specs.Layout.{layoutOn, none}
 
 abbrev pub noTask : Task
@@ -23,8 +24,12 @@ noTask = record { name = record { len = 0; bytes = replicate 24 0 }; times = rec
 unfoldable pub padded : List Task → List Task
 padded ts = ts ++ replicate (tasksMost - length ts) noTask
 
+-- the whole piece of the task at a place
+abbrev pub wholeAt : List Task → ℕ → Piece
+wholeAt ts i = wholePiece (taskAt ts i .times)
+
 unfoldable pub walked : Machine → Costs → List Task → Outcome ℕ
-walked m c ts = walk (rulesOf (taskAt ts) (cdRules c (m .grain))) (start (m .cores)) (pack (denserAt ts) (upto (length ts)))
+walked m c ts = walk (rulesFor c (m .grain) (wholeAt ts)) (start (m .cores)) (pack (denserAt ts) (upto (length ts)))
 
 unfoldable pub noPlan : Plan
 noPlan = record {

@@ -9,7 +9,7 @@
 --   walk R o items       all items in turn
 --   start m              core 1 of m, with nothing on it
 --   splitAs c p s        the two pieces that a split makes of the whole piece p
---   cdRules c g          the rules of C=D at the costs c and the grain g
+--   rulesFor c g whole   the rules of C=D at the costs c and the grain g
 use mathlib.Core.Bool.{Bool, true, false}
 use mathlib.Core.List.{List, [], _∷_, _++_, map}
 use Prim.Native.Nat.{ℕ, zero, suc, _-_}
@@ -20,8 +20,6 @@ use Rattle.demand.specs.declared.Split.{Split}
 use Rattle.demand.specs.declared.Split.the-variants.{Cut, Nowhere}
 use Rattle.demand.specs.Verdict.{verdictOf}
 use Rattle.demand.specs.Split.{firstPiece, lastPiece, passes, greatestSplit}
-use Rattle.task.specs.declared.Task.{Task}
-use Rattle.task.specs.Tasks.{wholePiece}
 
 -- the pieces of a split, first and last, or none
 pub data Halves : Type 0 where
@@ -93,8 +91,7 @@ onCore p (e ∷ l) = keep (eqb (e .on) p) e (onCore p l)
 abbrev pub rowOf : {A : Type 0} → ℕ → List (Placed A) → List Piece
 rowOf p l = map (λ e. e .piece) (onCore p l)
 
--- ---- the same walk over other items, each of which stands for one of R's: places in a list for its tasks
-
+-- what was placed, with each item as another one: places in a list as its tasks
 module _ {A B : Type 0} (f : A → B) where
   abbrev pub placedOf : Placed A → Placed B
   placedOf e = record { on = e .on; item = f (e .item); piece = e .piece }
@@ -103,18 +100,16 @@ module _ {A B : Type 0} (f : A → B) where
   outcomeOf (fine s l) = fine s (map placedOf l)
   outcomeOf (stuck a) = stuck (f a)
 
-  abbrev pub rulesOf : Rules B → Rules A
-  rulesOf R = record { whole = λ a. R .whole (f a); fits = R .fits; cut = λ row a. R .cut row (f a) }
-
 -- ---- C=D
 
 abbrev pub splitAs : Costs → Piece → Split → Halves
 splitAs c p (Cut x w) = halves (firstPiece p x w) (lastPiece c p x w)
 splitAs c p Nowhere = unsplit
 
-unfoldable pub cdRules : Costs → ℕ → Rules Task
-cdRules c g = record {
-  whole = λ t. wholePiece (t .times);
+-- at the costs c and the grain g, for items of which each has its whole piece
+unfoldable pub rulesFor : {A : Type 0} → Costs → ℕ → (A → Piece) → Rules A
+rulesFor c g whole = record {
+  whole = whole;
   fits = λ row. passes (verdictOf c row);
-  cut = λ row t. splitAs c (wholePiece (t .times)) (greatestSplit c g row (wholePiece (t .times)));
+  cut = λ row a. splitAs c (whole a) (greatestSplit c g row (whole a));
 }

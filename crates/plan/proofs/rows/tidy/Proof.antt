@@ -1,0 +1,72 @@
+-- `rows::tidy` meets its contract: from the count to i the list is blank, and past i as it was.
+use Rattle.plan.proofs.Lists.{fill-end}
+use borrow.Author.Needs.{needs}
+use mathlib.Core.Path.{_≡_, refl, sym, ap, _∙_}
+use mathlib.Core.List.{List, _++_, append-nil}
+use Prim.Native.Nat.{ℕ, _≤_, _-_}
+use native.Mathlib.Omega.{arith}
+use lib.ListN.{length, take, drop, replicate, take-append-drop, length-set, drop-of-length-le}
+use lib.Seq.{length-take-le}
+use Rattle.task.specs.declared.Task.{Task}
+use Rattle.plan.specs.Plan.{noTask, padded}
+use Rattle.plan.proofs.Lists.{length-mapped, fill-more, fill-none}
+use Rattle.plan.proofs.rows.tidy.Statement.{statement}
+use Rattle.plan.proofs.rows.tidy.Tie as tie
+use Rattle.plan.proofs.rows.tidy.Reads as reads
+use Rattle.plan.proofs.rows.tidy.Lts as lts
+use Rattle.plan.proofs.rows.no_task.Reads as no-task-reads
+
+abbrev Inv-loop : tie.InvT-loop
+Inv-loop next₀ blank i₀ next i = (next₀ .count ≤ i) × (i ≤ 64) × (next .count ≡ next₀ .count) × (blank ≡ noTask) × (length (next₀ .list) ≡ 64) × (length (next .list) ≡ 64) × (next .list ≡ (take (next₀ .count) (next₀ .list) ++ replicate (i - next₀ .count) noTask) ++ drop i (next₀ .list))
+
+abbrev μ-loop : tie.MeasureT-loop
+μ-loop next₀ blank i₀ next i = 64 - i
+
+no-task-requires : tie.Need-no-task-requires Inv-loop μ-loop
+no-task-requires c κs = search needs
+
+loop-holds : tie.Need-loop-holds Inv-loop μ-loop
+loop-holds c =
+    let s = c .before .args in
+    let long : length (s .tasks .list) ≡ 64 = search (needs, length-mapped) in
+    (search needs, c .before .pre, search needs, c .no-task .ensures, long, long, fill-none (s .tasks .list) (s .tasks .count) noTask)
+
+mul-blank : tie.Need-mul-blank Inv-loop μ-loop
+mul-blank c = search needs
+
+element-set-from-blank : tie.Need-element-set-from-blank Inv-loop μ-loop
+element-set-from-blank c = search needs
+
+add-i : tie.Need-add-i Inv-loop μ-loop
+add-i c = search needs
+
+loop-less : tie.Need-loop-less Inv-loop μ-loop
+loop-less c = search needs
+
+loop-again : tie.Need-loop-again Inv-loop μ-loop
+loop-again c =
+    let s = c .before .before .before .args in
+    let inv = c .before .loop .inv in
+    (omega arith, omega arith, inv .2, inv .3, inv .4, length-set (c .before .loop .next .list) (c .before .loop .i) (c .before .before .no-task .result) ∙ inv .5, cc (inv .6, inv .3, fill-more (s .tasks .list) (s .tasks .count) (c .before .loop .i) noTask noTask (inv .0) (omega (arith, inv .4))))
+
+returns : tie.Need-returns Inv-loop μ-loop
+unfolding padded
+returns c =
+    let s = c .before .before .before .args in
+    let inv = c .before .loop .inv in
+    (inv .2, inv .6 ∙ fill-end (s .tasks .list) (s .tasks .count) (c .before .loop .i) 64 noTask (omega arith) (inv .4) (omega arith))
+
+pub tidy-spec : {M : Type 1} → statement M
+tidy-spec =
+    tie.close
+    (tie.spec
+    Inv-loop
+    μ-loop
+    no-task-requires
+    loop-holds
+    mul-blank
+    element-set-from-blank
+    add-i
+    loop-less
+    loop-again
+    returns)
