@@ -1,3 +1,5 @@
 -- Laws that belong to no one function.
 pub mod Lists
 pub mod Ones
+pub mod GoingLaws
+pub mod JudgeLaws
