@@ -1,3 +1,11 @@
+-- `walks::land` meets its contract: while the task is not placed the core moves on and the layout stays; each way out is one of the four rules.
+use borrow.Author.Needs.{needs}
+use mathlib.Core.Path.{_≡_, refl, sym, ap, _∙_}
+use Prim.Native.Nat.{_-_, _+_, _<_}
+use native.Mathlib.Omega.{arith}
+use Rattle.plan.specs.declared.Going.{Going}
+use Rattle.plan.specs.Going.{nextOf, seatOf}
+use Rattle.plan.proofs.GoingLaws.{Under, not-passes, row-fits, seat-fits, seat-fits-both, one-done, stuck-done, both-done, next-under}
 use Rattle.plan.proofs.walks.land.Statement.{statement}
 use Rattle.plan.proofs.walks.land.Tie as tie
 use Rattle.plan.proofs.walks.land.Reads as reads
@@ -10,73 +18,82 @@ use Rattle.plan.proofs.walks.split_on.Reads as split-on-reads
 use Rattle.plan.proofs.walks.stick.Reads as stick-reads
 
 abbrev Inv-loop : tie.InvT-loop
-Inv-loop machine costs k whole here₀ here = ?
+Inv-loop machine costs k whole here₀ here = Under (machine .cores) costs (machine .grain) k whole here₀ here
 
 abbrev μ-loop : tie.MeasureT-loop
-μ-loop machine costs k whole here₀ here = ?
+μ-loop machine costs k whole here₀ here = machine .cores - here .core
 
--- src/walks.rt:120:5
 loop-holds : tie.Need-loop-holds Inv-loop μ-loop
-loop-holds c = ?
+loop-holds c = record { ok = c .pre .0; kept = refl; rest = refl }
 
--- src/walks.rt:121:31
 judge-with-requires : tie.Need-judge-with-requires Inv-loop μ-loop
-judge-with-requires c κs = ?
+judge-with-requires c κs =
+    let s = c .before .args in
+    (row-fits (s .machine .cores) (s .costs) (s .machine .grain) (s .k) (s .whole) (s .going) (c .loop .here) (c .loop .inv), c .before .pre .1)
 
 enum-told : tie.Need-enum-told Inv-loop μ-loop
-enum-told c = ?
+enum-told c = search needs
 
--- src/walks.rt:122:16
 add-if1 : tie.Need-add-if1 Inv-loop μ-loop
-add-if1 c = ?
+add-if1 c =
+    let u = c .before .before .before .loop .inv in
+    record { fits = omega (arith, u .ok .core, u .ok .cores) }
 
--- src/walks.rt:123:17
 stick-requires : tie.Need-stick-requires Inv-loop μ-loop
-stick-requires c κs = ?
+stick-requires c κs = c .before .before .before .before .before .loop .inv .ok .place
 
--- src/walks.rt:123:17
 returns : tie.Need-returns Inv-loop μ-loop
-returns c = ?
+returns c =
+    let s = c .before .before .before .before .before .before .before .args in
+    rw (c .stick .ensures) (stuck-done (s .machine .cores) (s .costs) (s .machine .grain) (s .k) (s .whole) (s .going) (c .before .before .before .before .before .before .loop .here) (c .before .before .before .before .before .before .loop .inv) (c .before .before .before .before .before .judge-with .result) (c .before .before .before .before .before .judge-with .ensures) (not-passes (c .before .before .before .before .before .judge-with .result) (c .before .before .before .before .match .keys2)) (c .before .if1 .taken))
 
--- src/walks.rt:125:36
 split-on-requires : tie.Need-split-on-requires Inv-loop μ-loop
-split-on-requires c κs = ?
+split-on-requires c κs =
+    let s = c .before .before .before .before .before .before .args in
+    (row-fits (s .machine .cores) (s .costs) (s .machine .grain) (s .k) (s .whole) (s .going) (c .before .before .before .before .before .loop .here) (c .before .before .before .before .before .loop .inv), c .before .before .before .before .before .before .pre .1)
 
--- src/walks.rt:125:28
 enum-known-x : tie.Need-enum-known-x Inv-loop μ-loop
-enum-known-x c = ?
+enum-known-x c = search needs
 
--- src/walks.rt:126:17
 enum-told-2 : tie.Need-enum-told-2 Inv-loop μ-loop
-enum-told-2 c = ?
+enum-told-2 c = search needs
 
--- src/walks.rt:126:17
 next-core-requires : tie.Need-next-core-requires Inv-loop μ-loop
-next-core-requires c κs = ?
+next-core-requires c κs =
+    let u = c .before .before .before .before .before .before .before .before .loop .inv in
+    omega (arith, u .ok .core, u .ok .cores)
 
--- src/walks.rt:120:5
 loop-less : tie.Need-loop-less Inv-loop μ-loop
-loop-less c = ?
+unfolding nextOf
+loop-less c =
+    let u = c .before .before .before .before .before .before .before .before .before .loop .inv in
+    let e : c .next-core .result .core ≡ c .before .before .before .before .before .before .before .before .before .loop .here .core + 1 = ap (λ (z : Going). z .core) (c .next-core .ensures) in
+    omega (arith, u .ok .core)
 
--- src/walks.rt:120:5
 loop-again : tie.Need-loop-again Inv-loop μ-loop
-loop-again c = ?
+loop-again c =
+    let s = c .before .before .before .before .before .before .before .before .before .before .args in
+    rw (c .next-core .ensures) (next-under (s .machine .cores) (s .costs) (s .machine .grain) (s .k) (s .whole) (s .going) (c .before .before .before .before .before .before .before .before .before .loop .here) (c .before .before .before .before .before .before .before .before .before .loop .inv) (c .before .before .before .before .before .before .before .before .judge-with .result) (c .before .before .before .before .before .before .before .before .judge-with .ensures) (not-passes (c .before .before .before .before .before .before .before .before .judge-with .result) (c .before .before .before .before .before .before .before .match .keys2)) (c .before .before .before .before .if1 .left) (sym (c .before .before .before .split-on .ensures) ∙ c .before .enum-told2 .given .1))
 
--- src/walks.rt:129:13
 seat-both-requires : tie.Need-seat-both-requires Inv-loop μ-loop
-seat-both-requires c κs = ?
+seat-both-requires c κs =
+    let s = c .before .before .before .before .before .before .before .before .before .before .args in
+    (seat-fits (s .machine .cores) (s .costs) (s .machine .grain) (s .k) (s .whole) (s .going) (c .before .before .before .before .before .before .before .before .before .loop .here) (c .before .before .before .before .before .before .before .before .before .loop .inv), seat-fits-both (s .machine .cores) (s .costs) (s .machine .grain) (s .k) (s .whole) (s .going) (c .before .before .before .before .before .before .before .before .before .loop .here) (c .before .before .before .before .before .before .before .before .before .loop .inv) _ (c .before .before .before .before .if1 .left))
 
--- src/walks.rt:129:13
 returns-2 : tie.Need-returns-2 Inv-loop μ-loop
-returns-2 c = ?
+returns-2 c =
+    let s = c .before .before .before .before .before .before .before .before .before .before .before .args in
+    rw (c .seat-both .ensures) (both-done (s .machine .cores) (s .costs) (s .machine .grain) (s .k) (s .whole) (s .going) (c .before .before .before .before .before .before .before .before .before .before .loop .here) (c .before .before .before .before .before .before .before .before .before .before .loop .inv) (c .before .before .before .before .before .before .before .before .before .judge-with .result) (c .before .before .before .before .before .before .before .before .before .judge-with .ensures) (not-passes (c .before .before .before .before .before .before .before .before .before .judge-with .result) (c .before .before .before .before .before .before .before .before .match .keys2)) (c .before .before .before .before .before .if1 .left) _ _ (sym (c .before .before .before .before .split-on .ensures) ∙ c .before .before .x .given .1))
 
--- src/walks.rt:131:9
 seat-requires : tie.Need-seat-requires Inv-loop μ-loop
-seat-requires c κs = ?
+seat-requires c κs =
+    let s = c .before .before .before .before .args in
+    seat-fits (s .machine .cores) (s .costs) (s .machine .grain) (s .k) (s .whole) (s .going) (c .before .before .before .loop .here) (c .before .before .before .loop .inv)
 
--- src/walks.rt:131:9
 returns-3 : tie.Need-returns-3 Inv-loop μ-loop
-returns-3 c = ?
+returns-3 c =
+    let s = c .before .before .before .before .before .args in
+    rw (c .seat .ensures) (one-done (s .machine .cores) (s .costs) (s .machine .grain) (s .k) (s .whole) (s .going) (c .before .before .before .before .loop .here) (c .before .before .before .before .loop .inv) (sym (c .before .before .before .judge-with .ensures) ∙ c .before .enum-told .given .1))
 
 pub land-spec : {M : Type 1} → statement M
 land-spec =
