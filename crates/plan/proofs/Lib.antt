@@ -2,5 +2,6 @@
 pub mod Lists
 pub mod Ones
 pub mod OrderLaws
+pub mod WalkLaws
 pub mod GoingLaws
 pub mod JudgeLaws
