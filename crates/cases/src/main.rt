@@ -5,11 +5,13 @@ mod runs;
 use demand::Kind;
 use print::show_busy;
 use print::show_demand;
+use print::show_split;
 use print::show_tight;
 use print::show_verdict;
 use runs::costs;
 use runs::empty;
 use runs::free;
+use runs::ipis;
 use runs::piece;
 use runs::whole;
 use runs::with;
@@ -83,9 +85,24 @@ fn refusals() {
     show_verdict(b"80 records", costs(0, 0, 0, 100001, 0, 0), many);
 }
 
+// The split of document 01's sheet, and the hole: with costs a smaller x is refused where a larger one is allowed. At x = 1 the last piece alone
+// does not pass, at x = 2 it does.
+fn splits() {
+    let press = with(empty(), whole(6, 10, 10));
+    show_split(b"feed beside press", free(), press, whole(6, 10, 10), 1);
+    let last_of_one = with(empty(), piece(Kind::Last, 2, 3, 4, 0));
+    show_verdict(b"hole, last piece of 1", ipis(1, 2), last_of_one);
+    show_split(b"hole", ipis(1, 2), empty(), whole(3, 4, 4), 1);
+    let beside = with(empty(), whole(4, 7, 7));
+    show_split(b"hole beside a task", ipis(3, 0), beside, whole(3, 6, 6), 1);
+    show_split(b"no grain", free(), press, whole(6, 10, 10), 0);
+    show_split(b"bad task", free(), press, whole(6, 5, 10), 1);
+}
+
 fn main() {
     verdicts();
     figures();
     table_four();
     refusals();
+    splits();
 }

@@ -3,8 +3,11 @@ use demand::Answer;
 use demand::Costs;
 use demand::Figure;
 use demand::Found;
+use demand::Piece;
 use demand::Refusal;
 use demand::Run;
+use demand::Split;
+use demand::Splitting;
 use demand::Verdict;
 use libc::STDOUT_FILENO;
 
@@ -97,4 +100,26 @@ pub fn show_tight(case: &[u8], costs: Costs, run: Run) {
     name(case);
     io::write_all(STDOUT_FILENO, b"tight window");
     figure(demand::tight_window(costs, run));
+}
+
+// The first piece's budget and its window.
+pub fn show_split(case: &[u8], costs: Costs, run: Run, task: Piece, grain: u64) {
+    name(case);
+    io::write_all(STDOUT_FILENO, b"split");
+    match demand::split_task(costs, run, task, grain) {
+        Splitting::Denied(why) => {
+            io::write_all(STDOUT_FILENO, b"\t");
+            refusal(why);
+        }
+        Splitting::Best(best) => match best {
+            Split::Cut(x, w) => {
+                io::write_all(STDOUT_FILENO, b"\t");
+                io::print_decimal(STDOUT_FILENO, x);
+                number(w);
+            }
+            Split::Nowhere => {
+                io::write_all(STDOUT_FILENO, b"\tnone\n");
+            }
+        },
+    }
 }

@@ -39,6 +39,14 @@ pub fn free() -> Costs {
     costs(0, 0, 0, 0, 0, 0)
 }
 
+// IpiO and IpiJ alone.
+pub fn ipis(ipio: u64, ipij: u64) -> Costs {
+    let mut only = free();
+    only.ipio = ipio;
+    only.ipij = ipij;
+    only
+}
+
 pub fn empty() -> Run {
     Run {
         count: 0,

@@ -7,7 +7,8 @@
 --   least-live-rows       t0, by the lane at place 0
 --   rows-put              seven numbers written at a place are a piece there, and nothing before it changes
 --   tight-of-rows         the tight window of the last lane
---   core-more             the pieces of a core, one more
+--   rows-kept             a piece written behind the rows leaves them as they were
+--   core-snoc, core-more  the pieces of a core, one more
 use mathlib.Core.Path.{_≡_, refl, sym, ap, subst, _∙_}
 use mathlib.Core.List.{List, [], _∷_, _++_, map}
 use Prim.Native.Nat.{ℕ, zero, suc, _+_, _*_, _-_, _≤_, _<_, min, max}
@@ -123,6 +124,18 @@ pub rows-put : (a : List ℕ) (i : ℕ) (q : Charged) → 7 * i + 7 ≤ length a
 rows-put a i q room =
     cc (rows-more (put a (7 * i) q) i, rows-same (put a (7 * i) q) a i (put-before a (7 * i) q), put-lane a i q room)
 
+snoc-front : (xs ys : List Charged) (x y : Charged) → xs ++ (x ∷ []) ≡ ys ++ (y ∷ []) → length xs ≡ length ys → xs ≡ ys
+snoc-front [] [] x y e same = refl
+snoc-front [] (b ∷ ys) x y e same = absurd (omega arith)
+snoc-front (a ∷ xs) [] x y e same = absurd (omega arith)
+snoc-front (a ∷ xs) (b ∷ ys) x y e same =
+    let tails : xs ++ (x ∷ []) ≡ ys ++ (y ∷ []) = cc in
+    let heads : a ≡ b = cc in
+    cc (snoc-front xs ys x y tails (omega arith))
+
+pub rows-kept : (a b : List ℕ) (n : ℕ) (q : Charged) → rows b (n + 1) ≡ rows a n ++ (q ∷ []) → rows b n ≡ rows a n
+rows-kept a b n q e = snoc-front (rows b n) (rows a n) (lane b n) q (sym (rows-more b n) ∙ e) (omega (arith, rows-length a n, rows-length b n))
+
 pub tight-of-rows : (b : ℕ) (all : List Charged) (a : List ℕ) (n : ℕ) → 1 ≤ n → tightOfLast b all (rows a n) ≡ tightWindow b all (lane a (n - 1)) (lane a (n - 1) .window)
 tight-of-rows b all a zero h = absurd (not-suc-le-zero h)
 tight-of-rows b all a (suc n) h =
@@ -139,6 +152,10 @@ tight-found b a n some q last top room r found =
 map-snoc : {A B : Type 0} (f : A → B) (ps : List A) (p : A) → map f (ps ++ (p ∷ [])) ≡ map f ps ++ (f p ∷ [])
 map-snoc f [] p = refl
 map-snoc f (q ∷ ps) p = ap (λ (l : List _). f q ∷ l) (map-snoc f ps p)
+
+pub core-snoc : (c : Costs) (ps : List Piece) (p : Piece) → coreOf c (ps ++ (p ∷ [])) ≡ coreOf c ps ++ (charged c p ∷ [])
+unfolding coreOf
+core-snoc c ps p = map-snoc (charged c) ps p
 
 pub core-more : (c : Costs) (ps : List Piece) (i : ℕ) (d : Piece) → i < length ps → coreOf c (take (i + 1) ps) ≡ coreOf c (take i ps) ++ (charged c (getD ps i d) ∷ [])
 unfolding coreOf

@@ -9,4 +9,6 @@ pub mod RunLaws
 pub mod BusyLaws
 pub mod VerdictLaws
 pub mod Judgement
+pub mod SearchLaws
+pub mod SplitLaws
 pub mod Cases

@@ -8,17 +8,20 @@
 --   answer-fine, answer-bad, figure-fine, figure-bad      what is then answered
 --   taken-check, taken-answer      a run within the sizes is not refused
 --   check-taken     what is known of a run that is not refused
+--   check-one-more, check-task      the same of a run with a task's record behind it
+--   split-fine, split-bad
 --   bad-good, bad-here, bad-end      the search for the first bad record, one record on
-use mathlib.Core.Path.{_≡_, refl, sym, ap, _∙_}
+use mathlib.Core.Path.{_≡_, refl, sym, ap, subst, _∙_}
 use mathlib.Core.Bool.{Bool, true, false, cond}
-use mathlib.Core.List.{List, [], _∷_, map}
+use mathlib.Core.List.{List, [], _∷_, _++_, map}
 use Prim.Native.Nat.{ℕ, zero, suc, _+_, _≤_, _<_}
 use native.Mathlib.Nat.{not-suc-le-zero, le-of-suc-le-suc}
+use native.Mathlib.Numerals.{add-one}
 use native.Mathlib.Omega.{arith}
 use borrow.Author.Tests.{le-leb, lt-leb, leb-true}
 use lib.Dec.{leb}
-use lib.ListN.{length, take, drop, getD, length-map, drop-of-length-le}
-use lib.Seq.{getD-take, length-take-le}
+use lib.ListN.{length, take, drop, getD, set, length-map, drop-of-length-le}
+use lib.Seq.{getD-take, length-take-le, take-append-add, take-suc-set}
 use Rattle.demand.specs.declared.Kind.the-variants.{Whole}
 use Rattle.demand.specs.declared.Piece.{Piece}
 use Rattle.demand.specs.declared.Costs.{Costs}
@@ -31,9 +34,12 @@ use Rattle.demand.specs.declared.Answer.the-variants.{Judged, Refused}
 use Rattle.demand.specs.declared.Charged.{Charged}
 use Rattle.demand.specs.declared.Found.{Found}
 use Rattle.demand.specs.declared.Figure.the-variants.{Of, Barred}
+use Rattle.demand.specs.declared.Split.{Split}
+use Rattle.demand.specs.declared.Splitting.the-variants.{Best, Denied}
 use Rattle.demand.specs.Charge.{coreOf}
 use Rattle.demand.specs.Verdict.{verdictOf}
-use Rattle.demand.specs.Answer.{firstBad, badRecord, checkRun, answerOf, figured}
+use Rattle.demand.specs.Answer.{firstBad, badRecord, checkRun, answerOf, figured, splitted}
+use Rattle.demand.proofs.Sums.{each-front, each-last}
 use Rattle.demand.proofs.ChargeLaws.{all-countable, core-ranged}
 use Rattle.demand.proofs.SizeLaws.{first-bad-good, first-bad-here, first-bad-none, sized-costs-true, sized-is, sized-costs-is}
 
@@ -104,6 +110,32 @@ check-taken c n ps e = few (leb n runMost) refl e
     few true h f = all (sizedCosts c) refl (leb-true n runMost h) f
     few false h f = let z : _≡_ {A = ℕ} 0 1 = cc in absurd (omega arith)
 
+-- ---- one record more
+
+take-more : (n : ℕ) (ps : List Piece) (p : Piece) → n ≤ length ps → take (n + 1) (take n ps ++ (p ∷ [])) ≡ take n ps ++ (p ∷ [])
+take-more n ps p room =
+    let long : length (take n ps) ≡ n = length-take-le n ps room in
+    subst (λ (k : ℕ). take (k + 1) (take n ps ++ (p ∷ [])) ≡ take n ps ++ (p ∷ [])) long (take-append-add (take n ps) (p ∷ []) 1)
+
+pub check-one-more : (c : Costs) (n : ℕ) (ps : List Piece) (p : Piece) → n < length ps → checkRun c (n + 1) (set ps n p) ≡ checkRun c (n + 1) (take n ps ++ (p ∷ []))
+unfolding checkRun
+check-one-more c n ps p inside =
+    let same : take (n + 1) (set ps n p) ≡ take (n + 1) (take n ps ++ (p ∷ [])) = rw (take-more n ps p (omega arith)) (rw add-one (take-suc-set ps n p inside)) in
+    rw same
+
+-- what is known of a run and a task that are not refused
+pub record Fit (c : Costs) (n : ℕ) (ps : List Piece) (p : Piece) : Type 0 where
+  pub few : n < runMost
+  pub costs : SizedCosts c
+  pub each : Each Sized (take n ps)
+  pub own : Sized p
+
+pub check-task : (c : Costs) (n : ℕ) (ps : List Piece) (p : Piece) → length ps ≡ runMost → checkRun c (n + 1) (take n ps ++ (p ∷ [])) ≡ Fine → Fit c n ps p
+check-task c n ps p long fine =
+    let ok = check-taken c (n + 1) (take n ps ++ (p ∷ [])) fine in
+    let all : Each Sized (take n ps ++ (p ∷ [])) = rw (take-more n ps p (omega (arith, ok .few))) at (ok .each) in
+    record { few = omega (arith, ok .few); costs = ok .costs; each = each-front Sized (take n ps) p all; own = each-last Sized (take n ps) p all }
+
 -- ---- the answers
 
 -- a run that is taken, laid out: its pieces are charged and can be counted with
@@ -123,6 +155,12 @@ answer-fine c n ps e = rw e
 pub answer-bad : (c : Costs) (n : ℕ) (ps : List Piece) (r : Refusal) → checkRun c n ps ≡ Bad r → answerOf c n ps ≡ Refused r
 unfolding answerOf
 answer-bad c n ps r e = rw e
+
+pub split-fine : (k : Check) (s : Split) → k ≡ Fine → Best s ≡ splitted k s
+split-fine k s e = rw e
+
+pub split-bad : (k : Check) (s : Split) (r : Refusal) → k ≡ Bad r → Denied r ≡ splitted k s
+split-bad k s r e = rw e
 
 -- ---- a run within the sizes is taken
 

@@ -33,7 +33,7 @@ module _ (P : Type 0) where
   tells-as Q to from true p = to p
   tells-as Q to from false p = λ q. p (from q)
 
-  tells-both : (Q : Type 0) (a b : Bool) → Tells P a → Tells Q b → Tells (P × Q) (a && b)
+  pub tells-both : (Q : Type 0) (a b : Bool) → Tells P a → Tells Q b → Tells (P × Q) (a && b)
   tells-both Q true true p q = (p, q)
   tells-both Q true false p q = λ h. q (h .1)
   tells-both Q false true p q = λ h. p (h .0)

@@ -7,4 +7,5 @@ pub mod Verdict
 pub mod Split
 pub mod Answer
 pub mod Lanes
+pub mod Search
 pub mod Cases

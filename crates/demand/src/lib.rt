@@ -1,4 +1,4 @@
-// What one core is asked for, and the verdict on it: document 01, "A piece and its charge" to "Verdict on a core".
+// What one core is asked for, the verdict on it and the split of a task on it: document 01, "A piece and its charge" to "The C=D walk".
 //
 // Every public function takes any input. It refuses what document 01 refuses, and its contract is an equation with one definition of `specs/`.
 mod charges;
@@ -7,6 +7,7 @@ mod lanes;
 mod lengths;
 mod sizes;
 mod spans;
+mod splits;
 
 use charges::stall_of;
 use demands::demand_at;
@@ -16,11 +17,13 @@ use lanes::lay_out;
 use lengths::climb;
 use lengths::tight_of;
 use sizes::check_run;
+use sizes::check_task;
 use sizes::sized_costs;
 use sizes::sized_piece;
 use spans::judge_core;
+use splits::greatest_split;
 ghost use mathlib.Core.Path.{_≡_};
-ghost use Rattle.demand.specs.Answer.{answerOf, busyFigure, demandFigure, tightFigure};
+ghost use Rattle.demand.specs.Answer.{answerOf, busyFigure, demandFigure, tightFigure, splitOf};
 ghost use Rattle.demand.specs.Sizes.{sized, sizedCosts};
 ghost use Rattle.demand.specs.Split.{firstPiece, lastPiece};
 
@@ -83,6 +86,12 @@ pub enum Found {
 pub enum Split {
     Cut(u64, u64),
     Nowhere,
+}
+
+/// What one candidate for a split told: it is allowed, with its tight window, or how far down the next may stand.
+pub enum Step {
+    Done(u64),
+    Below(u64),
 }
 
 /// Which figure of the pieces is summed.
@@ -233,5 +242,16 @@ pub fn tight_window(costs: Costs, run: Run) -> Figure
             let core = lay_out(costs, run);
             Figure::Of(tight_of(&core, n, stall_of(costs)))
         }
+    }
+}
+
+/// The greatest allowed split of the task beside the run's pieces, at the grain. The task is given as its whole piece and checked as the record behind the
+/// run's, so the run has at most 78. No multiple of a grain of 0 counts.
+pub fn split_task(costs: Costs, run: Run, task: Piece, grain: u64) -> Splitting
+    ensures exact { λ r. ⌜ r ≡ splitOf costs (run .count) (run .pieces) task grain ⌝ }
+{
+    match check_task(costs, run, task) {
+        Check::Bad(why) => Splitting::Denied(why),
+        Check::Fine => Splitting::Best(greatest_split(costs, run, task, grain)),
     }
 }

@@ -5,7 +5,8 @@ use crate::Piece;
 use crate::Refusal;
 use crate::Run;
 ghost use mathlib.Core.Path.{_≡_};
-ghost use Prim.Native.Nat.{_≤_};
+ghost use mathlib.Core.List.{[], _∷_, _++_};
+ghost use Prim.Native.Nat.{_+_, _≤_};
 ghost use lib.ListN.{take};
 ghost use Rattle.demand.specs.Answer.{firstBad, checkRun};
 ghost use Rattle.demand.specs.Sizes.{Sized, SizedCosts, Tells};
@@ -103,4 +104,18 @@ pub fn check_run(costs: Costs, run: Run) -> Check
         return Check::Fine;
     }
     Check::Bad(Refusal::BadRecord(place))
+}
+
+// The same of a run with one record more, the task's.
+pub fn check_task(costs: Costs, run: Run, task: Piece) -> Check
+    ensures { λ r. ⌜ r ≡ checkRun costs (run .count + 1) (take (run .count) (run .pieces) ++ (task ∷ [])) ⌝ }
+{
+    let at = run.count;
+    if 79 <= at {
+        return Check::Bad(Refusal::TooMany);
+    }
+    let mut more = run;
+    more.pieces[at] = task;
+    more.count = at + 1;
+    check_run(costs, more)
 }

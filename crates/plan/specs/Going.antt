@@ -7,6 +7,7 @@
 --   RowFits c g          the core can be judged with one piece more
 --   SeatFits g k         there is room for a piece of the task at place k
 --   LandFits m c g k     the task at place k can be placed
+--   WalkFits m c ts o    the walk over an order can begin
 --   Reach base g o       g is what the outcome o of a walk is, from the layout base on
 use mathlib.Core.Path.{_≡_}
 use mathlib.Core.List.{List, map}
@@ -15,8 +16,12 @@ use lib.ListN.{set, getD, length, take, replicate}
 use Rattle.demand.specs.declared.Piece.{Piece}
 use Rattle.demand.specs.declared.Costs.{Costs}
 use Rattle.demand.specs.Sizes.{Sized, SizedCosts, Each}
+use Rattle.task.specs.declared.Tasks.{Tasks}
+use Rattle.task.specs.declared.Machine.{Machine}
+use Rattle.plan.specs.declared.Order.{Order}
 use Rattle.plan.specs.declared.Layout.{Layout}
 use Rattle.plan.specs.declared.Going.{Going}
+use Rattle.plan.specs.Plan.{wholeAt}
 use Rattle.plan.specs.Layout.{pieceAt, putOf, layoutOn, none}
 use Rattle.plan.specs.Walk.{Stand, Placed, Outcome, fine, stuck}
 
@@ -82,3 +87,12 @@ pub record Reached (base : Layout) (g : Going) (s : Stand) (l : List (Placed ℕ
 abbrev pub Reach : Layout → Going → Outcome ℕ → Type 0
 Reach base g (fine s l) = Reached base g s l
 Reach base g (stuck k) = g .stuck ≡ suc k
+
+-- what the walk needs of its input: sizes, and an order of places within them
+pub record WalkFits (m : Machine) (c : Costs) (ts : Tasks) (o : Order) : Type 0 where
+  pub some : 1 ≤ m .cores
+  pub few : m .cores ≤ 16
+  pub costs : SizedCosts c
+  pub count : ts .count ≤ 64
+  pub places : Each (λ k. k < 64) (take (ts .count) (o .places))
+  pub sizes : Each (λ k. Sized (wholeAt (ts .list) k)) (take (ts .count) (o .places))

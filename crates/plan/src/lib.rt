@@ -5,11 +5,16 @@ mod rows;
 mod walks;
 
 use demand::Costs;
+use layouts::empty;
+use orders::order_of;
+use rows::no_task;
+use rows::tidy;
+use task::state_fault;
 use task::Machine;
 use task::Tasks;
+use walks::walk_over;
 ghost use mathlib.Core.Path.{_≡_};
-ghost use Prim.Native.Nat.{_≤_};
-ghost use Rattle.plan.specs.Plan.{planOf, noPlan};
+ghost use Rattle.plan.specs.Plan.{planOf, refused};
 
 /// A piece as the plan keeps it: its task's place, from 0, its kind's number (0 whole, 1 first, 2 last), and its figures.
 pub struct Stored {
@@ -65,4 +70,68 @@ pub struct Going {
 /// Places in packing order.
 pub struct Order {
     pub places: [usize; 64],
+}
+
+// A refusal: its number, what it carries, and no plan.
+fn refuse(number: u64, carries: usize) -> Reply
+    ensures { λ r. ⌜ r ≡ refused number carries ⌝ }
+{
+    let machine = Machine { cores: 0, grain: 0 };
+    let costs = Costs {
+        relo: 0,
+        schedo: 0,
+        tseto: 0,
+        ipb: 0,
+        beto: 0,
+        migro: 0,
+        ipio: 0,
+        ipij: 0,
+        precision: 0,
+    };
+    let tasks = Tasks {
+        count: 0,
+        list: [no_task(); 64],
+    };
+    let layout = empty();
+    let plan = Plan {
+        machine: machine,
+        costs: costs,
+        tasks: tasks,
+        layout: layout,
+    };
+    Reply {
+        number: number,
+        carries: carries,
+        plan: plan,
+    }
+}
+
+/// The plan of a machine, costs and a list of tasks: 1, 2, 6, then at the first bad task 8, 3 or 4, all carrying 0; 7 with the place, from 1, of
+/// the task that the walk sticks at; else the plan.
+pub fn plan_tasks(machine: Machine, costs: Costs, tasks: Tasks) -> Reply
+    ensures exact { λ r. ⌜ r ≡ planOf machine costs (tasks .count) (tasks .list) ⌝ }
+{
+    let fault = state_fault(machine, costs, tasks);
+    if fault != 0 {
+        return refuse(fault, 0);
+    }
+    let clean = tidy(tasks);
+    let order = order_of(clean);
+    let end = walk_over(machine, costs, clean, order);
+    let stuck = end.stuck;
+    if 0 < stuck {
+        return refuse(7, stuck);
+    }
+    let layout = end.layout;
+    let plan = Plan {
+        machine: machine,
+        costs: costs,
+        tasks: clean,
+        layout: layout,
+    };
+    Reply {
+        number: 0,
+        carries: 0,
+        plan: plan,
+    }
 }

@@ -1,20 +1,21 @@
 // The C=D walk.
 use crate::layouts::{empty, put};
 use crate::rows::run_of;
-use crate::{Going, Row};
-use demand::{Answer, Costs, Piece, Run, Split, Splitting, Verdict};
-use task::Machine;
+use crate::{Going, Order, Row};
+use demand::{Answer, Costs, Piece, Split, Splitting, Verdict};
+use task::{whole_piece, Machine, Tasks};
 
 ghost use mathlib.Core.Path.{_≡_};
 ghost use mathlib.Core.List.{[], _∷_, _++_};
 ghost use Prim.Native.Nat.{_+_, _-_, _<_, _≤_};
 ghost use lib.ListN.{take};
-ghost use Rattle.demand.specs.Answer.{splitOf};
 ghost use Rattle.demand.specs.Sizes.{Sized, SizedCosts, Each};
 ghost use Rattle.demand.specs.Split.{greatestSplit, firstPiece, lastPiece};
 ghost use Rattle.demand.specs.Verdict.{verdictOf};
-ghost use Rattle.plan.specs.Going.{told, RowFits, SeatFits, LandFits, seatOf, nextOf, stickOf, beginOf, Reach};
-ghost use Rattle.plan.specs.Walk.{place, rulesFor};
+ghost use Rattle.plan.specs.Going.{told, RowFits, SeatFits, LandFits, seatOf, nextOf, stickOf, beginOf, Reach, WalkFits};
+ghost use Rattle.plan.specs.Layout.{none};
+ghost use Rattle.plan.specs.Plan.{wholeAt};
+ghost use Rattle.plan.specs.Walk.{place, walk, start, rulesFor};
 
 // The verdict on the core with one piece more.
 pub fn judge_with(costs: Costs, going: Going, q: Piece) -> Verdict
@@ -45,7 +46,7 @@ pub fn split_on(costs: Costs, grain: u64, going: Going, q: Piece) -> Split
     let pieces = layout.pieces;
     let row = going.row;
     let run = run_of(pieces, row);
-    let Splitting::Best(s) = split_task(costs, run, q, grain) else {
+    let Splitting::Best(s) = demand::split_task(costs, run, q, grain) else {
         return Split::Nowhere;
     };
     s
@@ -142,9 +143,22 @@ pub fn seat_both(costs: Costs, going: Going, k: usize, whole: Piece, x: u64, w: 
     seat(two, k, demand::last_piece(costs, whole, x, w))
 }
 
-// STAND-IN until crate demand has it.
-pub fn split_task(costs: Costs, run: Run, task: Piece, grain: u64) -> Splitting
-    ensures exact { λ r. ⌜ r ≡ splitOf costs (run .count) (run .pieces) task grain ⌝ }
+// The walk over the tasks in packing order.
+pub fn walk_over(machine: Machine, costs: Costs, tasks: Tasks, order: Order) -> Going
+    requires { ⌜ WalkFits machine costs tasks order ⌝ }
+    ensures { λ r. ⌜ Reach none r (walk (rulesFor costs (machine .grain) (wholeAt (tasks .list))) (start (machine .cores)) (take (tasks .count) (order .places))) ⌝ }
 {
-    Splitting::Best(Split::Nowhere)
+    let mut going = begin();
+    let mut i: usize = 0;
+    while i < tasks.count {
+        let k = order.places[i];
+        let task = tasks.list[k];
+        let times = task.times;
+        going = land(machine, costs, going, k, whole_piece(times));
+        if 0 < going.stuck {
+            return going;
+        }
+        i += 1;
+    }
+    going
 }

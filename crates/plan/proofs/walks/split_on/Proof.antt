@@ -10,7 +10,6 @@ use Rattle.plan.proofs.walks.split_on.Tie as tie
 use Rattle.plan.proofs.walks.split_on.Reads as reads
 use Rattle.plan.proofs.walks.split_on.Lts as lts
 use Rattle.plan.proofs.rows.run_of.Reads as run-of-reads
-use Rattle.plan.proofs.walks.split_task.Reads as split-task-reads
 
 run-of-requires : tie.Need-run-of-requires
 run-of-requires c κs = (omega (arith, c .before .before .before .pre .0 .free), c .before .before .before .pre .0 .numbers)
