@@ -3,5 +3,8 @@ pub mod Lists
 pub mod Ones
 pub mod OrderLaws
 pub mod WalkLaws
+pub mod LayoutLaws
+pub mod RuleLaws
+pub mod OverLaws
 pub mod GoingLaws
 pub mod JudgeLaws
