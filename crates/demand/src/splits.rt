@@ -130,7 +130,7 @@ pub fn try_split(
             Verdict::Overloaded(t) => Step::Below(x - 1),
             Verdict::Passes => match judge_first(core, n, costs, task, x, w) {
                 Verdict::Undecided => Step::Below(x - 1),
-                Verdict::Overloaded(t) => Step::Below(x - 1),
+                Verdict::Overloaded(u) => Step::Below(x - 1),
                 Verdict::Passes => Step::Done(w),
             },
         },

@@ -64,7 +64,7 @@ loop-less c =
     let s = c .before .before .before .before .before .before .before .before .before .args in
     let x = c .before .before .before .before .before .before .before .loop .k * s .grain in
     let step = subst (λ (r : Step). Steps (s .costs) (rows (c .before .before .before .before .before .before .before .loop .core) (s .n)) (s .task) x r) (c .before .y .given .1) (c .before .before .before .try-split .ensures .0) in
-    next-less (s .grain) (s .task) (c .before .before .before .before .before .before .before .before .before .pre .1 .1 .1) (c .before .before .before .before .before .before .before .loop .k) (c .before .y .given .0 .0) (step .0)
+    omega (arith, next-less (s .grain) (s .task) (c .before .before .before .before .before .before .before .before .before .pre .1 .1 .1) (c .before .before .before .before .before .before .before .loop .k) (c .before .y .given .0 .0) (step .0))
 
 loop-again : tie.Need-loop-again Inv-loop μ-loop
 loop-again c =

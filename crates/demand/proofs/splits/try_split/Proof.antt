@@ -61,8 +61,8 @@ enum-told-4 c = search needs
 sub-t21 : tie.Need-sub-t21
 sub-t21 c = search needs
 
-enum-known-t-2 : tie.Need-enum-known-t-2
-enum-known-t-2 c = search needs
+enum-known-u : tie.Need-enum-known-u
+enum-known-u c = search needs
 
 sub-t22 : tie.Need-sub-t22
 sub-t22 c = search needs
@@ -107,7 +107,7 @@ returns-5 c =
     let w = c .before .before .before .before .before .before .before .before .before .before .w .given .0 .0 in
     let found = subst (λ (f : Found). TightIn (s .costs) qs (s .task) (s .x) f) (c .before .before .before .before .before .before .before .before .before .before .w .given .1) (c .before .before .before .before .before .before .before .before .before .before .before .before .tight-first .ensures .0) in
     let judged = c .before .before .before .judge-first .ensures .0 ∙ ap (λ (rs : List Charged). verdict (stall (s .costs)) (withFirst (s .costs) rs (s .task) (s .x) w)) (c .before .before .before .before .before .before .before .before .before .before .before .before .tight-first .ensures .1 .same) in
-    (step-none (s .costs) qs (s .task) (s .x) (c .before .before .before .before .before .before .before .before .before .before .before .before .before .before .pre .1 .1 .1 .0) (fails-here (s .costs) qs (s .task) (s .x) (found .0) w (found .1) (found .3) (c .before .before .before .judge-first .result) judged (overloaded-fails (c .before .t2 .given .0 .0) (c .before .t2 .given .1))), kept-again (s .core .now) (c .before .before .before .before .before .before .before .before .before .before .before .before .tight-first .last .0) (c .before .before .before .judge-first .last .0) (s .n) (c .before .before .before .before .before .before .before .before .before .before .before .before .tight-first .ensures .1) (c .before .before .before .judge-first .ensures .1), c .before .before .before .before .before .before .before .judge-last .ensures .1)
+    (step-none (s .costs) qs (s .task) (s .x) (c .before .before .before .before .before .before .before .before .before .before .before .before .before .before .pre .1 .1 .1 .0) (fails-here (s .costs) qs (s .task) (s .x) (found .0) w (found .1) (found .3) (c .before .before .before .judge-first .result) judged (overloaded-fails (c .before .u .given .0 .0) (c .before .u .given .1))), kept-again (s .core .now) (c .before .before .before .before .before .before .before .before .before .before .before .before .tight-first .last .0) (c .before .before .before .judge-first .last .0) (s .n) (c .before .before .before .before .before .before .before .before .before .before .before .before .tight-first .ensures .1) (c .before .before .before .judge-first .ensures .1), c .before .before .before .before .before .before .before .judge-last .ensures .1)
 
 returns-6 : tie.Need-returns-6
 returns-6 c =
@@ -134,7 +134,7 @@ try-split-spec =
     judge-first-requires
     enum-told-4
     sub-t21
-    enum-known-t-2
+    enum-known-u
     sub-t22
     enum-told-5
     returns
