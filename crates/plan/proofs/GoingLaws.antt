@@ -70,8 +70,10 @@ module _ (g : Going) (k : ℕ) (q : Piece) (ok : Seated g) (free : g .row .len <
   told-seat =
       ap (map (pieceAt (set (g .layout .pieces) (g .layout .count) (stored k q)))) (take-put (g .row .numbers) (g .row .len) (g .layout .count) (omega (arith, ok .row-size)))
       ∙ (map-snoc (pieceAt (set (g .layout .pieces) (g .layout .count) (stored k q))) (take (g .row .len) (g .row .numbers)) (g .layout .count)
-      ∙ cc (pieces-kept (g .layout .pieces) (g .layout .count) (stored k q) (take (g .row .len) (g .row .numbers)) (ok .placed),
-      ap pieceOf (getD-set-same (g .layout .pieces) (g .layout .count) (stored k q) blank (omega (arith, ok .pieces-size))) ∙ piece-stored k q))
+      ∙ cc (
+        pieces-kept (g .layout .pieces) (g .layout .count) (stored k q) (take (g .row .len) (g .row .numbers)) (ok .placed),
+        ap pieceOf (getD-set-same (g .layout .pieces) (g .layout .count) (stored k q) blank (omega (arith, ok .pieces-size))) ∙ piece-stored k q,
+      ))
 
   pub seated-seat : Seated (seatOf g k q)
   unfolding seatOf putOf
@@ -193,8 +195,8 @@ module _ (m : ℕ) (c : Costs) (r k : ℕ) (w : Piece) (g h : Going) (u : Under 
   pub one-done : verdictOf c (told h ++ (w ∷ [])) ≡ Passes → Reach (g .layout) (seatOf h k w) (place (rulesFor c r (λ (j : ℕ). w)) k (m - 1 - g .core) (g .core) (told g))
   unfolding R
   one-done e = reached (seatOf h k w) (inOne k (m - 1 - h .core) (h .core) (told h) w)
-    (place-one R k (h .core) (told h) (m - 1 - h .core) (fits-is Passes (sym e)) ∙ ap (inOne k (m - 1 - h .core) (h .core) (told h)) whole-is)
-    (seat-reach h k (m - 1 - h .core) w (u .ok .seated) (u .ok .going) (u .ok .free) (omega (arith, u .ok .room, u .ok .core, u .ok .cores)))
+      (place-one R k (h .core) (told h) (m - 1 - h .core) (fits-is Passes (sym e)) ∙ ap (inOne k (m - 1 - h .core) (h .core) (told h)) whole-is)
+      (seat-reach h k (m - 1 - h .core) w (u .ok .seated) (u .ok .going) (u .ok .free) (omega (arith, u .ok .room, u .ok .core, u .ok .cores)))
 
   module _ (v : Verdict) (verdict-is : v ≡ verdictOf c (told h ++ (w ∷ []))) (fails : passes v ≡ false) where
     pub stuck-done : h .core + 1 ≡ m → Reach (g .layout) (stickOf h k) (place (rulesFor c r (λ (j : ℕ). w)) k (m - 1 - g .core) (g .core) (told g))
@@ -204,13 +206,13 @@ module _ (m : ℕ) (c : Costs) (r k : ℕ) (w : Piece) (g h : Going) (u : Under 
         reached (stickOf h k) (stuck k) (rw none (place-stuck R k (h .core) (told h) (fits-is v verdict-is ∙ fails))) (stick-reach h k (h .layout))
 
     pub both-done : (h .core + 1 ≡ m → ⊥) → (x t : ℕ) → greatestSplit c r (told h) w ≡ Cut x t →
-      Reach (g .layout) (seatOf (nextOf (seatOf h k (firstPiece w x t))) k (lastPiece c w x t)) (place (rulesFor c r (λ (j : ℕ). w)) k (m - 1 - g .core) (g .core) (told g))
+        Reach (g .layout) (seatOf (nextOf (seatOf h k (firstPiece w x t))) k (lastPiece c w x t)) (place (rulesFor c r (λ (j : ℕ). w)) k (m - 1 - g .core) (g .core) (told g))
     unfolding R
     both-done more x t s =
         let left : m - 1 - h .core ≡ suc (m - 1 - (h .core + 1)) = omega (arith, u .ok .core) in
         reached (seatOf (nextOf (seatOf h k (firstPiece w x t))) k (lastPiece c w x t)) (inTwo k (m - 1 - (h .core + 1)) (h .core) (firstPiece w x t) (lastPiece c w x t))
-          (rw left (place-both R k (h .core) (told h) (m - 1 - (h .core + 1)) (firstPiece w x t) (lastPiece c w x t) (fits-is v verdict-is ∙ fails) (cut-is (Cut x t) (sym s))))
-          (both-reach h k (m - 1 - (h .core + 1)) (firstPiece w x t) (lastPiece c w x t) (u .ok .seated) (u .ok .going) (u .ok .free) (omega (arith, u .ok .room, u .ok .core, u .ok .cores)))
+        (rw left (place-both R k (h .core) (told h) (m - 1 - (h .core + 1)) (firstPiece w x t) (lastPiece c w x t) (fits-is v verdict-is ∙ fails) (cut-is (Cut x t) (sym s))))
+        (both-reach h k (m - 1 - (h .core + 1)) (firstPiece w x t) (lastPiece c w x t) (u .ok .seated) (u .ok .going) (u .ok .free) (omega (arith, u .ok .room, u .ok .core, u .ok .cores)))
 
     pub next-under : (h .core + 1 ≡ m → ⊥) → greatestSplit c r (told h) w ≡ Nowhere → Under m c r k w g (nextOf h)
     unfolding R nextOf

@@ -6,5 +6,6 @@ pub mod WalkLaws
 pub mod LayoutLaws
 pub mod RuleLaws
 pub mod OverLaws
+pub mod PlanLaws
 pub mod GoingLaws
 pub mod JudgeLaws

@@ -50,9 +50,9 @@ module _ (m : ℕ) (c : Costs) (r : ℕ) (w : ℕ → Piece) (order : List ℕ) 
       let f = fit-now (k .at) (k .past) (k .is) in
       let size : length (take i order) ≡ i = simp length-take (omega arith) in
       let lens : (q : ℕ) → getD (g .layout .lens) q 0 ≡ length (rowOf q (k .past)) = (λ q.
-        ap (λ (z : Layout). getD (z .lens) q 0) (k .reached .layout-is)
-        ∙ (lens-is (k .past) none none-size (each-imp (λ (e : Placed ℕ). e .on < m) (λ (e : Placed ℕ). e .on < 16) (λ e h. omega arith) (k .past) (f .seats)) q
-        ∙ omega (arith, none-zero q, length-map (onCore q (k .past)) (λ (e : Placed ℕ). e .piece)))) in
+      ap (λ (z : Layout). getD (z .lens) q 0) (k .reached .layout-is)
+      ∙ (lens-is (k .past) none none-size (each-imp (λ (e : Placed ℕ). e .on < m) (λ (e : Placed ℕ). e .on < 16) (λ e h. omega arith) (k .past) (f .seats)) q
+      ∙ omega (arith, none-zero q, length-map (onCore q (k .past)) (λ (e : Placed ℕ). e .piece)))) in
       record {
         costs = costs;
         place = below;
@@ -75,14 +75,14 @@ module _ (m : ℕ) (c : Costs) (r : ℕ) (w : ℕ → Piece) (order : List ℕ) 
   walk-more R = ap (λ (k : ℕ). walk R (start m) (take k order)) (add-one i) ∙ (ap (walk R (start m)) (take-suc order i 0 in-order) ∙ walk-append R (start m) (take i order) (getD order i 0 ∷ []))
 
   pub land-reach : Walking g (walk (rulesFor c r w) (start m) (take i order)) → (q : Piece) → w (getD order i 0) ≡ q → (x : Going) →
-    Reach (g .layout) x (place (rulesFor c r (λ (j : ℕ). q)) (getD order i 0) (m - 1 - g .core) (g .core) (told g)) →
-    Reach none x (walk (rulesFor c r w) (start m) (take (i + 1) order))
+      Reach (g .layout) x (place (rulesFor c r (λ (j : ℕ). q)) (getD order i 0) (m - 1 - g .core) (g .core) (told g)) →
+      Reach none x (walk (rulesFor c r w) (start m) (take (i + 1) order))
   land-reach k q e x h =
       let f = fit-now (k .at) (k .past) (k .is) in
       let left : m - 1 - g .core ≡ k .at .left = omega (arith, f .cores, k .reached .core-is) in
       let z : walk (rulesFor c r w) (start m) (take (i + 1) order) ≡ behind (k .past) (place (rulesFor c r w) (getD order i 0) (k .at .left) (k .at .core) (k .at .row)) = walk-more (rulesFor c r w) ∙ ap (λ (o : Outcome ℕ). step (rulesFor c r w) o (getD order i 0)) (k .is) in
       rw z (reach-behind (k .past) x (place (rulesFor c r w) (getD order i 0) (k .at .left) (k .at .core) (k .at .row))
-        (rw (place-cong c r w (getD order i 0) q e (k .at .left) (k .at .core) (k .at .row), ← k .reached .layout-is, ← left, ← k .reached .core-is, ← k .reached .row-is) h))
+      (rw (place-cong c r w (getD order i 0) q e (k .at .left) (k .at .core) (k .at .row), ← k .reached .layout-is, ← left, ← k .reached .core-is, ← k .reached .row-is) h))
 
 pub still-walking : (g : Going) (o : Outcome ℕ) → Reach none g o → g .stuck ≡ 0 → Walking g o
 still-walking g (fine s l) h e = record { at = s; past = l; is = refl; reached = h }

@@ -115,7 +115,7 @@ module _ {A : Type 0} (R : Rules A) where
 
 -- what each item keeps, a walk keeps; i counts the items
 module _ {A : Type 0} (R : Rules A) (Good : A → Type 0) (I : ℕ → Stand → List (Placed A) → Type 0)
-  (keeps : (i : ℕ) (a : A) (s : Stand) (log : List (Placed A)) → Good a → I i s log → IfFine (I (suc i)) (behind log (place R a (s .left) (s .core) (s .row)))) where
+    (keeps : (i : ℕ) (a : A) (s : Stand) (log : List (Placed A)) → Good a → I i s log → IfFine (I (suc i)) (behind log (place R a (s .left) (s .core) (s .row)))) where
   pub walk-keeps : (i : ℕ) (xs : List A) (s : Stand) (log : List (Placed A)) → Each Good xs → I i s log → IfFine (I (i + length xs)) (walk R (fine s log) xs)
   walk-keeps i [] s log good h = let e : i + 0 ≡ i = omega arith in rw e h
   walk-keeps i (x ∷ xs) s log good h = by (behind log (place R x (s .left) (s .core) (s .row))) (keeps i x s log (good .0) h) (λ t l g. walk-keeps (suc i) xs t l (good .1) g)

@@ -94,5 +94,6 @@ pub record WalkFits (m : Machine) (c : Costs) (ts : Tasks) (o : Order) : Type 0 
   pub few : m .cores ≤ 16
   pub costs : SizedCosts c
   pub count : ts .count ≤ 64
+  pub long : length (o .places) ≡ 64
   pub places : Each (λ k. k < 64) (take (ts .count) (o .places))
   pub sizes : Each (λ k. Sized (wholeAt (ts .list) k)) (take (ts .count) (o .places))

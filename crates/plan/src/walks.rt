@@ -1,10 +1,19 @@
 // The C=D walk.
-use crate::layouts::{empty, put};
+use crate::Going;
+use crate::Order;
+use crate::Row;
+use crate::layouts::empty;
+use crate::layouts::put;
 use crate::rows::run_of;
-use crate::{Going, Order, Row};
-use demand::{Answer, Costs, Piece, Split, Splitting, Verdict};
-use task::{whole_piece, Machine, Tasks};
-
+use demand::Answer;
+use demand::Costs;
+use demand::Piece;
+use demand::Split;
+use demand::Splitting;
+use demand::Verdict;
+use task::Machine;
+use task::Tasks;
+use task::whole_piece;
 ghost use mathlib.Core.Path.{_≡_};
 ghost use mathlib.Core.List.{[], _∷_, _++_};
 ghost use Prim.Native.Nat.{_+_, _-_, _<_, _≤_};

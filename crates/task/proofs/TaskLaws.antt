@@ -4,22 +4,27 @@
 --   place-other, place-here, place-end
 --   fault-none, fault-here, fault-end
 --   fault-form, -size, -twin, -free      the fault of one task
+--   Good, Sane, state-sane      what is known of tasks, and of a machine with costs and tasks, that break no rule
 --   length-mapped      how long an array of structs in a struct is, for `search`
 use mathlib.Core.Path.{_≡_, refl, sym, ap, _∙_}
-use mathlib.Core.Bool.{Bool, true, false, cond}
+use mathlib.Core.Bool.{Bool, true, false, cond, _&&_}
 use mathlib.Core.List.{List, [], _∷_, _++_, map, append-assoc}
 use Prim.Native.Nat.{ℕ, zero, suc, _+_, _-_, _≤_, _<_}
 use native.Mathlib.Nat.{le-of-lt}
 use native.Mathlib.Numerals.{add-one}
 use native.Mathlib.Omega.{arith}
-use borrow.Author.Tests.{eq-eqb, ne-eqb}
+use borrow.Author.Tests.{eq-eqb, ne-eqb, eqb-true, leb-true}
+use lib.Dec.{eqb, leb}
 use lib.ListN.{length, take, drop, getD, length-map, length-take, drop-of-length-le}
 use lib.Seq.{drop-cons, take-suc, take-take, getD-take, length-take-le, take-all}
 use Rattle.task.specs.declared.Name.{Name}
 use Rattle.task.specs.declared.Task.{Task}
-use Rattle.demand.specs.Sizes.{sized}
+use Rattle.task.specs.declared.Machine.{Machine}
+use Rattle.demand.specs.declared.Costs.{Costs}
+use Rattle.demand.specs.Sizes.{sized, sizedCosts, Sized, SizedCosts, Each, timeMost}
+use Rattle.demand.proofs.SizeLaws.{sized-true, sized-costs-true}
 use Rattle.task.specs.Names.{formed, sameName}
-use Rattle.task.specs.Tasks.{wholePiece, placeOf, faultOf, firstFault, orElse, past, taskAt}
+use Rattle.task.specs.Tasks.{wholePiece, placeOf, faultOf, firstFault, orElse, past, taskAt, rule, stateFault, sizedMachine, coresMost, tasksMost}
 
 pub length-mapped : (X Y : Type 0) (f : X → Y) (l : List X) (n : ℕ) → length (map f l) ≡ n → length l ≡ n
 length-mapped X Y f l n e = sym (length-map l f) ∙ e
@@ -90,3 +95,69 @@ module _ (above : List Task) (t : Task) where
   pub fault-free : formed (t .name) ≡ true → sized (wholePiece (t .times)) ≡ true → placeOf 1 (t .name) above ≡ 0 → faultOf above t ≡ 0
   unfolding faultOf
   fault-free good fits alone = rw (good, fits, eq-eqb (placeOf 1 (t .name) above) 0 alone)
+
+-- ---- what is known where no rule is broken
+
+both-true : (a b : Bool) → (a && b) ≡ true → (a ≡ true) × (b ≡ true)
+both-true true b e = (refl, e)
+both-true false true e = (e, refl)
+both-true false false e = (e, e)
+
+rule-fine : (b : Bool) (n rest : ℕ) → rule b (suc n) rest ≡ 0 → (b ≡ true) × (rest ≡ 0)
+rule-fine true n rest e = (refl, e)
+rule-fine false n rest e = absurd (omega arith)
+
+or-else-fine : (k n : ℕ) → orElse k n ≡ 0 → (k ≡ 0) × (n ≡ 0)
+or-else-fine zero n e = (refl, e)
+or-else-fine (suc k) n e = absurd (omega arith)
+
+-- a task that breaks no rule
+pub record Good (above : List Task) (t : Task) : Type 0 where
+  pub named : formed (t .name) ≡ true
+  pub timed : Sized (wholePiece (t .times))
+  pub alone : placeOf 1 (t .name) above ≡ 0
+
+fault-good : (above : List Task) (t : Task) → faultOf above t ≡ 0 → Good above t
+unfolding faultOf
+fault-good above t e =
+    let a = rule-fine (formed (t .name)) 7 (rule (sized (wholePiece (t .times))) 3 (rule (eqb (placeOf 1 (t .name) above) 0) 4 0)) e in
+    let b = rule-fine (sized (wholePiece (t .times))) 2 (rule (eqb (placeOf 1 (t .name) above) 0) 4 0) (a .1) in
+    let d = rule-fine (eqb (placeOf 1 (t .name) above) 0) 3 0 (b .1) in
+    record { named = a .0; timed = sized-true (wholePiece (t .times)) (b .0); alone = eqb-true (placeOf 1 (t .name) above) 0 (d .0) }
+
+faults-timed : (above ts : List Task) → firstFault above ts ≡ 0 → Each (λ t. Sized (wholePiece (t .times))) ts
+faults-timed above [] e = tt
+faults-timed above (t ∷ ts) e =
+    let both = or-else-fine (faultOf above t) (firstFault (above ++ (t ∷ [])) ts) e in
+    (fault-good above t (both .0) .timed, faults-timed (above ++ (t ∷ [])) ts (both .1))
+
+-- a machine, costs and tasks that break no rule
+pub record Sane (m : Machine) (c : Costs) (n : ℕ) (ts : List Task) : Type 0 where
+  pub cores-some : 1 ≤ m .cores
+  pub cores-fit : m .cores ≤ coresMost
+  pub grain-some : 1 ≤ m .grain
+  pub grain-fits : m .grain ≤ timeMost
+  pub costs : SizedCosts c
+  pub few : n ≤ tasksMost
+  pub faultless : firstFault [] (take n ts) ≡ 0
+  pub timed : Each (λ t. Sized (wholePiece (t .times))) (take n ts)
+
+pub state-sane : (m : Machine) (c : Costs) (n : ℕ) (ts : List Task) → stateFault m c n ts ≡ 0 → Sane m c n ts
+unfolding stateFault sizedMachine
+state-sane m c n ts e =
+    let a = rule-fine (sizedMachine m) 0 (rule (sizedCosts c) 2 (rule (leb n tasksMost) 6 (firstFault [] (take n ts)))) e in
+    let b = rule-fine (sizedCosts c) 1 (rule (leb n tasksMost) 6 (firstFault [] (take n ts))) (a .1) in
+    let d = rule-fine (leb n tasksMost) 5 (firstFault [] (take n ts)) (b .1) in
+    let x = both-true (leb 1 (m .cores) && leb (m .cores) coresMost && leb 1 (m .grain)) (leb (m .grain) timeMost) (a .0) in
+    let y = both-true (leb 1 (m .cores) && leb (m .cores) coresMost) (leb 1 (m .grain)) (x .0) in
+    let z = both-true (leb 1 (m .cores)) (leb (m .cores) coresMost) (y .0) in
+    record {
+      cores-some = leb-true 1 (m .cores) (z .0);
+      cores-fit = leb-true (m .cores) coresMost (z .1);
+      grain-some = leb-true 1 (m .grain) (y .1);
+      grain-fits = leb-true (m .grain) timeMost (x .1);
+      costs = sized-costs-true c (b .0);
+      few = leb-true n tasksMost (d .0);
+      faultless = d .1;
+      timed = faults-timed [] (take n ts) (d .1);
+    }
