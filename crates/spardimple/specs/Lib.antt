@@ -1,0 +1,4 @@
+-- What the contracts of `spardimple` cite.
+pub mod Bytes
+pub mod Runs
+pub mod Numbers
