@@ -9,4 +9,5 @@ pub mod RunLaws
 pub mod BusyLaws
 pub mod VerdictLaws
 pub mod Judgement
+pub mod AnswerLaws
 pub mod Cases

@@ -1,3 +1,4 @@
 -- Laws that belong to no one function.
 pub mod HoldingLaws
 pub mod ByteLaws
+pub mod NumberLaws
