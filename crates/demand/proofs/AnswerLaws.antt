@@ -5,11 +5,11 @@
 --   overloaded-within     an overloaded length is below the busy length limit and a window
 --   first-bad-within      a bad record's place is among the records' places
 --   answer-carries        so no answer carries more than the longest length
-use mathlib.Core.Path.{_≡_, refl, sym, ap, subst, _∙_}
+use mathlib.Core.Path.{_≡_, refl}
 use mathlib.Core.Bool.{Bool, true, false, cond}
 use mathlib.Core.List.{List, [], _∷_}
 use mathlib.Core.Logic.{_⊎_}
-use Prim.Native.Nat.{ℕ, zero, suc, min, _+_, _≤_, _<_}
+use Prim.Native.Nat.{ℕ, zero, suc, _+_, _≤_}
 use native.Mathlib.Omega.{arith}
 use borrow.Author.Tests.{leb-true}
 use lib.Dec.{leb}
@@ -27,7 +27,7 @@ use Rattle.demand.specs.declared.Answer.{Answer}
 use Rattle.demand.specs.declared.Answer.the-variants.{Judged, Refused}
 use Rattle.demand.specs.Sizes.{timeMost, runMost, lengthMost, Sized, Each, sized, sizedCosts}
 use Rattle.demand.specs.Charge.{charged, coreOf}
-use Rattle.demand.specs.Demand.{jobsDue, Live}
+use Rattle.demand.specs.Demand.{Live}
 use Rattle.demand.specs.Busy.{Least}
 use Rattle.demand.specs.Verdict.{verdictOf}
 use Rattle.demand.specs.Answer.{firstBad, badRecord, checkRun, answerOf, told}

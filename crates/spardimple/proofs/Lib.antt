@@ -2,3 +2,4 @@
 pub mod HoldingLaws
 pub mod ByteLaws
 pub mod NumberLaws
+pub mod Agreement

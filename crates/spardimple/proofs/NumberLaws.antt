@@ -7,7 +7,7 @@
 --   reply-carries         every reply to lent bytes carries less than 2^32
 --   verdict-number-one    any two lent pairs with one number have one reply
 --   reply-records, reply-costs, reply-formed      8 first, then what is said of the records
-use mathlib.Core.Path.{_≡_, refl, sym, ap, subst, _∙_}
+use mathlib.Core.Path.{_≡_, refl, sym, ap, _∙_}
 use mathlib.Core.Bool.{Bool, true, false, cond}
 use mathlib.Core.List.{List}
 use Prim.Native.Nat.{ℕ, _+_, _*_, _/_, _%_, _^_, _<_}
@@ -18,7 +18,7 @@ use lib.ListN.{length}
 use Rattle.demand.specs.declared.Verdict.the-variants.{Passes, Overloaded, Undecided}
 use Rattle.demand.specs.declared.Refusal.the-variants.{TooMany, BadCosts, BadRecord}
 use Rattle.demand.specs.declared.Answer.the-variants.{Judged, Refused}
-use Rattle.demand.specs.Answer.{Told, answerOf, told}
+use Rattle.demand.specs.Answer.{answerOf}
 use Rattle.demand.proofs.AnswerLaws.{answer-carries}
 use Rattle.spardimple.specs.Bytes.{piecesOf, costsOf}
 use Rattle.spardimple.specs.Numbers.{number, Reply, toldReply, formed, replyOf, verdictNumber}

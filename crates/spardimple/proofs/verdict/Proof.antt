@@ -62,7 +62,7 @@ returns-3 c =
     let cs = c .before .before .before .before .before .before .before .before .args .costs .now in
     let run = c .before .before .before .read-run .result in
     let answer : c .before .judge .result ≡ answerOf (costsOf cs) (length (piecesOf rs)) (piecesOf rs) =
-        c .before .judge .ensures ∙ (ap (λ (k : Costs). answerOf k (run .count) (run .pieces)) (c .before .before .read-costs .ensures) ∙ holding-answer (piecesOf rs) (costsOf cs) run (c .before .before .before .read-run .ensures)) in
+    c .before .judge .ensures ∙ (ap (λ (k : Costs). answerOf k (run .count) (run .pieces)) (c .before .before .read-costs .ensures) ∙ holding-answer (piecesOf rs) (costsOf cs) run (c .before .before .before .read-run .ensures)) in
     c .number-of .ensures ∙ (ap (λ (a : Answer). number (told a)) answer ∙ sym (number-reply rs cs (said (answerOf (costsOf cs) (length (piecesOf rs)) (piecesOf rs))) (reply-formed rs cs (c .before .before .before .before .before .if1 .left) (c .before .before .before .before .if2 .left))))
 
 pub verdict-spec : {M : Type 1} → statement M

@@ -3,8 +3,6 @@ use mathlib.Core.Path.{sym, _∙_}
 use native.Mathlib.Omega.{arith}
 use Rattle.spardimple.specs.Bytes.{sevenAt}
 use Rattle.spardimple.proofs.ByteLaws.{piece-named, piece-other}
-use borrow.Author.Tests.{lt-leb, le-leb}
-use Rattle.spardimple.specs.Bytes.{numberAt, pieceAt}
 use borrow.Author.Needs.{needs}
 use Rattle.spardimple.proofs.bytes.piece_at.Statement.{statement}
 use Rattle.spardimple.proofs.bytes.piece_at.Tie as tie

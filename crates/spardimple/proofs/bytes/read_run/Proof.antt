@@ -2,7 +2,7 @@
 -- what is left of the records that are read.
 use borrow.Author.Needs.{needs}
 use mathlib.Core.Path.{_≡_, refl, sym, ap, _∙_}
-use Prim.Native.Nat.{ℕ, _+_, _-_, _*_, _/_, _≤_}
+use Prim.Native.Nat.{ℕ, _-_, _≤_}
 use native.Mathlib.Omega.{arith}
 use lib.ListN.{length, take, length-set}
 use lib.Seq.{take-length}
@@ -53,17 +53,22 @@ loop-less c = search needs
 loop-again : tie.Need-loop-again Inv-loop μ-loop
 loop-again c =
     let s = c .before .before .before .before .before .before .args .s .now in
-    let lp = c .before .before .loop in
-    (search needs, length-set (lp .pieces) (lp .i) (c .piece-at .result) ∙ lp .inv .1,
-      λ few. first-put (piecesOf s) (lp .i) (lp .pieces) (c .piece-at .result) outside (omega (arith, pieces-length s)) (lp .inv .1) (c .piece-at .ensures ∙ sym (pieces-at s (lp .i) outside (omega arith))) (lp .inv .2) few)
+    let lp = c .before .before .loop in (
+      search needs,
+      length-set (lp .pieces) (lp .i) (c .piece-at .result) ∙ lp .inv .1,
+      λ few. first-put (piecesOf s) (lp .i) (lp .pieces) (c .piece-at .result) outside (omega (arith, pieces-length s)) (lp .inv .1) (c .piece-at .ensures ∙ sym (pieces-at s (lp .i) outside (omega arith))) (lp .inv .2) few,
+    )
 
 returns : tie.Need-returns Inv-loop μ-loop
 returns c =
     let s = c .before .before .before .before .before .args .s .now in
     let lp = c .before .loop in
-    record { counts = sym (pieces-length s); holds = λ few.
-      (let e : length (piecesOf s) ≡ lp .i = omega (arith, pieces-length s, c .before .before .before .room-for .ensures .2 (omega (arith, pieces-length s))) in
-      rw e (lp .inv .2 (omega arith)) ∙ (ap (λ (k : ℕ). take k (piecesOf s)) (sym e) ∙ take-length (piecesOf s))) }
+    record {
+      counts = sym (pieces-length s);
+      holds = λ few.
+          (let e : length (piecesOf s) ≡ lp .i = omega (arith, pieces-length s, c .before .before .before .room-for .ensures .2 (omega (arith, pieces-length s))) in
+          rw e (lp .inv .2 (omega arith)) ∙ (ap (λ (k : ℕ). take k (piecesOf s)) (sym e) ∙ take-length (piecesOf s)));
+    }
 
 pub read-run-spec : {M : Type 1} → statement M
 read-run-spec =
