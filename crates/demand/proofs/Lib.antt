@@ -11,4 +11,5 @@ pub mod VerdictLaws
 pub mod Judgement
 pub mod SearchLaws
 pub mod SplitLaws
+pub mod AnswerLaws
 pub mod Cases

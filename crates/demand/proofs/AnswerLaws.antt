@@ -1,0 +1,109 @@
+-- How much an answer carries: a length or a place, and each is small.
+-- Assumes nothing.
+--
+--   start-within          the judged span starts at 1,000,000 at the most
+--   overloaded-within     an overloaded length is below the busy length limit and a window
+--   first-bad-within      a bad record's place is among the records' places
+--   answer-carries        so no answer carries more than the longest length
+use mathlib.Core.Path.{_≡_, refl}
+use mathlib.Core.Bool.{Bool, true, false, cond}
+use mathlib.Core.List.{List, [], _∷_}
+use mathlib.Core.Logic.{_⊎_}
+use Prim.Native.Nat.{ℕ, zero, suc, _+_, _≤_}
+use native.Mathlib.Omega.{arith}
+use borrow.Author.Tests.{leb-true}
+use lib.Dec.{leb}
+use lib.ListN.{length, take, length-take}
+use Rattle.demand.specs.declared.Piece.{Piece}
+use Rattle.demand.specs.declared.Costs.{Costs}
+use Rattle.demand.specs.declared.Charged.{Charged}
+use Rattle.demand.specs.declared.Verdict.{Verdict}
+use Rattle.demand.specs.declared.Verdict.the-variants.{Passes, Overloaded, Undecided}
+use Rattle.demand.specs.declared.Refusal.{Refusal}
+use Rattle.demand.specs.declared.Refusal.the-variants.{TooMany, BadCosts, BadRecord}
+use Rattle.demand.specs.declared.Check.{Check}
+use Rattle.demand.specs.declared.Check.the-variants.{Fine, Bad}
+use Rattle.demand.specs.declared.Answer.{Answer}
+use Rattle.demand.specs.declared.Answer.the-variants.{Judged, Refused}
+use Rattle.demand.specs.Sizes.{timeMost, runMost, lengthMost, Sized, Each, sized, sizedCosts}
+use Rattle.demand.specs.Charge.{charged, coreOf}
+use Rattle.demand.specs.Demand.{Live}
+use Rattle.demand.specs.Busy.{Least}
+use Rattle.demand.specs.Verdict.{verdictOf}
+use Rattle.demand.specs.Answer.{firstBad, badRecord, checkRun, answerOf, told}
+use Rattle.demand.proofs.DemandLaws.{jobs-due-some}
+use Rattle.demand.proofs.BusyLaws.{least-le}
+use Rattle.demand.proofs.RunLaws.{check-taken, answer-fine, answer-bad}
+use Rattle.demand.proofs.Judgement.{overloaded-worst}
+
+-- ---- an overloaded length
+
+-- the first piece has a job due where its window ends
+first-live : (q : Charged) (qs : List Charged) → Live (q ∷ qs) (q .window)
+unfolding Live
+first-live q qs = _⊎_.inl (omega (arith, jobs-due-some q (q .window) (omega arith)))
+
+none-starts : (t : ℕ) → Live [] t → ⊥
+unfolding Live
+none-starts t live = live
+
+pub start-within : (c : Costs) (ps : List Piece) → Each Sized ps → (t₀ : ℕ) → Least (Live (coreOf c ps)) t₀ → t₀ ≤ timeMost
+unfolding coreOf charged
+start-within c [] sizes t₀ start = absurd (none-starts t₀ (start .here))
+start-within c (p ∷ ps) sizes t₀ start = omega (arith, least-le start (p .window) (first-live (charged c p) (coreOf c ps)), sizes .0 .window-fits, sizes .0 .period-fits)
+
+pub overloaded-within : (c : Costs) (ps : List Piece) → Each Sized ps → (t : ℕ) → verdictOf c ps ≡ Overloaded t → t ≤ lengthMost
+overloaded-within c ps sizes t e =
+    let span = overloaded-worst c ps sizes t e in
+    omega (arith, start-within c ps sizes (span .0) (span .2 .start), span .2 .within, span .3 .below)
+
+-- ---- a record's place
+
+pub first-bad-within : (k : ℕ) (ps : List Piece) → firstBad k ps ≤ k + length ps
+first-bad-within k [] = omega arith
+first-bad-within k (p ∷ ps) = look (sized p) (first-bad-within (k + 1) ps)
+  where
+    look : (b : Bool) → firstBad (k + 1) ps ≤ k + 1 + length ps → cond b (firstBad (k + 1) ps) k ≤ k + length (p ∷ ps)
+    look true more = omega arith
+    look false more = omega arith
+
+bad-record-is : (k m : ℕ) → badRecord m ≡ Bad (BadRecord k) → k ≡ m
+bad-record-is k zero e = let z : _≡_ {A = ℕ} 0 1 = cc in absurd (omega arith)
+bad-record-is k (suc m) e = cc
+
+bad-within : (c : Costs) (n : ℕ) (ps : List Piece) (k : ℕ) → checkRun c n ps ≡ Bad (BadRecord k) → k ≤ lengthMost
+unfolding checkRun
+bad-within c n ps k e = few (leb n runMost) refl e
+  where
+    place : n ≤ runMost → badRecord (firstBad 1 (take n ps)) ≡ Bad (BadRecord k) → k ≤ lengthMost
+    place h f = omega (arith, bad-record-is k (firstBad 1 (take n ps)) f, first-bad-within 1 (take n ps), length-take n ps)
+
+    fine : (b : Bool) → n ≤ runMost → cond b (badRecord (firstBad 1 (take n ps))) (Bad BadCosts) ≡ Bad (BadRecord k) → k ≤ lengthMost
+    fine true h f = place h f
+    fine false h f = let z : _≡_ {A = ℕ} 0 1 = cc in absurd (omega arith)
+
+    few : (b : Bool) → leb n runMost ≡ b → cond b (cond (sizedCosts c) (badRecord (firstBad 1 (take n ps))) (Bad BadCosts)) (Bad TooMany) ≡ Bad (BadRecord k) → k ≤ lengthMost
+    few true h f = fine (sizedCosts c) (leb-true n runMost h) f
+    few false h f = let z : _≡_ {A = ℕ} 0 1 = cc in absurd (omega arith)
+
+-- ---- an answer
+
+pub answer-carries : (c : Costs) (n : ℕ) (ps : List Piece) → told (answerOf c n ps) .carries ≤ lengthMost
+answer-carries c n ps = look (checkRun c n ps) refl
+  where
+    when : (a : Answer) → answerOf c n ps ≡ a → told a .carries ≤ lengthMost → told (answerOf c n ps) .carries ≤ lengthMost
+    when a e fits = rw e fits
+
+    judged : Each Sized (take n ps) → (v : Verdict) → verdictOf c (take n ps) ≡ v → told (Judged v) .carries ≤ lengthMost
+    judged sizes Passes e = omega arith
+    judged sizes (Overloaded t) e = overloaded-within c (take n ps) sizes t e
+    judged sizes Undecided e = omega arith
+
+    refused : (r : Refusal) → checkRun c n ps ≡ Bad r → told (Refused r) .carries ≤ lengthMost
+    refused TooMany e = omega arith
+    refused BadCosts e = omega arith
+    refused (BadRecord k) e = bad-within c n ps k e
+
+    look : (k : Check) → checkRun c n ps ≡ k → told (answerOf c n ps) .carries ≤ lengthMost
+    look Fine e = when (Judged (verdictOf c (take n ps))) (answer-fine c n ps e) (judged (check-taken c n ps e .each) (verdictOf c (take n ps)) refl)
+    look (Bad r) e = when (Refused r) (answer-bad c n ps r e) (refused r e)

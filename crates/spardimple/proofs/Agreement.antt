@@ -1,0 +1,136 @@
+-- Both forms of the verdict agree: bytes that spell records and costs have the number of what is answered for these.
+-- Assumes nothing.
+--
+--   spell-at              the number at a place of spelt bytes
+--   pieces-spelt          records that are spelt are read back
+--   costs-spelt           and so are costs
+--   read-agree            whatever the bytes spell, the number is that of the answer for it
+--   forms-agree           records and costs of four-byte numbers, spelt: the number of `judge_lent`'s answer for them
+use mathlib.Core.Path.{_≡_, refl, ap, _∙_}
+use mathlib.Core.List.{List, [], _∷_, _++_}
+use Prim.Native.Nat.{ℕ, zero, suc, _+_, _*_, _/_, _%_, _≤_, _<_}
+use native.Mathlib.Nat.{suc-add, not-suc-le-zero, le-of-suc-le-suc}
+use native.Mathlib.Omega.{arith}
+use lib.ListN.{length, take, getD, List·getD-append}
+use lib.Seq.{take-suc, take-length, getD-append-add}
+use Rattle.demand.specs.declared.Kind.{Kind}
+use Rattle.demand.specs.declared.Kind.the-variants.{Whole, First, Last}
+use Rattle.demand.specs.declared.Piece.{Piece}
+use Rattle.demand.specs.declared.Costs.{Costs}
+use Rattle.demand.specs.Sizes.{Each}
+use Rattle.demand.specs.Answer.{answerOf, told}
+use Rattle.spardimple.specs.Bytes.{numberAt, kindNamed, outside, sevenAt, pieceAt, firstPieces, piecesOf, costsOf}
+use Rattle.spardimple.specs.Numbers.{number, verdictNumber}
+use Rattle.spardimple.specs.Numbers.Reply.{said}
+use Rattle.spardimple.specs.Spelling.{fourBytes, kindNumber, sevenNumbers, runNumbers, nineNumbers, spell, Narrow}
+use Rattle.spardimple.proofs.ByteLaws.{piece-named}
+use Rattle.spardimple.proofs.NumberLaws.{reply-formed, number-reply}
+
+-- ---- numbers
+
+spell-length : (ns : List ℕ) → length (spell ns) ≡ 4 * length ns
+spell-length [] = refl
+spell-length (n ∷ ns) = omega (arith, spell-length ns)
+
+four-sum : (a b c d : ℕ) {k l m n : ℕ} → a + 256 * k ≡ n → b + 256 * l ≡ k → c + 256 * m ≡ l → d ≡ m → a + 256 * b + 65536 * c + 16777216 * d ≡ n
+four-sum a b c d {k} {l} {m} {n} lowest second third fourth = omega arith
+
+four-read : (n : ℕ) (s : List ℕ) → Narrow n → numberAt (fourBytes n ++ s) 0 ≡ n
+four-read n s narrow =
+    let lowest : n % 256 + 256 * (n / 256) ≡ n = omega arith in
+    let second : n / 256 % 256 + 256 * (n / 65536) ≡ n / 256 = omega arith in
+    let third : n / 65536 % 256 + 256 * (n / 16777216) ≡ n / 65536 = omega arith in
+    let fourth : n / 16777216 % 256 ≡ n / 16777216 = omega arith in
+    four-sum (n % 256) (n / 256 % 256) (n / 65536 % 256) (n / 16777216 % 256) lowest second third fourth
+
+four-skip : (n k : ℕ) (s : List ℕ) → numberAt (fourBytes n ++ s) (suc (suc (suc (suc k)))) ≡ numberAt s k
+four-skip n k s = simp (suc-add)
+
+pub spell-at : (ns : List ℕ) → Each Narrow ns → (i : ℕ) → i < length ns → numberAt (spell ns) (4 * i) ≡ getD ns i 0
+spell-at [] narrow i h = absurd (not-suc-le-zero h)
+spell-at (n ∷ ns) narrow zero h = four-read n (spell ns) (narrow .0)
+spell-at (n ∷ ns) narrow (suc i) h =
+    let e : 4 * suc i ≡ suc (suc (suc (suc (4 * i)))) = omega arith in
+    ap (λ (k : ℕ). numberAt (spell (n ∷ ns)) k) e ∙ (four-skip n (4 * i) (spell ns) ∙ spell-at ns (narrow .1) i (le-of-suc-le-suc h))
+
+-- ---- records
+
+run-length : (ps : List Piece) → length (runNumbers ps) ≡ 7 * length ps
+run-length [] = refl
+run-length (p ∷ ps) = omega (arith, run-length ps)
+
+run-bytes : (ps : List Piece) → length (spell (runNumbers ps)) ≡ 28 * length ps
+run-bytes ps = omega (arith, spell-length (runNumbers ps), run-length ps)
+
+-- the number at the place f of the record j
+run-at : (ps : List Piece) (j f : ℕ) (d : Piece) → j < length ps → f < 7 → getD (runNumbers ps) (7 * j + f) 0 ≡ getD (sevenNumbers (getD ps j d)) f 0
+run-at [] j f d h k = absurd (not-suc-le-zero h)
+run-at (p ∷ ps) zero f d h k =
+    let e : 7 * 0 + f ≡ f = omega arith in
+    ap (λ (i : ℕ). getD (runNumbers (p ∷ ps)) i 0) e ∙ List·getD-append (sevenNumbers p) (runNumbers ps) 0 f k
+run-at (p ∷ ps) (suc j) f d h k =
+    let e : 7 * suc j + f ≡ 7 + (7 * j + f) = omega arith in
+    ap (λ (i : ℕ). getD (runNumbers (p ∷ ps)) i 0) e ∙ (getD-append-add (sevenNumbers p) (runNumbers ps) (7 * j + f) 0 ∙ run-at ps j f d (le-of-suc-le-suc h) k)
+
+kind-read : (k : Kind) → kindNamed (kindNumber k) ≡ k
+kind-read Whole = refl
+kind-read First = refl
+kind-read Last = refl
+
+kind-narrow : (k : Kind) → kindNumber k ≤ 2
+kind-narrow Whole = omega arith
+kind-narrow First = omega arith
+kind-narrow Last = omega arith
+
+module _ (ps : List Piece) (narrow : Each Narrow (runNumbers ps)) where
+  field-at : (j f at : ℕ) → j < length ps → f < 7 → at ≡ 4 * (7 * j + f) → numberAt (spell (runNumbers ps)) at ≡ getD (sevenNumbers (getD ps j outside)) f 0
+  field-at j f at h k e = ap (λ (i : ℕ). numberAt (spell (runNumbers ps)) i) e ∙ (spell-at (runNumbers ps) narrow (7 * j + f) (omega (arith, run-length ps)) ∙ run-at ps j f outside h k)
+
+  piece-spelt : (j : ℕ) → j < length ps → pieceAt (spell (runNumbers ps)) (28 * j) ≡ getD ps j outside
+  unfolding sevenAt
+  piece-spelt j h =
+      let kind = field-at j 0 (28 * j) h (omega arith) (omega arith) in
+      piece-named (spell (runNumbers ps)) (28 * j) (omega (arith, kind, kind-narrow (getD ps j outside .kind)))
+      ∙ λ i. record {
+        kind = (ap kindNamed kind ∙ kind-read (getD ps j outside .kind)) i;
+        budget = field-at j 1 (28 * j + 4) h (omega arith) (omega arith) i;
+        window = field-at j 2 (28 * j + 8) h (omega arith) (omega arith) i;
+        period = field-at j 3 (28 * j + 12) h (omega arith) (omega arith) i;
+        jitter = field-at j 4 (28 * j + 16) h (omega arith) (omega arith) i;
+        preempt = field-at j 5 (28 * j + 20) h (omega arith) (omega arith) i;
+        migrate = field-at j 6 (28 * j + 24) h (omega arith) (omega arith) i;
+      }
+
+  first-spelt : (n : ℕ) → n ≤ length ps → firstPieces (spell (runNumbers ps)) n ≡ take n ps
+  first-spelt zero h = refl
+  first-spelt (suc n) h = rw (first-spelt n (omega arith), piece-spelt n h, take-suc ps n outside h)
+
+  pub pieces-spelt : piecesOf (spell (runNumbers ps)) ≡ ps
+  unfolding piecesOf
+  pieces-spelt =
+      let all : length (spell (runNumbers ps)) / 28 ≡ length ps = omega (arith, run-bytes ps) in
+      ap (firstPieces (spell (runNumbers ps))) all ∙ (first-spelt (length ps) (omega arith) ∙ take-length ps)
+
+-- ---- costs
+
+pub costs-spelt : (c : Costs) → Each Narrow (nineNumbers c) → costsOf (spell (nineNumbers c)) ≡ c
+unfolding costsOf
+costs-spelt c narrow = λ i. record {
+  relo = spell-at (nineNumbers c) narrow 0 (omega arith) i;
+  schedo = spell-at (nineNumbers c) narrow 1 (omega arith) i;
+  tseto = spell-at (nineNumbers c) narrow 2 (omega arith) i;
+  ipb = spell-at (nineNumbers c) narrow 3 (omega arith) i;
+  beto = spell-at (nineNumbers c) narrow 4 (omega arith) i;
+  migro = spell-at (nineNumbers c) narrow 5 (omega arith) i;
+  ipio = spell-at (nineNumbers c) narrow 6 (omega arith) i;
+  ipij = spell-at (nineNumbers c) narrow 7 (omega arith) i;
+  precision = spell-at (nineNumbers c) narrow 8 (omega arith) i;
+}
+
+-- ---- both forms
+
+pub read-agree : (rs cs : List ℕ) (ps : List Piece) (c : Costs) → length rs % 28 ≡ 0 → length cs ≡ 36 → piecesOf rs ≡ ps → costsOf cs ≡ c → verdictNumber rs cs ≡ number (told (answerOf c (length ps) ps))
+read-agree rs cs ps c whole nine pieces costs = number-reply rs cs (said (answerOf c (length ps) ps)) (reply-formed rs cs whole nine ∙ λ i. said (answerOf (costs i) (length (pieces i)) (pieces i)))
+
+pub forms-agree : (ps : List Piece) (c : Costs) → Each Narrow (runNumbers ps) → Each Narrow (nineNumbers c) → verdictNumber (spell (runNumbers ps)) (spell (nineNumbers c)) ≡ number (told (answerOf c (length ps) ps))
+forms-agree ps c narrow small = read-agree (spell (runNumbers ps)) (spell (nineNumbers c)) ps c (omega (arith, run-bytes ps)) refl (pieces-spelt ps narrow) (costs-spelt c small)

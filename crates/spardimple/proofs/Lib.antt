@@ -1,0 +1,5 @@
+-- Laws that belong to no one function.
+pub mod HoldingLaws
+pub mod ByteLaws
+pub mod NumberLaws
+pub mod Agreement

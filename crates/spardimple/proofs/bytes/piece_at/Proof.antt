@@ -1,0 +1,87 @@
+-- `bytes::piece_at` meets its contract: the kind's number is tested first, and the other six stand behind it.
+use mathlib.Core.Path.{sym, _∙_}
+use native.Mathlib.Omega.{arith}
+use Rattle.spardimple.specs.Bytes.{sevenAt}
+use Rattle.spardimple.proofs.ByteLaws.{piece-named, piece-other}
+use borrow.Author.Needs.{needs}
+use Rattle.spardimple.proofs.bytes.piece_at.Statement.{statement}
+use Rattle.spardimple.proofs.bytes.piece_at.Tie as tie
+use Rattle.spardimple.proofs.bytes.piece_at.Reads as reads
+use Rattle.spardimple.proofs.bytes.piece_at.Lts as lts
+use Rattle.spardimple.proofs.bytes.kind_named.Reads as kind-named-reads
+use Rattle.spardimple.proofs.bytes.number_at.Reads as number-at-reads
+use Rattle.spardimple.proofs.runs.nothing.Reads as nothing-reads
+
+number-at-requires : tie.Need-number-at-requires
+number-at-requires c κs = search needs
+
+nothing-requires : tie.Need-nothing-requires
+nothing-requires c κs = search needs
+
+returns : tie.Need-returns
+returns c = c .nothing .ensures ∙ sym (piece-other (c .before .before .before .before .args .s .now) (c .before .before .before .before .args .at) (omega arith))
+
+kind-named-requires : tie.Need-kind-named-requires
+kind-named-requires c κs = search needs
+
+add-number-at : tie.Need-add-number-at
+add-number-at c = search needs
+
+number-at-requires-2 : tie.Need-number-at-requires-2
+number-at-requires-2 c κs = search needs
+
+add-number-at-2 : tie.Need-add-number-at-2
+add-number-at-2 c = search needs
+
+number-at-requires-3 : tie.Need-number-at-requires-3
+number-at-requires-3 c κs = search needs
+
+add-number-at-3 : tie.Need-add-number-at-3
+add-number-at-3 c = search needs
+
+number-at-requires-4 : tie.Need-number-at-requires-4
+number-at-requires-4 c κs = search needs
+
+add-number-at-4 : tie.Need-add-number-at-4
+add-number-at-4 c = search needs
+
+number-at-requires-5 : tie.Need-number-at-requires-5
+number-at-requires-5 c κs = search needs
+
+add-number-at-5 : tie.Need-add-number-at-5
+add-number-at-5 c = search needs
+
+number-at-requires-6 : tie.Need-number-at-requires-6
+number-at-requires-6 c κs = search needs
+
+add-number-at-6 : tie.Need-add-number-at-6
+add-number-at-6 c = search needs
+
+number-at-requires-7 : tie.Need-number-at-requires-7
+number-at-requires-7 c κs = search needs
+
+returns-2 : tie.Need-returns-2
+unfolding sevenAt
+returns-2 c = cc (piece-named (c .before .before .before .before .before .before .before .before .before .before .args .s .now) (c .before .before .before .before .before .before .before .before .before .before .args .at) (omega arith))
+
+pub piece-at-spec : {M : Type 1} → statement M
+piece-at-spec =
+    tie.close
+    (tie.spec
+    number-at-requires
+    nothing-requires
+    returns
+    kind-named-requires
+    add-number-at
+    number-at-requires-2
+    add-number-at-2
+    number-at-requires-3
+    add-number-at-3
+    number-at-requires-4
+    add-number-at-4
+    number-at-requires-5
+    add-number-at-5
+    number-at-requires-6
+    add-number-at-6
+    number-at-requires-7
+    returns-2)

@@ -1,0 +1,5 @@
+-- What the contracts of `spardimple` cite.
+pub mod Bytes
+pub mod Runs
+pub mod Numbers
+pub mod Spelling

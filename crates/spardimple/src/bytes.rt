@@ -1,0 +1,99 @@
+// Records and costs out of lent bytes: four bytes a number, lowest first.
+use crate::runs::nothing;
+use demand::Costs;
+use demand::Kind;
+use demand::Piece;
+use demand::Run;
+ghost use mathlib.Core.Path.{_≡_};
+ghost use Prim.Native.Nat.{_+_, _≤_, _<_};
+ghost use lib.ListN.{length};
+ghost use Rattle.spardimple.specs.Bytes.{numberAt, kindNamed, pieceAt, piecesOf, costsOf};
+ghost use Rattle.spardimple.specs.Runs.{Holding};
+
+fn wide(b: u8) -> u64
+    ensures { λ r. ⌜ (r ≡ b) × (r < 256) ⌝ }
+{
+    b as u64
+}
+
+// The number whose four bytes start at a place.
+pub fn number_at(s: &[u8], at: usize) -> u64
+    requires { ⌜ at + 4 ≤ length (now s) ⌝ }
+    ensures { λ r. ⌜ r ≡ numberAt (now (s .entry)) at ⌝ }
+{
+    wide(s[at]) + 256 * wide(s[at + 1]) + 65536 * wide(s[at + 2]) + 16777216 * wide(s[at + 3])
+}
+
+// 0, 1, 2 for whole, first, last; a greater number does not come here.
+pub fn kind_named(k: u64) -> Kind
+    ensures { λ r. ⌜ r ≡ kindNamed k ⌝ }
+{
+    match k {
+        0 => Kind::Whole,
+        1 => Kind::First,
+        _ => Kind::Last,
+    }
+}
+
+// The record whose 28 bytes start at a place.
+pub fn piece_at(s: &[u8], at: usize) -> Piece
+    requires { ⌜ at + 28 ≤ length (now s) ⌝ }
+    ensures { λ r. ⌜ r ≡ pieceAt (now (s .entry)) at ⌝ }
+{
+    let kind = number_at(s, at);
+    if 2 < kind {
+        return nothing();
+    }
+    Piece {
+        kind: kind_named(kind),
+        budget: number_at(s, at + 4),
+        window: number_at(s, at + 8),
+        period: number_at(s, at + 12),
+        jitter: number_at(s, at + 16),
+        preempt: number_at(s, at + 20),
+        migrate: number_at(s, at + 24),
+    }
+}
+
+// n, where so many records fit into a run; else none is read.
+pub fn room_for(n: usize) -> usize
+    ensures { λ r. ⌜ (r ≤ 79) × (r ≤ n) × (n ≤ 79 → r ≡ n) ⌝ }
+{
+    if n <= 79 { n } else { 0 }
+}
+
+// The run that the bytes spell.
+pub fn read_run(s: &[u8]) -> Run
+    ensures { λ r. ⌜ Holding (piecesOf (now (s .entry))) r ⌝ }
+{
+    let n = s.len() / 28;
+    let most = room_for(n);
+    let mut pieces = [nothing(); 79];
+    let mut i: usize = 0;
+    while i < most {
+        pieces[i] = piece_at(s, 28 * i);
+        i += 1;
+    }
+    Run {
+        count: n,
+        pieces: pieces,
+    }
+}
+
+// The nine costs that the bytes spell, in the sheet's order.
+pub fn read_costs(s: &[u8]) -> Costs
+    requires { ⌜ length (now s) ≡ 36 ⌝ }
+    ensures { λ r. ⌜ r ≡ costsOf (now (s .entry)) ⌝ }
+{
+    Costs {
+        relo: number_at(s, 0),
+        schedo: number_at(s, 4),
+        tseto: number_at(s, 8),
+        ipb: number_at(s, 12),
+        beto: number_at(s, 16),
+        migro: number_at(s, 20),
+        ipio: number_at(s, 24),
+        ipij: number_at(s, 28),
+        precision: number_at(s, 32),
+    }
+}

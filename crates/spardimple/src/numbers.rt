@@ -1,0 +1,34 @@
+// An answer as one number: 2^32 · which + carries.
+use demand::Answer;
+use demand::Refusal;
+use demand::Verdict;
+ghost use mathlib.Core.Path.{_≡_};
+ghost use Prim.Native.Nat.{_+_, _*_, _^_, _≤_, _<_};
+ghost use Rattle.demand.specs.Answer.{told};
+ghost use Rattle.spardimple.specs.Numbers.{number};
+
+pub fn numbered(which: u64, carries: u64) -> u64
+    requires { ⌜ (which ≤ 200) × (carries < 2 ^ 32) ⌝ }
+    ensures { λ r. ⌜ r ≡ 2 ^ 32 * which + carries ⌝ }
+{
+    4294967296 * which + carries
+}
+
+// Which answer, and what it carries.
+pub fn number_of(answer: Answer) -> u64
+    requires { ⌜ told answer .carries < 2 ^ 32 ⌝ }
+    ensures { λ r. ⌜ r ≡ number (told answer) ⌝ }
+{
+    match answer {
+        Answer::Judged(said) => match said {
+            Verdict::Passes => numbered(0, 0),
+            Verdict::Overloaded(t) => numbered(1, t),
+            Verdict::Undecided => numbered(2, 0),
+        },
+        Answer::Refused(why) => match why {
+            Refusal::TooMany => numbered(106, 0),
+            Refusal::BadCosts => numbered(102, 0),
+            Refusal::BadRecord(place) => numbered(103, place),
+        },
+    }
+}

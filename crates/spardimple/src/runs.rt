@@ -1,0 +1,59 @@
+// A lent run of piece records, copied into a `Run`.
+use demand::Kind;
+use demand::Piece;
+use demand::Run;
+ghost use mathlib.Core.Path.{_≡_};
+ghost use lib.ListN.{length, set};
+ghost use Rattle.spardimple.specs.Bytes.{outside};
+ghost use Rattle.spardimple.specs.Runs.{Holding};
+
+// A piece outside the sizes.
+pub fn nothing() -> Piece
+    ensures { λ r. ⌜ r ≡ outside ⌝ }
+{
+    Piece {
+        kind: Kind::Whole,
+        budget: 0,
+        window: 0,
+        period: 0,
+        jitter: 0,
+        preempt: 0,
+        migrate: 0,
+    }
+}
+
+// A run of n records, none of them put yet.
+pub fn empty(n: usize) -> Run
+    ensures { λ r. ⌜ (r .count ≡ n) × (length (r .pieces) ≡ 79) ⌝ }
+{
+    Run {
+        count: n,
+        pieces: [nothing(); 79],
+    }
+}
+
+// The record goes to place i; past the end nothing changes.
+pub fn put(run: Run, i: usize, piece: Piece) -> Run
+    ensures { λ r. ⌜ (r .count ≡ run .count) × (r .pieces ≡ set (run .pieces) i piece) ⌝ }
+{
+    if i < 79 {
+        let mut next = run;
+        next.pieces[i] = piece;
+        next
+    } else {
+        run
+    }
+}
+
+// The lent records as a run: a walk by hand, since no covered function goes through a slice of structs.
+pub fn gather(pieces: &[Piece]) -> Run
+    ensures { λ r. ⌜ Holding (now (pieces .entry)) r ⌝ }
+{
+    let mut run = empty(pieces.len());
+    let mut i = 0;
+    while i < pieces.len() {
+        run = put(run, i, pieces[i]);
+        i += 1;
+    }
+    run
+}
