@@ -280,7 +280,9 @@ fn damage(bytes: &mut Vec<u8>, random: &mut Random) {
     }
     let at = random.place(bytes.len());
     match random.between(1, 8) {
-        1 => drop(bytes.remove(at)),
+        1 => {
+            bytes.remove(at);
+        }
         2 => bytes.insert(at, bytes[at]),
         3 => bytes.truncate(at),
         4 => bytes[at] = random.byte(),
