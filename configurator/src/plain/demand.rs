@@ -79,8 +79,8 @@ impl Core {
             .unwrap_or(0)
     }
 
-    /// The start of the stretch of equal demand that t stands in, or a later length of it: the
-    /// greatest length up to t at which some term of the demand can step.
+    /// The greatest length up to t at which some term of the demand can step, 0 if there is none.
+    /// From there to t the demand is equal.
     ///
     /// Jobs due step at D − J + kT, releases at kT − J + 1, inter-processor interrupts at
     /// kT − `IpiJ` + 1, and blocking at the largest window.
@@ -115,21 +115,24 @@ impl Core {
     }
 
     /// The busy length L, if there is one up to the limit.
-    ///
-    /// The climb from 1: where the sum at a length is above it, no length below that sum is L
-    /// either, since the sum doesn't fall as the length grows.
     #[must_use]
     pub fn busy_length(&self) -> Option<u64> {
-        let mut length = 1;
-        while length <= BUSY_MOST {
-            let sum = self.busy_sum(length);
-            if sum <= length {
-                return Some(length);
-            }
-            length = sum;
-        }
-        None
+        climb(|length| self.busy_sum(length), BUSY_MOST)
     }
+}
+
+/// The least t from 1 up to `most` with f(t) ≤ t, where f doesn't fall as t grows: where f(t) is
+/// above t, no length below f(t) will do either.
+pub fn climb(f: impl Fn(u64) -> u64, most: u64) -> Option<u64> {
+    let mut t = 1;
+    while t <= most {
+        let next = f(t);
+        if next <= t {
+            return Some(t);
+        }
+        t = next;
+    }
+    None
 }
 
 /// The jobs due n(t) of a piece: none while t + J is short of the window, then floor plus one.

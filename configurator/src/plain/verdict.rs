@@ -13,6 +13,26 @@ pub enum Verdict {
     Undecided,
 }
 
+/// How much the oracle looks at. Both ways give the same answers; tests say so in small.
+#[derive(Clone, Copy, Debug, PartialEq, Eq)]
+pub enum Way {
+    /// Every length, by the words of document 01.
+    EveryLength,
+    /// One length of each stretch of equal demand, for longer spans.
+    Stretches,
+}
+
+impl Way {
+    /// The verdict, this way.
+    #[must_use]
+    pub fn verdict(self, core: &Core) -> Verdict {
+        match self {
+            Way::EveryLength => by_every_length(core),
+            Way::Stretches => by_stretches(core),
+        }
+    }
+}
+
 /// The verdict by its words: it looks at every length of the span, from the top.
 ///
 /// ```

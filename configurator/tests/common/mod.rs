@@ -4,6 +4,7 @@
 
 pub mod compare;
 pub mod cores;
+pub mod sheets;
 
 use std::env;
 use std::fs;
