@@ -1,0 +1,235 @@
+//! What the library's numbers mean. An answer is `2^32 · which + detail`, and this file is the one
+//! place that takes it apart.
+//!
+//! | which | answer | detail |
+//! |---|---|---|
+//! | 0 | passes | 0 |
+//! | 1 | overloaded | the length |
+//! | 2 | undecided | 0 |
+//! | 100 + N | refusal N | what it carries |
+
+use std::error::Error;
+use std::fmt;
+
+/// The answer to a verdict on lent records: document 01, "Verdict on a core".
+#[derive(Clone, Copy, Debug, PartialEq, Eq)]
+pub enum Answer {
+    /// Every live length is good, without end.
+    Passes,
+    /// The greatest length of the judged span at which the demand is above the length. It can be 0.
+    Overloaded(u64),
+    /// No busy length up to the limit.
+    Undecided,
+    /// The records or the costs break a rule.
+    Refused(Refusal),
+}
+
+impl Answer {
+    /// The answer that a number of the library stands for.
+    ///
+    /// # Errors
+    ///
+    /// [`UnknownNumber`] if it stands for none.
+    ///
+    /// ```
+    /// use configurator::{Answer, Refusal, UnknownNumber};
+    ///
+    /// assert_eq!(Answer::decode(0), Ok(Answer::Passes));
+    /// assert_eq!(Answer::decode((1 << 32) + 9), Ok(Answer::Overloaded(9)));
+    /// assert_eq!(Answer::decode(2 << 32), Ok(Answer::Undecided));
+    /// assert_eq!(Answer::decode((103 << 32) + 2), Ok(Answer::Refused(Refusal::new(3, 2))));
+    /// assert_eq!(Answer::decode(7), Err(UnknownNumber(7)));
+    /// ```
+    pub fn decode(number: u64) -> Result<Self, UnknownNumber> {
+        let (which, detail) = halves(number);
+        match (which, detail) {
+            (0, 0) => Ok(Answer::Passes),
+            (1, length) => Ok(Answer::Overloaded(u64::from(length))),
+            (2, 0) => Ok(Answer::Undecided),
+            _ => Refusal::decode(number).map(Answer::Refused),
+        }
+    }
+}
+
+impl fmt::Display for Answer {
+    /// A sentence for people; a refusal's place is a record's.
+    fn fmt(&self, f: &mut fmt::Formatter<'_>) -> fmt::Result {
+        match self {
+            Answer::Passes => write!(f, "passes: every job on this core is done in time"),
+            Answer::Overloaded(length) => write!(
+                f,
+                "overloaded at {length}: within {length} ticks more work is due than fits"
+            ),
+            Answer::Undecided => write!(
+                f,
+                "undecided: the work on this core has no end within 100,000,000 ticks"
+            ),
+            Answer::Refused(refusal) => refusal.write(f, "record"),
+        }
+    }
+}
+
+/// Why the planner refused, by document 01's number, with what the refusal carries.
+///
+/// ```
+/// use configurator::Refusal;
+///
+/// assert_eq!(Refusal::new(7, 3).to_string(), "refused (7): no core has room for task 3");
+/// assert_eq!(Refusal::new(4, 9).to_string(), "refused (4) at line 9: that name is already taken");
+/// ```
+#[derive(Clone, Copy, Debug, PartialEq, Eq)]
+pub struct Refusal {
+    number: u8,
+    carries: u32,
+}
+
+impl Refusal {
+    /// The greatest refusal number of document 01.
+    pub const MOST: u8 = 10;
+
+    /// The refusal of that number, with what it carries.
+    #[must_use]
+    pub const fn new(number: u8, carries: u32) -> Self {
+        Refusal { number, carries }
+    }
+
+    /// The refusal that a number of the library stands for.
+    ///
+    /// # Errors
+    ///
+    /// [`UnknownNumber`] if it stands for none.
+    ///
+    /// ```
+    /// use configurator::{Refusal, UnknownNumber};
+    ///
+    /// assert_eq!(Refusal::decode((107 << 32) + 3), Ok(Refusal::new(7, 3)));
+    /// assert_eq!(Refusal::decode(100 << 32), Err(UnknownNumber(100 << 32)));
+    /// assert_eq!(Refusal::decode(111 << 32), Err(UnknownNumber(111 << 32)));
+    /// ```
+    pub fn decode(number: u64) -> Result<Self, UnknownNumber> {
+        let (which, carries) = halves(number);
+        (1..=Self::MOST)
+            .find(|&refusal| which == 100 + u32::from(refusal))
+            .map(|refusal| Refusal::new(refusal, carries))
+            .ok_or(UnknownNumber(number))
+    }
+
+    /// Document 01's number.
+    #[must_use]
+    pub const fn number(self) -> u8 {
+        self.number
+    }
+
+    /// What it carries: a line, a record's or a task's place from 1, a length, or 0 for nothing.
+    #[must_use]
+    pub const fn carries(self) -> u32 {
+        self.carries
+    }
+
+    /// The sentence for people, where a place that a rule is broken at is a `place`.
+    fn write(self, f: &mut fmt::Formatter<'_>, place: &str) -> fmt::Result {
+        write!(f, "refused ({})", self.number)?;
+        let at_a_place = matches!(self.number, 1..=6 | 8);
+        if at_a_place && self.carries > 0 {
+            write!(f, " at {place} {}", self.carries)?;
+        }
+        match self.number {
+            1 => write!(f, ": the cores must be 1 to 16 and the grain 1 to 1,000,000"),
+            2 => write!(f, ": a cost must be at most 100,000"),
+            3 => write!(
+                f,
+                ": a time must be at most 1,000,000, a cache charge at most 100,000, and 1 ≤ C ≤ D ≤ T"
+            ),
+            4 => write!(f, ": that name is already taken"),
+            5 => write!(f, ": there is no part or task of that name"),
+            6 => write!(f, ": one too many; at most 64 parts, 64 tasks, 79 records"),
+            7 => write!(f, ": no core has room for task {}", self.carries),
+            8 => write!(f, ": not formed as it should be, or cut short"),
+            9 => write!(f, ": the sheet is longer than 16,384 bytes"),
+            10 => write!(f, ": the listing needs {} bytes", self.carries),
+            _ => write!(f, ": a rule that this program does not know"),
+        }
+    }
+}
+
+impl fmt::Display for Refusal {
+    /// A sentence for people; the place is a sheet's line.
+    fn fmt(&self, f: &mut fmt::Formatter<'_>) -> fmt::Result {
+        self.write(f, "line")
+    }
+}
+
+/// A number that stands for no answer.
+#[derive(Clone, Copy, Debug, PartialEq, Eq)]
+pub struct UnknownNumber(
+    /// The number as the library gave it back.
+    pub u64,
+);
+
+impl fmt::Display for UnknownNumber {
+    fn fmt(&self, f: &mut fmt::Formatter<'_>) -> fmt::Result {
+        write!(f, "the library gave back {}, which is no answer", self.0)
+    }
+}
+
+impl Error for UnknownNumber {}
+
+/// `which` and `detail` of a number: its upper and lower 32 bits.
+fn halves(number: u64) -> (u32, u32) {
+    let [b0, b1, b2, b3, b4, b5, b6, b7] = number.to_le_bytes();
+    (
+        u32::from_le_bytes([b4, b5, b6, b7]),
+        u32::from_le_bytes([b0, b1, b2, b3]),
+    )
+}
+
+#[cfg(test)]
+mod tests {
+    use super::*;
+
+    /// The number of an answer, the other way round.
+    fn encode(which: u64, detail: u32) -> u64 {
+        which * (1 << 32) + u64::from(detail)
+    }
+
+    #[test]
+    fn every_which_is_decoded_or_unknown() {
+        for which in 0..300 {
+            for detail in [0, 1, 79, u32::MAX] {
+                let number = encode(which, detail);
+                let expected = match (which, detail) {
+                    (0, 0) => Ok(Answer::Passes),
+                    (1, length) => Ok(Answer::Overloaded(u64::from(length))),
+                    (2, 0) => Ok(Answer::Undecided),
+                    (101..=110, carries) => {
+                        let refusal = u8::try_from(which - 100).unwrap();
+                        Ok(Answer::Refused(Refusal::new(refusal, carries)))
+                    }
+                    _ => Err(UnknownNumber(number)),
+                };
+                assert_eq!(Answer::decode(number), expected, "{which} {detail}");
+            }
+        }
+        assert_eq!(Answer::decode(u64::MAX), Err(UnknownNumber(u64::MAX)));
+    }
+
+    #[test]
+    fn sentences_name_the_place() {
+        assert_eq!(
+            Answer::Refused(Refusal::new(3, 2)).to_string(),
+            "refused (3) at record 2: a time must be at most 1,000,000, a cache charge at most 100,000, and 1 ≤ C ≤ D ≤ T"
+        );
+        assert_eq!(
+            Refusal::new(8, 1).to_string(),
+            "refused (8) at line 1: not formed as it should be, or cut short"
+        );
+        assert_eq!(
+            Refusal::new(10, 120).to_string(),
+            "refused (10): the listing needs 120 bytes"
+        );
+        assert_eq!(
+            Answer::Overloaded(0).to_string(),
+            "overloaded at 0: within 0 ticks more work is due than fits"
+        );
+    }
+}

@@ -1,0 +1,24 @@
+//! The oracle: document 01 done the naive way, for tests to compare the library with.
+//!
+//! It is written from document 01 alone and never calls the library. Clarity goes before speed:
+//! the verdict looks at every length of the judged span, and the walk tries every x from above.
+//!
+//! - [`piece`]: sizes, costs, a piece and its charge.
+//! - [`demand`]: jobs due, interrupts, blocking, demand, busy length.
+//! - [`verdict`]: the verdict on a core.
+//! - [`records`]: the verdict on a lent run of records, given as bytes.
+//! - [`task`]: names, times, tasks, the machine.
+//! - [`sheet`]: reading a timing sheet.
+//! - [`walk`]: packing order, split and the C=D walk.
+//! - [`listing`]: a plan as text.
+//! - [`desk`]: the three edits, and scripts of them.
+
+pub mod demand;
+pub mod desk;
+pub mod listing;
+pub mod piece;
+pub mod records;
+pub mod sheet;
+pub mod task;
+pub mod verdict;
+pub mod walk;

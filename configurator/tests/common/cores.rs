@@ -1,0 +1,133 @@
+//! Cores for the tests: by hand, at random, and as the bytes that the library is lent.
+
+use configurator::plain::demand::Core;
+use configurator::plain::piece::{Costs, Kind, Piece};
+
+use super::Random;
+
+/// Budget, window and period, as document 01 writes its examples: (x, D, T).
+pub type Times = (u64, u64, u64);
+
+/// A piece with no jitter and no cache charges.
+pub fn piece(kind: Kind, (budget, window, period): Times) -> Piece {
+    Piece {
+        kind,
+        budget,
+        window,
+        period,
+        jitter: 0,
+        preemption: 0,
+        migration: 0,
+    }
+}
+
+/// A core of whole pieces without costs.
+pub fn whole_core(pieces: &[Times]) -> Core {
+    Core {
+        costs: Costs::default(),
+        pieces: pieces
+            .iter()
+            .map(|&times| piece(Kind::Whole, times))
+            .collect(),
+    }
+}
+
+/// Numbers as lent: four bytes each, lowest first.
+pub fn lent(numbers: &[u64]) -> Vec<u8> {
+    numbers
+        .iter()
+        .flat_map(|&number| u32::try_from(number).unwrap().to_le_bytes())
+        .collect()
+}
+
+/// The numbers of a piece's record.
+pub fn record(p: &Piece) -> [u64; 7] {
+    let kind = match p.kind {
+        Kind::Whole => 0,
+        Kind::First => 1,
+        Kind::Last => 2,
+    };
+    [
+        kind,
+        p.budget,
+        p.window,
+        p.period,
+        p.jitter,
+        p.preemption,
+        p.migration,
+    ]
+}
+
+/// The records of a core as lent.
+pub fn lent_records(core: &Core) -> Vec<u8> {
+    core.pieces.iter().flat_map(|p| lent(&record(p))).collect()
+}
+
+/// The costs of a core as lent.
+pub fn lent_costs(core: &Core) -> Vec<u8> {
+    lent(&core.costs.numbers())
+}
+
+/// How random cores are drawn. About half of all jitters, charges and costs are 0 anyway.
+#[derive(Clone, Copy)]
+pub struct Draw {
+    /// The most pieces.
+    pub pieces: u64,
+    /// The longest period.
+    pub period: u64,
+    /// The most that a jitter is, in hundredths of the period.
+    pub jitter: u64,
+    /// The most that a cost or a cache charge is.
+    pub cost: u64,
+}
+
+impl Draw {
+    /// A core with up to that many pieces and a load from light to more than full.
+    pub fn core(&self, random: &mut Random) -> Core {
+        let costs = Costs::from_numbers([0; 9].map(|_: u64| self.charge(random)));
+        let count = random.between(0, self.pieces);
+        let load = random.between(30, 115);
+        let pieces = (0..count)
+            .map(|_| self.piece(count, load, &costs, random))
+            .collect();
+        Core { costs, pieces }
+    }
+
+    /// A piece for a core of that many and a load in hundredths: budget and charges take on average
+    /// its share of the period. The window is the period, or anything, or about the budget.
+    fn piece(&self, count: u64, load: u64, costs: &Costs, random: &mut Random) -> Piece {
+        let kind = random.pick(&[Kind::Whole, Kind::First, Kind::Last]);
+        let period = random.between(1, self.period);
+        let charges = 3 * (costs.schedo + costs.tseto) + costs.relo + costs.ipio;
+        let share = (2 * period * load / 100 / count).saturating_sub(charges);
+        let budget = random.between(1, share.clamp(1, period));
+        let window = match random.between(1, 3) {
+            1 => period,
+            2 => random.between(budget, period),
+            _ => random.between(budget, period.min(budget + charges + period / 8)),
+        };
+        let jitter = if random.once_in(2) {
+            0
+        } else {
+            random.between(0, period * self.jitter / 100)
+        };
+        Piece {
+            kind,
+            budget,
+            window,
+            period,
+            jitter: jitter.min(1_000_000),
+            preemption: self.charge(random),
+            migration: self.charge(random),
+        }
+    }
+
+    /// A cost or a cache charge.
+    fn charge(&self, random: &mut Random) -> u64 {
+        if random.once_in(2) {
+            0
+        } else {
+            random.between(0, self.cost)
+        }
+    }
+}
