@@ -1,8 +1,12 @@
 // The run examples of document 01, one line a case, through the proved code; `stdout` beside `src` is what must come out.
+mod plans;
 mod print;
 mod runs;
 
 use demand::Kind;
+use plans::many;
+use plans::pair;
+use plans::show_plan;
 use print::show_busy;
 use print::show_demand;
 use print::show_split;
@@ -99,10 +103,30 @@ fn splits() {
     show_split(b"bad task", free(), press, whole(6, 5, 10), 1);
 }
 
+// Plans: 001's table II, document 01's sheet, no room, splits on fifteen of sixteen cores, sixty-four tasks on one core, and what is refused before.
+fn whole_plans() {
+    show_plan(b"table II", 2, free(), many(3, 66, 100, 1), true);
+    show_plan(b"document 01's sheet", 2, free(), many(3, 6, 10, 1), true);
+    show_plan(b"the hole", 2, ipis(3, 0), pair(4, 7, 3, 6), true);
+    show_plan(b"no room", 1, free(), many(2, 6, 10, 0), true);
+    show_plan(b"sixteen cores", 16, free(), many(31, 51, 100, 0), false);
+    show_plan(b"sixty-four tasks", 1, free(), many(64, 1, 64, 0), false);
+    show_plan(b"sixty-five tasks", 1, free(), many(65, 1, 64, 0), false);
+    show_plan(b"no tasks", 3, free(), many(0, 1, 1, 0), false);
+    show_plan(
+        b"no cores",
+        0,
+        costs(0, 0, 0, 100001, 0, 0),
+        many(3, 6, 10, 1),
+        false,
+    );
+}
+
 fn main() {
     verdicts();
     figures();
     table_four();
     refusals();
     splits();
+    whole_plans();
 }

@@ -6,10 +6,12 @@
 --   putOf s p k q        one piece more, on core p
 --   none                 nothing placed
 --   layoutOn s l         each piece of l in turn
+--   tasksOn s p          the number of tasks on core p
 use mathlib.Core.Bool.{cond}
 use mathlib.Core.List.{List, [], _∷_}
 use Prim.Native.Nat.{ℕ, _+_, _*_, _^_, _<_}
-use lib.Dec.{eqb}
+use lib.Count.{ones}
+use lib.Dec.{eqb, leb}
 use lib.ListN.{set, getD, replicate}
 use lib.Bits.{bitOr}
 use Rattle.demand.specs.declared.Kind.{Kind}
@@ -61,3 +63,7 @@ none = record { count = 0; pieces = replicate 79 blank; rows = replicate 1024 0;
 abbrev pub layoutOn : Layout → List (Placed ℕ) → Layout
 layoutOn s [] = s
 layoutOn s (e ∷ l) = layoutOn (putOf s (e .on) (e .item) (e .piece)) l
+
+-- the number of tasks on a core: the ones of its word
+unfoldable pub tasksOn : Layout → ℕ → ℕ
+tasksOn s p = cond (leb 16 p) 0 (ones (getD (s .words) p 0))

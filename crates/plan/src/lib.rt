@@ -14,6 +14,7 @@ use task::Tasks;
 use task::state_fault;
 use walks::walk_over;
 ghost use mathlib.Core.Path.{_≡_};
+ghost use Rattle.plan.specs.Layout.{tasksOn};
 ghost use Rattle.plan.specs.Plan.{planOf, refused};
 
 /// A piece as the plan keeps it: its task's place, from 0, its kind's number (0 whole, 1 first, 2 last), and its figures.
@@ -134,4 +135,21 @@ pub fn plan_tasks(machine: Machine, costs: Costs, tasks: Tasks) -> Reply
         carries: 0,
         plan: plan,
     }
+}
+
+fn wide(n: u32) -> u64
+    ensures { λ r. ⌜ r ≡ n ⌝ }
+{
+    n as u64
+}
+
+/// The number of tasks on a core, counted from 0: the ones of its word, and none past the sixteenth.
+pub fn tasks_on(layout: Layout, core: usize) -> u64
+    ensures exact { λ r. ⌜ r ≡ tasksOn layout core ⌝ }
+{
+    if 16 <= core {
+        return 0;
+    }
+    let word = layout.words[core];
+    wide(u64::count_ones(word))
 }
