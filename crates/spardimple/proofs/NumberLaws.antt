@@ -3,7 +3,7 @@
 --
 --   back n                what the number n says
 --   number-back           a reply is read back from its number, where it carries less than 2^32
---   number-one            so two replies of one number are the same
+--   number-one, answer-one        so two replies of one number are the same, and two answers
 --   reply-records, reply-costs, reply-formed      8 first, then what is said of the records
 --   reply-carries         every reply to lent bytes carries less than 2^32
 --   verdict-number-one    so for any four slices one number means one reply
@@ -17,8 +17,9 @@ use lib.Dec.{eqb}
 use lib.ListN.{length}
 use Rattle.demand.specs.declared.Verdict.the-variants.{Passes, Overloaded, Undecided}
 use Rattle.demand.specs.declared.Refusal.the-variants.{TooMany, BadCosts, BadRecord}
+use Rattle.demand.specs.declared.Answer.{Answer}
 use Rattle.demand.specs.declared.Answer.the-variants.{Judged, Refused}
-use Rattle.demand.specs.Answer.{Told, answerOf}
+use Rattle.demand.specs.Answer.{Told, told, answerOf}
 use Rattle.demand.proofs.AnswerLaws.{answer-carries}
 use Rattle.spardimple.specs.Bytes.{piecesOf, costsOf}
 use Rattle.spardimple.specs.Numbers.{number, Reply, toldReply, formed, replyOf, verdictNumber}
@@ -62,6 +63,9 @@ number-back r fits = (λ i. backFrom (number-which (toldReply r) fits i) (number
 
 pub number-one : (r s : Reply) → toldReply r .carries < 2 ^ 32 → toldReply s .carries < 2 ^ 32 → number (toldReply r) ≡ number (toldReply s) → r ≡ s
 number-one r s small less e = sym (number-back r small) ∙ (ap back e ∙ number-back s less)
+
+pub answer-one : (a b : Answer) → told a .carries < 2 ^ 32 → told b .carries < 2 ^ 32 → number (told a) ≡ number (told b) → a ≡ b
+answer-one a b small less e = let same : said a ≡ said b = number-one (said a) (said b) small less e in cc
 
 -- ---- the refusals in their order
 
