@@ -3,7 +3,7 @@
 --
 --   Filled ps i r         the first i records of ps stand in r, as far as there is room
 --   filled-none           no record is put yet
---   filled-put            one record more
+--   first-put, filled-put      one record more
 --   filled-holding        all of them
 --   holding-answer        what is answered for the copy is what is answered for the lent records
 use mathlib.Core.Path.{_≡_, refl, sym, ap, _∙_}

@@ -3,22 +3,23 @@
 --
 --   back n                what the number n says
 --   number-back           a reply is read back from its number, where it carries less than 2^32
---   number-one            so two replies of one number are the same
---   reply-carries         every reply to lent bytes carries less than 2^32
---   verdict-number-one    any two lent pairs with one number have one reply
+--   number-one, answer-one        so two replies of one number are the same, and two answers
 --   reply-records, reply-costs, reply-formed      8 first, then what is said of the records
+--   reply-carries         every reply to lent bytes carries less than 2^32
+--   verdict-number-one    so for any four slices one number means one reply
 use mathlib.Core.Path.{_≡_, refl, sym, ap, _∙_}
 use mathlib.Core.Bool.{Bool, true, false, cond}
 use mathlib.Core.List.{List}
-use Prim.Native.Nat.{ℕ, _+_, _*_, _/_, _%_, _^_, _<_}
+use Prim.Native.Nat.{ℕ, _/_, _%_, _^_, _<_}
 use native.Mathlib.Omega.{arith}
 use borrow.Author.Tests.{eq-eqb, ne-eqb}
 use lib.Dec.{eqb}
 use lib.ListN.{length}
 use Rattle.demand.specs.declared.Verdict.the-variants.{Passes, Overloaded, Undecided}
 use Rattle.demand.specs.declared.Refusal.the-variants.{TooMany, BadCosts, BadRecord}
+use Rattle.demand.specs.declared.Answer.{Answer}
 use Rattle.demand.specs.declared.Answer.the-variants.{Judged, Refused}
-use Rattle.demand.specs.Answer.{answerOf}
+use Rattle.demand.specs.Answer.{Told, told, answerOf}
 use Rattle.demand.proofs.AnswerLaws.{answer-carries}
 use Rattle.spardimple.specs.Bytes.{piecesOf, costsOf}
 use Rattle.spardimple.specs.Numbers.{number, Reply, toldReply, formed, replyOf, verdictNumber}
@@ -48,44 +49,61 @@ told-back (said (Refused TooMany)) = refl
 told-back (said (Refused BadCosts)) = refl
 told-back (said (Refused (BadRecord k))) = refl
 
+number-which : (t : Told) → t .carries < 2 ^ 32 → number t / 2 ^ 32 ≡ t .which
+unfolding number
+number-which t fits = omega arith
+
+number-carries : (t : Told) → t .carries < 2 ^ 32 → number t % 2 ^ 32 ≡ t .carries
+unfolding number
+number-carries t fits = omega arith
+
 pub number-back : (r : Reply) → toldReply r .carries < 2 ^ 32 → back (number (toldReply r)) ≡ r
-unfolding back number
-number-back r fits =
-    let which : (2 ^ 32 * toldReply r .which + toldReply r .carries) / 2 ^ 32 ≡ toldReply r .which = omega arith in
-    let carries : (2 ^ 32 * toldReply r .which + toldReply r .carries) % 2 ^ 32 ≡ toldReply r .carries = omega arith in
-    ap (λ (w : ℕ). backFrom w ((2 ^ 32 * toldReply r .which + toldReply r .carries) % 2 ^ 32)) which ∙ (ap (λ (k : ℕ). backFrom (toldReply r .which) k) carries ∙ told-back r)
+unfolding back
+number-back r fits = (λ i. backFrom (number-which (toldReply r) fits i) (number-carries (toldReply r) fits i)) ∙ told-back r
 
 pub number-one : (r s : Reply) → toldReply r .carries < 2 ^ 32 → toldReply s .carries < 2 ^ 32 → number (toldReply r) ≡ number (toldReply s) → r ≡ s
 number-one r s small less e = sym (number-back r small) ∙ (ap back e ∙ number-back s less)
 
-pub reply-carries : (rs cs : List ℕ) → toldReply (replyOf rs cs) .carries < 2 ^ 32
-unfolding replyOf
-reply-carries rs cs = look (formed rs cs)
-  where
-    look : (b : Bool) → toldReply (cond b (said (answerOf (costsOf cs) (length (piecesOf rs)) (piecesOf rs))) malformed) .carries < 2 ^ 32
-    look true = omega (arith, answer-carries (costsOf cs) (length (piecesOf rs)) (piecesOf rs))
-    look false = omega arith
-
-pub verdict-number-one : (rs cs ss ds : List ℕ) → verdictNumber rs cs ≡ verdictNumber ss ds → replyOf rs cs ≡ replyOf ss ds
-unfolding verdictNumber
-verdict-number-one rs cs ss ds e = number-one (replyOf rs cs) (replyOf ss ds) (reply-carries rs cs) (reply-carries ss ds) e
+pub answer-one : (a b : Answer) → told a .carries < 2 ^ 32 → told b .carries < 2 ^ 32 → number (told a) ≡ number (told b) → a ≡ b
+answer-one a b small less e = let same : said a ≡ said b = number-one (said a) (said b) small less e in cc
 
 -- ---- the refusals in their order
 
 module _ (rs cs : List ℕ) where
+  reply-true : formed rs cs ≡ true → replyOf rs cs ≡ said (answerOf (costsOf cs) (length (piecesOf rs)) (piecesOf rs))
+  unfolding replyOf
+  reply-true e = simp e
+
+  reply-false : formed rs cs ≡ false → replyOf rs cs ≡ malformed
+  unfolding replyOf
+  reply-false e = simp e
+
   pub reply-records : (length rs % 28 ≡ 0 → ⊥) → replyOf rs cs ≡ malformed
-  unfolding replyOf formed
-  reply-records odd = simp (ne-eqb (length rs % 28) 0 odd)
+  unfolding formed
+  reply-records odd = reply-false (simp (ne-eqb (length rs % 28) 0 odd))
 
   pub reply-costs : length rs % 28 ≡ 0 → (length cs ≡ 36 → ⊥) → replyOf rs cs ≡ malformed
-  unfolding replyOf formed
-  reply-costs even odd = simp (eq-eqb (length rs % 28) 0 even, ne-eqb (length cs) 36 odd)
+  unfolding formed
+  reply-costs whole odd = reply-false (simp (eq-eqb (length rs % 28) 0 whole, ne-eqb (length cs) 36 odd))
 
   pub reply-formed : length rs % 28 ≡ 0 → length cs ≡ 36 → replyOf rs cs ≡ said (answerOf (costsOf cs) (length (piecesOf rs)) (piecesOf rs))
-  unfolding replyOf formed
-  reply-formed even nine = simp (eq-eqb (length rs % 28) 0 even, eq-eqb (length cs) 36 nine)
+  unfolding formed
+  reply-formed whole nine = reply-true (simp (eq-eqb (length rs % 28) 0 whole, eq-eqb (length cs) 36 nine))
 
   -- the number of a reply that is known
   pub number-reply : (r : Reply) → replyOf rs cs ≡ r → verdictNumber rs cs ≡ number (toldReply r)
   unfolding verdictNumber
   number-reply r e = ap (λ (x : Reply). number (toldReply x)) e
+
+-- ---- any lent bytes
+
+pub reply-carries : (rs cs : List ℕ) → toldReply (replyOf rs cs) .carries < 2 ^ 32
+reply-carries rs cs = look (formed rs cs) refl
+  where
+    look : (b : Bool) → formed rs cs ≡ b → toldReply (replyOf rs cs) .carries < 2 ^ 32
+    look true e = rw (reply-true rs cs e) (omega (arith, answer-carries (costsOf cs) (length (piecesOf rs)) (piecesOf rs)))
+    look false e = rw (reply-false rs cs e) (omega arith)
+
+pub verdict-number-one : (rs cs ss ds : List ℕ) → verdictNumber rs cs ≡ verdictNumber ss ds → replyOf rs cs ≡ replyOf ss ds
+unfolding verdictNumber
+verdict-number-one rs cs ss ds e = number-one (replyOf rs cs) (replyOf ss ds) (reply-carries rs cs) (reply-carries ss ds) e

@@ -22,6 +22,7 @@ use Rattle.demand.specs.declared.Costs.{Costs}
 abbrev pub numberAt : List ℕ → ℕ → ℕ
 numberAt s at = getD s at 0 + 256 * getD s (at + 1) 0 + 65536 * getD s (at + 2) 0 + 16777216 * getD s (at + 3) 0
 
+-- A greater number names none: `pieceAt` turns it away before.
 abbrev pub kindNamed : ℕ → Kind
 kindNamed zero = Whole
 kindNamed (suc zero) = First

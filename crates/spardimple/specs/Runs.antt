@@ -1,6 +1,6 @@
 -- A `Run` that a lent run of records was copied into.
 --
---   Holding ps r         r counts the records ps, and holds them where they are not too many
+--   Holding ps r         r counts the records ps, and holds them where there is room for all: more are refused by their count
 use mathlib.Core.Path.{_≡_}
 use mathlib.Core.List.{List}
 use Prim.Native.Nat.{_≤_}

@@ -5,7 +5,7 @@ use demand::Kind;
 use demand::Piece;
 use demand::Run;
 ghost use mathlib.Core.Path.{_≡_};
-ghost use Prim.Native.Nat.{_+_, _≤_, _<_};
+ghost use Prim.Native.Nat.{_+_, _*_, _≤_, _<_};
 ghost use lib.ListN.{length};
 ghost use Rattle.spardimple.specs.Bytes.{numberAt, kindNamed, pieceAt, piecesOf, costsOf};
 ghost use Rattle.spardimple.specs.Runs.{Holding};
@@ -16,12 +16,25 @@ fn wide(b: u8) -> u64
     b as u64
 }
 
+// Four bytes as a number, lowest first.
+fn four(a: u64, b: u64, c: u64, d: u64) -> u64
+    requires { ⌜ (a < 256) × (b < 256) × (c < 256) × (d < 256) ⌝ }
+    ensures { λ r. ⌜ r ≡ a + 256 * b + 65536 * c + 16777216 * d ⌝ }
+{
+    a + 256 * b + 65536 * c + 16777216 * d
+}
+
 // The number whose four bytes start at a place.
 pub fn number_at(s: &[u8], at: usize) -> u64
     requires { ⌜ at + 4 ≤ length (now s) ⌝ }
     ensures { λ r. ⌜ r ≡ numberAt (now (s .entry)) at ⌝ }
 {
-    wide(s[at]) + 256 * wide(s[at + 1]) + 65536 * wide(s[at + 2]) + 16777216 * wide(s[at + 3])
+    four(
+        wide(s[at]),
+        wide(s[at + 1]),
+        wide(s[at + 2]),
+        wide(s[at + 3]),
+    )
 }
 
 // 0, 1, 2 for whole, first, last; a greater number does not come here.

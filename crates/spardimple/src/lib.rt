@@ -27,7 +27,8 @@ pub fn judge_lent(costs: Costs, pieces: &[Piece]) -> Answer
     demand::judge(costs, run)
 }
 
-/// The same on records and costs that are lent as bytes, as one number: 8 first, where the bytes make no whole records or not nine costs.
+/// The same on records and costs that are lent as bytes, four a number, lowest first. First 8, where the bytes make no whole records or not
+/// nine costs. The answer is one number, 2^32 · which + carries: 0 passes, 1 overloaded, 2 undecided, 100 + N the refusal N.
 #[no_mangle]
 pub extern "C" fn verdict(records: &[u8], costs: &[u8]) -> u64
     ensures exact { λ r. ⌜ r ≡ verdictNumber (now (records .entry)) (now (costs .entry)) ⌝ }

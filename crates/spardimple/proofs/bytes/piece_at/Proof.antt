@@ -1,7 +1,7 @@
 -- `bytes::piece_at` meets its contract: the kind's number is tested first, and the other six stand behind it.
-use mathlib.Core.Path.{sym, _∙_}
+use mathlib.Core.Path.{sym, ap, _∙_}
+use Rattle.spardimple.specs.Bytes.{kindNamed, sevenAt}
 use native.Mathlib.Omega.{arith}
-use Rattle.spardimple.specs.Bytes.{sevenAt}
 use Rattle.spardimple.proofs.ByteLaws.{piece-named, piece-other}
 use borrow.Author.Needs.{needs}
 use Rattle.spardimple.proofs.bytes.piece_at.Statement.{statement}
@@ -62,7 +62,17 @@ number-at-requires-7 c κs = search needs
 
 returns-2 : tie.Need-returns-2
 unfolding sevenAt
-returns-2 c = cc (piece-named (c .before .before .before .before .before .before .before .before .before .before .args .s .now) (c .before .before .before .before .before .before .before .before .before .before .args .at) (omega arith))
+returns-2 c =
+    (λ i. record {
+      kind = (c .before .before .before .before .before .before .kind-named .ensures ∙ ap kindNamed (c .before .before .before .before .before .before .before .before .number-at .ensures)) i;
+      budget = c .before .before .before .before .before .number-at2 .ensures i;
+      window = c .before .before .before .before .number-at3 .ensures i;
+      period = c .before .before .before .number-at4 .ensures i;
+      jitter = c .before .before .number-at5 .ensures i;
+      preempt = c .before .number-at6 .ensures i;
+      migrate = c .number-at7 .ensures i;
+    })
+    ∙ sym (piece-named (c .before .before .before .before .before .before .before .before .before .before .args .s .now) (c .before .before .before .before .before .before .before .before .before .before .args .at) (omega arith))
 
 pub piece-at-spec : {M : Type 1} → statement M
 piece-at-spec =

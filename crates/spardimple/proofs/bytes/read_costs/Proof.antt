@@ -36,7 +36,18 @@ number-at-requires-9 c κs = search needs
 
 returns : tie.Need-returns
 unfolding costsOf
-returns c = cc
+returns c =
+    λ i. record {
+      relo = c .before .before .before .before .before .before .before .before .number-at .ensures i;
+      schedo = c .before .before .before .before .before .before .before .number-at2 .ensures i;
+      tseto = c .before .before .before .before .before .before .number-at3 .ensures i;
+      ipb = c .before .before .before .before .before .number-at4 .ensures i;
+      beto = c .before .before .before .before .number-at5 .ensures i;
+      migro = c .before .before .before .number-at6 .ensures i;
+      ipio = c .before .before .number-at7 .ensures i;
+      ipij = c .before .number-at8 .ensures i;
+      precision = c .number-at9 .ensures i;
+    }
 
 pub read-costs-spec : {M : Type 1} → statement M
 read-costs-spec =
