@@ -9,3 +9,5 @@ pub mod OverLaws
 pub mod PlanLaws
 pub mod GoingLaws
 pub mod JudgeLaws
+pub mod ShareLaws
+pub mod Theorems

@@ -3,6 +3,8 @@
 --
 --   times-padded       zeros past the end change no time
 --   small-padded       the products of the padded list fit
+--   sized-at           a task at a place below the end is within the sizes
+--   upto-each          what holds of each place below n
 --   walk-fits          the walk over the packing order can begin
 --   plan-refused, plan-stuck, plan-fine      the three ways to end
 use mathlib.Core.Path.{_≡_, refl, sym, ap, subst, _∙_, fun-ext}
@@ -59,7 +61,7 @@ densers-padded l = fun-ext (λ i. fun-ext (λ j. ap (λ (a : Times). denser a (t
 
 -- ---- sizes
 
-sized-at : (l : List Task) → Each (λ t. Sized (wholePiece (t .times))) l → (i : ℕ) → i < length l → Sized (wholeAt l i)
+pub sized-at : (l : List Task) → Each (λ t. Sized (wholePiece (t .times))) l → (i : ℕ) → i < length l → Sized (wholeAt l i)
 sized-at [] ok i h = absurd (not-suc-le-zero h)
 sized-at (t ∷ l) ok zero h = ok .0
 sized-at (t ∷ l) ok (suc i) h = sized-at l (ok .1) i (le-of-suc-le-suc h)
@@ -74,7 +76,7 @@ small-at l ok i = elim (decLt i (length l)) [
 pub small-padded : (l ts : List Task) → ts ≡ padded l → Each (λ t. Sized (wholePiece (t .times))) l → SmallAll ts
 small-padded l ts e ok i = rw (e, times-padded l i) (small-at l ok i)
 
-upto-each : (P : ℕ → Type 0) (n : ℕ) → ((i : ℕ) → i < n → P i) → Each P (upto n)
+pub upto-each : (P : ℕ → Type 0) (n : ℕ) → ((i : ℕ) → i < n → P i) → Each P (upto n)
 upto-each P zero h = tt
 upto-each P (suc n) h = behind (upto n) (upto-each P n (λ i less. h i (omega arith)))
   where
