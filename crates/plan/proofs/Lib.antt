@@ -10,4 +10,6 @@ pub mod PlanLaws
 pub mod GoingLaws
 pub mod JudgeLaws
 pub mod ShareLaws
+pub mod ShowLaws
+pub mod WordLaws
 pub mod Theorems

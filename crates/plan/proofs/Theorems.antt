@@ -5,6 +5,7 @@
 --   plan-or-stuck         the reply is a plan, with 0, where the walk is fine, and 7 with the task's place, from 1, where it sticks
 --   plan-comes            0 comes exactly when the walk is fine
 --   no-room               7 comes exactly when the walk sticks, and carries the place of the task that it sticks at
+--   plan-faultless, no-room-faultless      and neither comes for a state that breaks a rule
 --   no-room-at            those before that task in packing order are placed, and where they end it has no place
 --   packing-order         the packing order has the place of each task, once
 --   all-placed            every task is placed: whole on a core, or by its greatest split on a core and the next; nothing else is placed of it
@@ -14,20 +15,22 @@
 --   cores-pass            every core passes
 --   cores-keep-up         so no live length, however long, asks more of a core than itself
 --   plan-counts           at most 79 pieces, at most 64 on a core, at most m - 1 splits, all on the machine's cores
+--   plan-shows            the plan's rows show what was placed: each piece by its number, each core's row by the numbers of its pieces
+--   words-show            a core's word has bit k set exactly when the task at place k has a piece there, and its ones are its pieces
 use mathlib.Core.Path.{_≡_, refl, sym, ap, _∙_, subst}
 use mathlib.Core.Logic.{_⊎_, inl, inr, _↔_}
-use mathlib.Core.List.{List, [], _∷_}
+use mathlib.Core.List.{List, []}
 use Prim.Native.Nat.{ℕ, zero, suc, _+_, _-_, _≤_, _<_}
 use native.Mathlib.Omega.{arith}
-use lib.ListN.{length, take, length-take, length-map}
+use lib.ListN.{length, take, getD, length-take, length-map}
 use Rattle.demand.specs.declared.Kind.the-variants.{Whole, First}
-use Rattle.demand.specs.declared.Piece.{Piece}
 use Rattle.demand.specs.declared.Costs.{Costs}
 use Rattle.demand.specs.declared.Verdict.the-variants.{Passes}
 use Rattle.demand.specs.Sizes.{Sized, Each}
 use Rattle.demand.specs.Charge.{coreOf, stall}
 use Rattle.demand.specs.Demand.{demand, Live}
 use Rattle.demand.specs.Verdict.{verdictOf}
+use Rattle.demand.proofs.Sums.{each-imp}
 use Rattle.demand.proofs.Judgement.{passes-all}
 use Rattle.demand.proofs.SplitLaws.{Free}
 use Rattle.task.specs.declared.Task.{Task}
@@ -36,14 +39,18 @@ use Rattle.task.specs.Tasks.{wholePiece, taskAt, stateFault}
 use Rattle.task.proofs.TaskLaws.{Sane, state-sane}
 use Rattle.plan.specs.declared.Reply.{Reply}
 use Rattle.plan.specs.Order.{denserAt, upto}
-use Rattle.plan.specs.Walk.{Rules, Stand, Placed, Outcome, fine, stuck, walk, start, onCore, rowOf, rulesFor}
-use Rattle.plan.specs.Plan.{wholeAt, walked, refused, finished, planOf}
+use Rattle.plan.specs.Walk.{Stand, Placed, Outcome, fine, stuck, onCore, rowOf, rulesFor}
+use Rattle.plan.specs.Layout.{layoutOn, none, blank}
+use Rattle.plan.specs.Plan.{wholeAt, walked, refused, finished, unlessFault, planOf}
 use Rattle.plan.specs.Shares.{packed, Rearranged, ofTask, sumBy, firsts, Shared}
+use Rattle.plan.specs.Shows.{Shows, WordShows}
 use Rattle.plan.proofs.OrderLaws.{pack-every}
 use Rattle.plan.proofs.WalkLaws.{IfFine, Shares, shares, Fit, fit, SticksAt, sticks-at}
 use Rattle.plan.proofs.RuleLaws.{Fine, cd-sound}
-use Rattle.plan.proofs.PlanLaws.{sized-at, upto-each}
-use Rattle.plan.proofs.ShareLaws.{rearranged, each-mem, share-of, shared-of, shared-budgets, shared-windows, shared-free, shares-firsts, row-short}
+use Rattle.plan.proofs.PlanLaws.{sized-at, upto-each, fault-seven}
+use Rattle.plan.proofs.ShareLaws.{rearranged, share-of, shared-of, shared-budgets, shared-windows, shared-free, shares-firsts, row-short}
+use Rattle.plan.proofs.ShowLaws.{Room, kept, kept-shows}
+use Rattle.plan.proofs.WordLaws.{apart-on, word-shows}
 
 -- ---- the packing order
 
@@ -62,6 +69,29 @@ pub record Counted (m n : ℕ) (l : List (Placed ℕ)) : Type 0 where
 whole-kind : (ts : List Task) (k : ℕ) → wholeAt ts k .kind ≡ Whole
 unfolding wholePiece
 whole-kind ts k = refl
+
+-- ---- a state that breaks a rule has its own number
+
+module _ (m : Machine) (c : Costs) (n : ℕ) (ts : List Task) where
+  own-number : (o : Reply) (k : ℕ) → unlessFault k o .number ≡ k ⊎ (k ≡ 0)
+  own-number o zero = inr refl
+  own-number o (suc k) = inl refl
+
+  faultless-but : (k : ℕ) → (stateFault m c n ts ≡ k → stateFault m c n ts ≡ 0) → planOf m c n ts .number ≡ k → stateFault m c n ts ≡ 0
+  unfolding planOf
+  faultless-but k else e = by (own-number (finished m c (take n ts) (walked m c (take n ts))) (stateFault m c n ts))
+    where
+      by : (unlessFault (stateFault m c n ts) (finished m c (take n ts) (walked m c (take n ts))) .number ≡ stateFault m c n ts) ⊎ (stateFault m c n ts ≡ 0) → stateFault m c n ts ≡ 0
+      by (inl own) = else (sym own ∙ e)
+      by (inr none) = none
+
+  pub plan-faultless : planOf m c n ts .number ≡ 0 → stateFault m c n ts ≡ 0
+  plan-faultless e = faultless-but 0 (λ same. same) e
+
+  pub no-room-faultless : planOf m c n ts .number ≡ 7 → stateFault m c n ts ≡ 0
+  no-room-faultless e = faultless-but 7 (λ same. absurd (fault-seven m c n ts same)) e
+
+-- ---- a state that breaks no rule
 
 module _ (m : Machine) (c : Costs) (n : ℕ) (ts : List Task) (faultless : stateFault m c n ts ≡ 0) where
   sane : Sane m c n ts
@@ -160,3 +190,23 @@ module _ (m : Machine) (c : Costs) (n : ℕ) (ts : List Task) (faultless : state
           splits = omega (arith, shares-firsts c (m .grain) (wholeAt (take n ts)) (whole-kind (take n ts)) shared, fits .count, fits .cores, order .long);
           cores = fits .seats;
         }
+
+    -- ---- rows and words
+
+    room : Room l
+    room = record {
+      pieces = plan-counts .pieces-fit;
+      seats = λ q. omega (arith, plan-counts .row-fits q, length-map (onCore q l) (λ (e : Placed ℕ). e .piece));
+      cores = each-imp (λ (e : Placed ℕ). e .on < m .cores) (λ (e : Placed ℕ). e .on < 16) (λ e h. omega (arith, sane .cores-fit)) l (fits .seats);
+    }
+
+    laid : planOf m c n ts .plan .layout ≡ layoutOn none l
+    laid = ap (λ (r : Reply). r .plan .layout) (ended ∙ ap (finished m c (take n ts)) planned)
+
+    pub plan-shows : Shows (planOf m c n ts .plan .layout) l
+    plan-shows = rw laid (kept-shows (layoutOn none l) l room (kept l room))
+
+    pub words-show : (q : ℕ) → q < 16 → WordShows (getD (planOf m c n ts .plan .layout .words) q 0) (onCore q l)
+    words-show q low =
+        word-shows (getD (planOf m c n ts .plan .layout .words) q 0) (onCore q l) (rw laid (kept l room .core q low blank .word))
+        (apart-on (rulesFor c (m .grain) (wholeAt (take n ts))) (Fine c) q shared (packing-order (take n ts) .once))

@@ -5,3 +5,4 @@ pub mod Layout
 pub mod Plan
 pub mod Going
 pub mod Shares
+pub mod Shows
