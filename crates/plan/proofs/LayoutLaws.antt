@@ -24,7 +24,7 @@ layout-append s [] l = refl
 layout-append s (e ∷ k) l = layout-append (putOf s (e .on) (e .item) (e .piece)) k l
 
 module _ (s : Layout) (p k : ℕ) (q : Piece) where
-  put-count : putOf s p k q .count ≡ s .count + 1
+  pub put-count : putOf s p k q .count ≡ s .count + 1
   unfolding putOf
   put-count = refl
 
@@ -52,7 +52,7 @@ lens-is (e ∷ l) s z h q = by (eqb (e .on) q) refl (lens-is l (putOf s (e .on) 
     by true f r = let g = subst (λ (x : ℕ). getD (putOf s (e .on) (e .item) (e .piece) .lens) x 0 ≡ getD (s .lens) x 0 + 1) (eqb-true (e .on) q f) (put-here s (e .on) (e .item) (e .piece) (omega (arith, h .0))) in omega arith
     by false f r = omega (arith, put-other s (e .on) (e .item) (e .piece) q (eqb-false (e .on) q f))
 
-zeros : (n i : ℕ) → _≡_ {A = ℕ} (getD (replicate n 0) i 0) 0
+pub zeros : (n i : ℕ) → _≡_ {A = ℕ} (getD (replicate n 0) i 0) 0
 zeros zero i = refl
 zeros (suc n) zero = refl
 zeros (suc n) (suc i) = zeros n i

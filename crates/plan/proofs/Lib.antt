@@ -9,3 +9,7 @@ pub mod OverLaws
 pub mod PlanLaws
 pub mod GoingLaws
 pub mod JudgeLaws
+pub mod ShareLaws
+pub mod ShowLaws
+pub mod WordLaws
+pub mod Theorems

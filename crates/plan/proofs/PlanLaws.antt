@@ -3,25 +3,30 @@
 --
 --   times-padded       zeros past the end change no time
 --   small-padded       the products of the padded list fit
+--   sized-at           a task at a place below the end is within the sizes
+--   upto-each          what holds of each place below n
 --   walk-fits          the walk over the packing order can begin
+--   fault-seven        no fault of a state has the number 7
 --   plan-refused, plan-stuck, plan-fine      the three ways to end
 use mathlib.Core.Path.{_≡_, refl, sym, ap, subst, _∙_, fun-ext}
-use mathlib.Core.Bool.{Bool}
+use mathlib.Core.Bool.{Bool, true, false}
 use mathlib.Core.List.{List, [], _∷_, _++_}
 use Prim.Native.Nat.{ℕ, zero, suc, _+_, _-_, _<_, _≤_}
 use native.Mathlib.Nat.{not-suc-le-zero, le-of-suc-le-suc}
 use native.Mathlib.Decide.{decLt}
 use native.Mathlib.Omega.{arith}
+use lib.Dec.{eqb, leb}
 use lib.ListN.{length, take, getD, replicate, List·getD-eq-default}
 use lib.Seq.{length-take-le}
 use Rattle.demand.specs.declared.Piece.{Piece}
 use Rattle.demand.specs.declared.Costs.{Costs}
-use Rattle.demand.specs.Sizes.{Sized, SizedCosts, Each}
+use Rattle.demand.specs.Sizes.{Sized, SizedCosts, Each, sized, sizedCosts}
 use Rattle.task.specs.declared.Times.{Times}
 use Rattle.task.specs.declared.Task.{Task}
 use Rattle.task.specs.declared.Tasks.{Tasks}
 use Rattle.task.specs.declared.Machine.{Machine}
-use Rattle.task.specs.Tasks.{wholePiece, past, taskAt, stateFault}
+use Rattle.task.specs.Tasks.{wholePiece, past, taskAt, placeOf, rule, orElse, faultOf, firstFault, stateFault, sizedMachine, tasksMost}
+use Rattle.task.specs.Names.{formed}
 use Rattle.task.proofs.TaskLaws.{Sane}
 use Rattle.plan.specs.declared.Order.{Order}
 use Rattle.plan.specs.declared.Layout.{Layout}
@@ -59,7 +64,7 @@ densers-padded l = fun-ext (λ i. fun-ext (λ j. ap (λ (a : Times). denser a (t
 
 -- ---- sizes
 
-sized-at : (l : List Task) → Each (λ t. Sized (wholePiece (t .times))) l → (i : ℕ) → i < length l → Sized (wholeAt l i)
+pub sized-at : (l : List Task) → Each (λ t. Sized (wholePiece (t .times))) l → (i : ℕ) → i < length l → Sized (wholeAt l i)
 sized-at [] ok i h = absurd (not-suc-le-zero h)
 sized-at (t ∷ l) ok zero h = ok .0
 sized-at (t ∷ l) ok (suc i) h = sized-at l (ok .1) i (le-of-suc-le-suc h)
@@ -74,7 +79,7 @@ small-at l ok i = elim (decLt i (length l)) [
 pub small-padded : (l ts : List Task) → ts ≡ padded l → Each (λ t. Sized (wholePiece (t .times))) l → SmallAll ts
 small-padded l ts e ok i = rw (e, times-padded l i) (small-at l ok i)
 
-upto-each : (P : ℕ → Type 0) (n : ℕ) → ((i : ℕ) → i < n → P i) → Each P (upto n)
+pub upto-each : (P : ℕ → Type 0) (n : ℕ) → ((i : ℕ) → i < n → P i) → Each P (upto n)
 upto-each P zero h = tt
 upto-each P (suc n) h = behind (upto n) (upto-each P n (λ i less. h i (omega arith)))
   where
@@ -129,3 +134,31 @@ pub plan-refused : (m : Machine) (c : Costs) (n : ℕ) (ts : List Task) (k : ℕ
 unfolding planOf
 plan-refused m c n ts zero e some = absurd (some refl)
 plan-refused m c n ts (suc k) e some = rw (← e)
+
+-- ---- no fault has the number 7
+
+rule-other : (b : Bool) (n rest : ℕ) → (n ≡ 7 → ⊥) → (rest ≡ 7 → ⊥) → rule b n rest ≡ 7 → ⊥
+rule-other true n rest here below = below
+rule-other false n rest here below = here
+
+or-other : (k n : ℕ) → (k ≡ 7 → ⊥) → (n ≡ 7 → ⊥) → orElse k n ≡ 7 → ⊥
+or-other zero n here below = below
+or-other (suc k) n here below = here
+
+task-seven : (above : List Task) (t : Task) → faultOf above t ≡ 7 → ⊥
+unfolding faultOf
+task-seven above t =
+    let alone : Bool = eqb (placeOf 1 (t .name) above) 0 in
+    let timed : Bool = sized (wholePiece (t .times)) in
+    rule-other (formed (t .name)) 8 (rule timed 3 (rule alone 4 0)) (λ e. omega arith) (rule-other timed 3 (rule alone 4 0) (λ e. omega arith) (rule-other alone 4 0 (λ e. omega arith) (λ e. omega arith)))
+
+tasks-seven : (above ts : List Task) → firstFault above ts ≡ 7 → ⊥
+tasks-seven above [] e = omega arith
+tasks-seven above (t ∷ ts) e = or-other (faultOf above t) (firstFault (above ++ (t ∷ [])) ts) (task-seven above t) (tasks-seven (above ++ (t ∷ [])) ts) e
+
+pub fault-seven : (m : Machine) (c : Costs) (n : ℕ) (ts : List Task) → stateFault m c n ts ≡ 7 → ⊥
+unfolding stateFault
+fault-seven m c n ts =
+    let tasks : ℕ = firstFault [] (take n ts) in
+    let few : Bool = leb n tasksMost in
+    rule-other (sizedMachine m) 1 (rule (sizedCosts c) 2 (rule few 6 tasks)) (λ e. omega arith) (rule-other (sizedCosts c) 2 (rule few 6 tasks) (λ e. omega arith) (rule-other few 6 tasks (λ e. omega arith) (tasks-seven [] (take n ts))))

@@ -4,12 +4,14 @@
 --   walk-append           the walk over xs, then ys, is the walk over ys from where xs ends
 --   walk-behind, resume   what is placed depends on where the walk stands, not on what it placed
 --   Lands, lands          the four rules as a relation, for one item
+--   Sound                 what the rules keep of a row
 --   Share, Shares, shares every item of a walk that does not stick is placed, whole or in two
---   Sound, Fit, fit       what each row has, and the numbers of pieces and cores
+--   SticksAt, sticks-at   a walk that sticks does at its first item that has no place
+--   Fit, fit              what each row has, and the numbers of pieces and cores
 --   place-cong            an item is placed by its own whole piece alone
 use mathlib.Core.Path.{_≡_, refl, sym, ap, _∙_, subst}
 use mathlib.Core.Bool.{Bool, true, false}
-use mathlib.Core.List.{List, [], _∷_, _++_, map, append-assoc, append-nil, map-append}
+use mathlib.Core.List.{List, [], _∷_, _++_, append-assoc, append-nil, map-append}
 use Prim.Native.Nat.{ℕ, zero, suc, _+_, _-_, _≤_, _<_}
 use native.Mathlib.Nat.{zero-add}
 use native.Mathlib.Omega.{arith}
@@ -73,24 +75,31 @@ abbrev pub IfFine : {A : Type 0} → (Stand → List (Placed A) → Type 0) → 
 IfFine P (fine s l) = P s l
 IfFine P (stuck a) = Unit {0}
 
+-- what the rules keep of a row, for good items
+pub record Sound {A : Type 0} (R : Rules A) (Good : A → Type 0) (P : List Piece → Type 0) : Type 0 where
+  pub empty : P []
+  pub whole : (row : List Piece) (a : A) → Good a → P row → R .fits (row ++ (R .whole a ∷ [])) ≡ true → P (row ++ (R .whole a ∷ []))
+  pub first : (row : List Piece) (a : A) (f l : Piece) → Good a → P row → R .cut row a ≡ halves f l → P (row ++ (f ∷ []))
+  pub last : (row : List Piece) (a : A) (f l : Piece) → Good a → P row → R .cut row a ≡ halves f l → P (l ∷ [])
+
 -- ---- every item is placed
 
--- the pieces of an item: it is whole, or in two of a split, on a core and the next
-pub data Share {A : Type 0} (R : Rules A) (a : A) : List (Placed A) → Type 0 where
-  whole : {p : ℕ} → Share R a (record { on = p; item = a; piece = R .whole a } ∷ [])
-  split : {p : ℕ} {f l : Piece} {row : List Piece} → R .cut row a ≡ halves f l → Share R a (record { on = p; item = a; piece = f } ∷ record { on = suc p; item = a; piece = l } ∷ [])
+-- the pieces of an item: it is whole, or in two of a split of a row that has P, on a core and the next
+pub data Share {A : Type 0} (R : Rules A) (P : List Piece → Type 0) (a : A) : List (Placed A) → Type 0 where
+  whole : {p : ℕ} → Share R P a (record { on = p; item = a; piece = R .whole a } ∷ [])
+  split : {p : ℕ} {f l : Piece} {row : List Piece} → P row → R .cut row a ≡ halves f l → Share R P a (record { on = p; item = a; piece = f } ∷ record { on = suc p; item = a; piece = l } ∷ [])
 
 -- every item has its share, in order
-pub data Shares {A : Type 0} (R : Rules A) : List A → List (Placed A) → Type 0 where
-  nil : Shares R [] []
-  more : {a : A} {k l : List (Placed A)} {rest : List A} → Share R a k → Shares R rest l → Shares R (a ∷ rest) (k ++ l)
+pub data Shares {A : Type 0} (R : Rules A) (P : List Piece → Type 0) : List A → List (Placed A) → Type 0 where
+  nil : Shares R P [] []
+  more : {a : A} {k l : List (Placed A)} {rest : List A} → Share R P a k → Shares R P rest l → Shares R P (a ∷ rest) (k ++ l)
 
-module _ {A : Type 0} (R : Rules A) where
-  share : {a : A} {n p : ℕ} {row : List Piece} {o : Outcome A} → Lands R a n p row o → IfFine (λ s l. Share R a l) o
-  share (one e) = whole
-  share (sticks e) = tt
-  share (two e f) = split f
-  share (on e f r) = share r
+module _ {A : Type 0} (R : Rules A) (Good : A → Type 0) (P : List Piece → Type 0) (sound : Sound R Good P) where
+  share : (a : A) → Good a → (n p : ℕ) (row : List Piece) (o : Outcome A) → P row → Lands R a n p row o → IfFine (λ s l. P (s .row) × Share R P a l) o
+  share a good n p row o has (one e) = (sound .whole row a good has e, whole)
+  share a good n p row o has (sticks e) = tt
+  share a good (suc n) p row o has (two {f = f} {l = l} e g) = (sound .last row a f l good has g, split has g)
+  share a good (suc n) p row o has (on e g r) = share a good n (suc p) [] o (sound .empty) r
 
   cons : (s : Stand) (x : A) (xs : List A) → walk R (fine s []) (x ∷ xs) ≡ walk R (place R x (s .left) (s .core) (s .row)) xs
   cons s x xs = ap (λ (o : Outcome A). walk R o xs) (none-before (place R x (s .left) (s .core) (s .row)))
@@ -99,17 +108,58 @@ module _ {A : Type 0} (R : Rules A) where
       none-before (fine t l) = refl
       none-before (stuck b) = refl
 
-  pub shares : (xs : List A) (s : Stand) → IfFine (λ t l. Shares R xs l) (walk R (fine s []) xs)
-  shares [] s = nil
-  shares (x ∷ xs) s = rw (cons s x xs) (by (place R x (s .left) (s .core) (s .row)) (share (lands R x (s .left) (s .core) (s .row))) (λ t. shares xs t))
+  pub shares : (xs : List A) → Each Good xs → (s : Stand) → P (s .row) → IfFine (λ t l. Shares R P xs l) (walk R (fine s []) xs)
+  shares [] good s has = nil
+  shares (x ∷ xs) good s has =
+      rw (cons s x xs) (by (place R x (s .left) (s .core) (s .row)) (share x (good .0) (s .left) (s .core) (s .row) (place R x (s .left) (s .core) (s .row)) has (lands R x (s .left) (s .core) (s .row))) (λ t h. shares xs (good .1) t h))
     where
-      join : (k : List (Placed A)) (o : Outcome A) → Share R x k → IfFine (λ t l. Shares R xs l) o → IfFine (λ t l. Shares R (x ∷ xs) l) (behind k o)
+      join : (k : List (Placed A)) (o : Outcome A) → Share R P x k → IfFine (λ t l. Shares R P xs l) o → IfFine (λ t l. Shares R P (x ∷ xs) l) (behind k o)
       join k (fine t l) h g = more h g
       join k (stuck b) h g = tt
 
-      by : (o : Outcome A) → IfFine (λ t l. Share R x l) o → ((t : Stand) → IfFine (λ u l. Shares R xs l) (walk R (fine t []) xs)) → IfFine (λ t l. Shares R (x ∷ xs) l) (walk R o xs)
-      by (fine t k) h rec = rw (ap (λ (z : List (Placed A)). walk R (fine t z) xs) (sym (append-nil k)) ∙ walk-behind R k (fine t []) xs) (join k (walk R (fine t []) xs) h (rec t))
+      by : (o : Outcome A) → IfFine (λ t l. P (t .row) × Share R P x l) o → ((t : Stand) → P (t .row) → IfFine (λ u l. Shares R P xs l) (walk R (fine t []) xs)) → IfFine (λ t l. Shares R P (x ∷ xs) l) (walk R o xs)
+      by (fine t k) h rec = rw (ap (λ (z : List (Placed A)). walk R (fine t z) xs) (sym (append-nil k)) ∙ walk-behind R k (fine t []) xs) (join k (walk R (fine t []) xs) (h .1) (rec t (h .0)))
       by (stuck b) h rec = rw (walk-stuck R b xs) tt
+
+-- ---- where a walk sticks
+
+-- the item a of xs is the first that has no place: those before it are placed, and it sticks where they end
+pub record SticksAt {A : Type 0} (R : Rules A) (s : Stand) (log : List (Placed A)) (xs : List A) (a : A) : Type 0 where
+  pub before : List A
+  pub after : List A
+  pub at : Stand
+  pub past : List (Placed A)
+  pub order : xs ≡ before ++ (a ∷ after)
+  pub reached : walk R (fine s log) before ≡ fine at past
+  pub here : place R a (at .left) (at .core) (at .row) ≡ stuck a
+
+module _ {A : Type 0} (R : Rules A) where
+  stuck-self : {a b : A} {n p : ℕ} {row : List Piece} {o : Outcome A} → Lands R a n p row o → o ≡ stuck b → a ≡ b
+  stuck-self (one e) h = let z : _≡_ {A = ℕ} 0 1 = cc in absurd (omega arith)
+  stuck-self (sticks e) h = cc
+  stuck-self (two e f) h = let z : _≡_ {A = ℕ} 0 1 = cc in absurd (omega arith)
+  stuck-self (on e f r) h = stuck-self r h
+
+  pub sticks-at : (xs : List A) (s : Stand) (log : List (Placed A)) (b : A) → walk R (fine s log) xs ≡ stuck b → SticksAt R s log xs b
+  sticks-at [] s log b e = let z : _≡_ {A = ℕ} 0 1 = cc in absurd (omega arith)
+  sticks-at (x ∷ xs) s log b e = by (place R x (s .left) (s .core) (s .row)) refl e (λ t l h. sticks-at xs t l b h)
+    where
+      by : (o : Outcome A) → place R x (s .left) (s .core) (s .row) ≡ o → walk R (behind log o) xs ≡ stuck b → ((t : Stand) (l : List (Placed A)) → walk R (fine t l) xs ≡ stuck b → SticksAt R t l xs b) → SticksAt R s log (x ∷ xs) b
+      by (fine t l) f h rec =
+          let r = rec t (log ++ l) h in
+          record {
+            before = x ∷ r .before;
+            after = r .after;
+            at = r .at;
+            past = r .past;
+            order = ap (λ (z : List A). x ∷ z) (r .order);
+            reached = ap (λ (z : Outcome A). walk R (behind log z) (r .before)) f ∙ r .reached;
+            here = r .here;
+          }
+      by (stuck a) f h rec =
+          let same : a ≡ b = (let z : stuck a ≡ stuck b = sym (walk-stuck R a xs) ∙ h in cc) in
+          let own : x ≡ b = stuck-self (lands R x (s .left) (s .core) (s .row)) (f ∙ ap stuck same) in
+          record { before = []; after = xs; at = s; past = log; order = ap (λ (z : A). z ∷ xs) own; reached = refl; here = ap (λ (z : A). place R z (s .left) (s .core) (s .row)) (sym own) ∙ (f ∙ ap stuck same) }
 
 -- ---- what each row has
 
@@ -124,16 +174,9 @@ module _ {A : Type 0} (R : Rules A) (Good : A → Type 0) (I : ℕ → Stand →
       by (fine t l) g rec = let e : i + suc (length xs) ≡ suc i + length xs = omega arith in rw e (rec t l g)
       by (stuck b) g rec = rw (walk-stuck R b xs) tt
 
-each-join : {B : Type 0} (P : B → Type 0) (k l : List B) → Each P k → Each P l → Each P (k ++ l)
+pub each-join : {B : Type 0} (P : B → Type 0) (k l : List B) → Each P k → Each P l → Each P (k ++ l)
 each-join P [] l h g = g
 each-join P (a ∷ k) l h g = (h .0, each-join P k l (h .1) g)
-
--- what the rules keep of a row, for good items
-pub record Sound {A : Type 0} (R : Rules A) (Good : A → Type 0) (P : List Piece → Type 0) : Type 0 where
-  pub empty : P []
-  pub whole : (row : List Piece) (a : A) → Good a → P row → R .fits (row ++ (R .whole a ∷ [])) ≡ true → P (row ++ (R .whole a ∷ []))
-  pub first : (row : List Piece) (a : A) (f l : Piece) → Good a → P row → R .cut row a ≡ halves f l → P (row ++ (f ∷ []))
-  pub last : (row : List Piece) (a : A) (f l : Piece) → Good a → P row → R .cut row a ≡ halves f l → P (l ∷ [])
 
 module _ {A : Type 0} where
   pub on-append : (q : ℕ) (k l : List (Placed A)) → onCore q (k ++ l) ≡ onCore q k ++ onCore q l
@@ -145,10 +188,10 @@ module _ {A : Type 0} where
       by false h = h
 
 module _ {A : Type 0} (log : List (Placed A)) (e : Placed A) where
-  on-here : (q : ℕ) → e .on ≡ q → onCore q (log ++ (e ∷ [])) ≡ onCore q log ++ (e ∷ [])
+  pub on-here : (q : ℕ) → e .on ≡ q → onCore q (log ++ (e ∷ [])) ≡ onCore q log ++ (e ∷ [])
   on-here q h = on-append q log (e ∷ []) ∙ simp (eq-eqb (e .on) q h)
 
-  on-other : (q : ℕ) → (e .on ≡ q → ⊥) → onCore q (log ++ (e ∷ [])) ≡ onCore q log
+  pub on-other : (q : ℕ) → (e .on ≡ q → ⊥) → onCore q (log ++ (e ∷ [])) ≡ onCore q log
   on-other q h = on-append q log (e ∷ []) ∙ simp (ne-eqb (e .on) q h, append-nil)
 
   row-here : (q : ℕ) → e .on ≡ q → rowOf q (log ++ (e ∷ [])) ≡ rowOf q log ++ (e .piece ∷ [])

@@ -1,0 +1,212 @@
+-- The theorems about a plan, for any machine, costs, count and list of tasks that break no rule: document 01, "The C=D walk". The first n of the
+-- list count; where they are spoken of as planned, the walk over them is fine, and l is what it placed.
+-- Assumes nothing.
+--
+--   plan-or-stuck         the reply is a plan, with 0, where the walk is fine, and 7 with the task's place, from 1, where it sticks
+--   plan-comes            0 comes exactly when the walk is fine
+--   no-room               7 comes exactly when the walk sticks, and carries the place of the task that it sticks at
+--   plan-faultless, no-room-faultless      and neither comes for a state that breaks a rule
+--   no-room-at            those before that task in packing order are placed, and where they end it has no place
+--   packing-order         the packing order has the place of each task, once
+--   all-placed            every task is placed: whole on a core, or by its greatest split on a core and the next; nothing else is placed of it
+--   budgets-add           the budgets of a task's pieces add to C
+--   windows-add           their windows add to D
+--   free-is-budget        with all costs, J and P zero the window of a first piece is its budget, which is C=D
+--   cores-pass            every core passes
+--   cores-keep-up         so no live length, however long, asks more of a core than itself
+--   plan-counts           at most 79 pieces, at most 64 on a core, at most m - 1 splits, all on the machine's cores
+--   plan-shows            the plan's rows show what was placed: each piece by its number, each core's row by the numbers of its pieces
+--   words-show            a core's word has bit k set exactly when the task at place k has a piece there, and its ones are its pieces
+use mathlib.Core.Path.{_≡_, refl, sym, ap, _∙_, subst}
+use mathlib.Core.Logic.{_⊎_, inl, inr, _↔_}
+use mathlib.Core.List.{List, []}
+use Prim.Native.Nat.{ℕ, zero, suc, _+_, _-_, _≤_, _<_}
+use native.Mathlib.Omega.{arith}
+use lib.ListN.{length, take, getD, length-take, length-map}
+use Rattle.demand.specs.declared.Kind.the-variants.{Whole, First}
+use Rattle.demand.specs.declared.Costs.{Costs}
+use Rattle.demand.specs.declared.Verdict.the-variants.{Passes}
+use Rattle.demand.specs.Sizes.{Sized, Each}
+use Rattle.demand.specs.Charge.{coreOf, stall}
+use Rattle.demand.specs.Demand.{demand, Live}
+use Rattle.demand.specs.Verdict.{verdictOf}
+use Rattle.demand.proofs.Sums.{each-imp}
+use Rattle.demand.proofs.Judgement.{passes-all}
+use Rattle.demand.proofs.SplitLaws.{Free}
+use Rattle.task.specs.declared.Task.{Task}
+use Rattle.task.specs.declared.Machine.{Machine}
+use Rattle.task.specs.Tasks.{wholePiece, taskAt, stateFault}
+use Rattle.task.proofs.TaskLaws.{Sane, state-sane}
+use Rattle.plan.specs.declared.Reply.{Reply}
+use Rattle.plan.specs.Order.{denserAt, upto}
+use Rattle.plan.specs.Walk.{Stand, Placed, Outcome, fine, stuck, onCore, rowOf, rulesFor}
+use Rattle.plan.specs.Layout.{layoutOn, none, blank}
+use Rattle.plan.specs.Plan.{wholeAt, walked, refused, finished, unlessFault, planOf}
+use Rattle.plan.specs.Shares.{packed, Rearranged, ofTask, sumBy, firsts, Shared}
+use Rattle.plan.specs.Shows.{Shows, WordShows}
+use Rattle.plan.proofs.OrderLaws.{pack-every}
+use Rattle.plan.proofs.WalkLaws.{IfFine, Shares, shares, Fit, fit, SticksAt, sticks-at}
+use Rattle.plan.proofs.RuleLaws.{Fine, cd-sound}
+use Rattle.plan.proofs.PlanLaws.{sized-at, upto-each, fault-seven}
+use Rattle.plan.proofs.ShareLaws.{rearranged, share-of, shared-of, shared-budgets, shared-windows, shared-free, shares-firsts, row-short}
+use Rattle.plan.proofs.ShowLaws.{Room, kept, kept-shows}
+use Rattle.plan.proofs.WordLaws.{apart-on, word-shows}
+
+-- ---- the packing order
+
+pub packing-order : (ts : List Task) → Rearranged (length ts) (packed ts)
+packing-order ts = rearranged (denserAt ts) (length ts)
+
+-- the numbers of a plan on m cores with n tasks
+pub record Counted (m n : ℕ) (l : List (Placed ℕ)) : Type 0 where
+  pub pieces : length l ≤ n + (m - 1)
+  pub pieces-fit : length l ≤ 79
+  pub row : (q : ℕ) → length (rowOf q l) ≤ n
+  pub row-fits : (q : ℕ) → length (rowOf q l) ≤ 64
+  pub splits : firsts l ≤ m - 1
+  pub cores : Each (λ e. e .on < m) l
+
+whole-kind : (ts : List Task) (k : ℕ) → wholeAt ts k .kind ≡ Whole
+unfolding wholePiece
+whole-kind ts k = refl
+
+-- ---- a state that breaks a rule has its own number
+
+module _ (m : Machine) (c : Costs) (n : ℕ) (ts : List Task) where
+  own-number : (o : Reply) (k : ℕ) → unlessFault k o .number ≡ k ⊎ (k ≡ 0)
+  own-number o zero = inr refl
+  own-number o (suc k) = inl refl
+
+  faultless-but : (k : ℕ) → (stateFault m c n ts ≡ k → stateFault m c n ts ≡ 0) → planOf m c n ts .number ≡ k → stateFault m c n ts ≡ 0
+  unfolding planOf
+  faultless-but k else e = by (own-number (finished m c (take n ts) (walked m c (take n ts))) (stateFault m c n ts))
+    where
+      by : (unlessFault (stateFault m c n ts) (finished m c (take n ts) (walked m c (take n ts))) .number ≡ stateFault m c n ts) ⊎ (stateFault m c n ts ≡ 0) → stateFault m c n ts ≡ 0
+      by (inl own) = else (sym own ∙ e)
+      by (inr none) = none
+
+  pub plan-faultless : planOf m c n ts .number ≡ 0 → stateFault m c n ts ≡ 0
+  plan-faultless e = faultless-but 0 (λ same. same) e
+
+  pub no-room-faultless : planOf m c n ts .number ≡ 7 → stateFault m c n ts ≡ 0
+  no-room-faultless e = faultless-but 7 (λ same. absurd (fault-seven m c n ts same)) e
+
+-- ---- a state that breaks no rule
+
+module _ (m : Machine) (c : Costs) (n : ℕ) (ts : List Task) (faultless : stateFault m c n ts ≡ 0) where
+  sane : Sane m c n ts
+  sane = state-sane m c n ts faultless
+
+  ended : planOf m c n ts ≡ finished m c (take n ts) (walked m c (take n ts))
+  unfolding planOf
+  ended = rw faultless
+
+  -- ---- the reply
+
+  pub plan-or-stuck : ((s : Stand) × (l : List (Placed ℕ)) × (walked m c (take n ts) ≡ fine s l) × (planOf m c n ts ≡ finished m c (take n ts) (fine s l))) ⊎ ((k : ℕ) × (walked m c (take n ts) ≡ stuck k) × (planOf m c n ts ≡ refused 7 (suc k)))
+  plan-or-stuck = by (walked m c (take n ts)) refl
+    where
+      by : (o : Outcome ℕ) → walked m c (take n ts) ≡ o → ((s : Stand) × (l : List (Placed ℕ)) × (walked m c (take n ts) ≡ fine s l) × (planOf m c n ts ≡ finished m c (take n ts) (fine s l))) ⊎ ((k : ℕ) × (walked m c (take n ts) ≡ stuck k) × (planOf m c n ts ≡ refused 7 (suc k)))
+      by (fine s l) e = inl (s, l, e, ended ∙ ap (finished m c (take n ts)) e)
+      by (stuck k) e = inr (k, e, ended ∙ ap (finished m c (take n ts)) e)
+
+  pub plan-comes : (planOf m c n ts .number ≡ 0) ↔ ((s : Stand) × (l : List (Placed ℕ)) × (walked m c (take n ts) ≡ fine s l))
+  plan-comes = ((λ e. by (walked m c (take n ts)) refl (sym (ap (λ (r : Reply). r .number) ended) ∙ e)), (λ w. ap (λ (r : Reply). r .number) (ended ∙ ap (finished m c (take n ts)) (w .2))))
+    where
+      by : (o : Outcome ℕ) → walked m c (take n ts) ≡ o → finished m c (take n ts) o .number ≡ 0 → (s : Stand) × (l : List (Placed ℕ)) × (walked m c (take n ts) ≡ fine s l)
+      by (fine s l) e z = (s, l, e)
+      by (stuck k) e z = absurd (omega arith)
+
+  pub no-room : (k : ℕ) → ((planOf m c n ts .number ≡ 7) × (planOf m c n ts .carries ≡ suc k)) ↔ (walked m c (take n ts) ≡ stuck k)
+  no-room k = ((λ e. by (walked m c (take n ts)) refl (sym (ap (λ (r : Reply). r .number) ended) ∙ e .0) (sym (ap (λ (r : Reply). r .carries) ended) ∙ e .1)), (λ w. (ap (λ (r : Reply). r .number) (ended ∙ ap (finished m c (take n ts)) w), ap (λ (r : Reply). r .carries) (ended ∙ ap (finished m c (take n ts)) w))))
+    where
+      by : (o : Outcome ℕ) → walked m c (take n ts) ≡ o → finished m c (take n ts) o .number ≡ 7 → finished m c (take n ts) o .carries ≡ suc k → walked m c (take n ts) ≡ stuck k
+      by (fine s l) e z y = absurd (omega arith)
+      by (stuck j) e z y = (let same : j ≡ k = omega arith in e ∙ ap stuck same)
+
+  pub no-room-at : (k : ℕ) → walked m c (take n ts) ≡ stuck k → SticksAt (rulesFor c (m .grain) (wholeAt (take n ts))) (record { core = 0; left = m .cores - 1; row = [] }) [] (packed (take n ts)) k
+  unfolding walked
+  no-room-at k e = sticks-at (rulesFor c (m .grain) (wholeAt (take n ts))) (packed (take n ts)) (record { core = 0; left = m .cores - 1; row = [] }) [] k e
+
+  -- ---- every task is placed
+
+  sized-place : (k : ℕ) → k < length (take n ts) → Sized (wholeAt (take n ts) k)
+  sized-place k low = sized-at (take n ts) (sane .timed) k low
+
+  sized-order : Each (λ k. Sized (wholeAt (take n ts) k)) (packed (take n ts))
+  sized-order = pack-every (denserAt (take n ts)) (λ k. Sized (wholeAt (take n ts) k)) (upto (length (take n ts))) (upto-each (λ k. Sized (wholeAt (take n ts) k)) (length (take n ts)) sized-place)
+
+  module _ (s : Stand) (l : List (Placed ℕ)) (planned : walked m c (take n ts) ≡ fine s l) where
+    shared : Shares (rulesFor c (m .grain) (wholeAt (take n ts))) (Fine c) (packed (take n ts)) l
+    unfolding walked
+    shared =
+        let sound = cd-sound c (m .grain) (wholeAt (take n ts)) (sane .costs) in
+        subst (IfFine (λ t k. Shares (rulesFor c (m .grain) (wholeAt (take n ts))) (Fine c) (packed (take n ts)) k)) planned
+        (shares (rulesFor c (m .grain) (wholeAt (take n ts))) (λ k. Sized (wholeAt (take n ts) k)) (Fine c) sound (packed (take n ts)) sized-order (record { core = 0; left = m .cores - 1; row = [] }) (sound .empty))
+
+    fits : Fit (Fine c) (m .cores) (length (packed (take n ts))) s l
+    unfolding walked
+    fits =
+        subst (IfFine (Fit (Fine c) (m .cores) (length (packed (take n ts))))) planned
+        (fit (rulesFor c (m .grain) (wholeAt (take n ts))) (λ k. Sized (wholeAt (take n ts) k)) (Fine c) (cd-sound c (m .grain) (wholeAt (take n ts)) (sane .costs)) (m .cores) (packed (take n ts)) sized-order (sane .cores-some))
+
+    pub all-placed : (k : ℕ) → k < length (take n ts) → Shared c (m .grain) (wholeAt (take n ts) k) k (ofTask k l)
+    all-placed k low =
+        let order = packing-order (take n ts) in
+        shared-of c (m .grain) (wholeAt (take n ts)) k (share-of (rulesFor c (m .grain) (wholeAt (take n ts))) (Fine c) k shared (order .once) (order .every k low))
+
+    pub budgets-add : (k : ℕ) → k < length (take n ts) → sumBy (λ q. q .budget) (ofTask k l) ≡ taskAt (take n ts) k .times .worst
+    unfolding wholePiece
+    budgets-add k low = shared-budgets c (m .grain) (wholeAt (take n ts) k) k (sane .costs) (sized-place k low) (all-placed k low)
+
+    pub windows-add : (k : ℕ) → k < length (take n ts) → sumBy (λ q. q .window) (ofTask k l) ≡ taskAt (take n ts) k .times .deadline
+    unfolding wholePiece
+    windows-add k low = shared-windows c (m .grain) (wholeAt (take n ts) k) k (sane .costs) (sized-place k low) (all-placed k low)
+
+    pub free-is-budget : (k : ℕ) → k < length (take n ts) → Free c (wholeAt (take n ts) k) → Each (λ e. e .piece .kind ≡ First → e .piece .window ≡ e .piece .budget) (ofTask k l)
+    free-is-budget k low free = shared-free c (m .grain) (wholeAt (take n ts) k) k (sane .costs) (sized-place k low) free (whole-kind (take n ts) k) (all-placed k low)
+
+    -- ---- every core passes
+
+    pub cores-pass : (q : ℕ) → verdictOf c (rowOf q l) ≡ Passes
+    cores-pass q = fits .rows q .passing
+
+    pub cores-keep-up : (q t : ℕ) → Live (coreOf c (rowOf q l)) t → demand (stall c) (coreOf c (rowOf q l)) t ≤ t
+    cores-keep-up q t live = passes-all c (rowOf q l) (fits .rows q .sizes) (cores-pass q) t live
+
+    -- ---- numbers
+
+    pub plan-counts : Counted (m .cores) (length (take n ts)) l
+    plan-counts =
+        let order = packing-order (take n ts) in
+        let few : length (take n ts) ≤ 64 = omega (arith, length-take n ts, sane .few) in
+        let pieces : length l ≤ length (take n ts) + (m .cores - 1) = omega (arith, fits .count, fits .cores, order .long) in
+        let row : (q : ℕ) → length (rowOf q l) ≤ length (take n ts) = (λ q. omega (arith, length-map (onCore q l) (λ (e : Placed ℕ). e .piece), row-short (rulesFor c (m .grain) (wholeAt (take n ts))) (Fine c) q shared, order .long)) in
+        record {
+          pieces = pieces;
+          pieces-fit = omega (arith, sane .cores-fit);
+          row = row;
+          row-fits = λ q. omega (arith, row q);
+          splits = omega (arith, shares-firsts c (m .grain) (wholeAt (take n ts)) (whole-kind (take n ts)) shared, fits .count, fits .cores, order .long);
+          cores = fits .seats;
+        }
+
+    -- ---- rows and words
+
+    room : Room l
+    room = record {
+      pieces = plan-counts .pieces-fit;
+      seats = λ q. omega (arith, plan-counts .row-fits q, length-map (onCore q l) (λ (e : Placed ℕ). e .piece));
+      cores = each-imp (λ (e : Placed ℕ). e .on < m .cores) (λ (e : Placed ℕ). e .on < 16) (λ e h. omega (arith, sane .cores-fit)) l (fits .seats);
+    }
+
+    laid : planOf m c n ts .plan .layout ≡ layoutOn none l
+    laid = ap (λ (r : Reply). r .plan .layout) (ended ∙ ap (finished m c (take n ts)) planned)
+
+    pub plan-shows : Shows (planOf m c n ts .plan .layout) l
+    plan-shows = rw laid (kept-shows (layoutOn none l) l room (kept l room))
+
+    pub words-show : (q : ℕ) → q < 16 → WordShows (getD (planOf m c n ts .plan .layout .words) q 0) (onCore q l)
+    words-show q low =
+        word-shows (getD (planOf m c n ts .plan .layout .words) q 0) (onCore q l) (rw laid (kept l room .core q low blank .word))
+        (apart-on (rulesFor c (m .grain) (wholeAt (take n ts))) (Fine c) q shared (packing-order (take n ts) .once))
