@@ -5,7 +5,6 @@
 --   fault-none, fault-here, fault-end
 --   fault-form, -size, -twin, -free      the fault of one task
 --   Good, Sane, state-sane      what is known of tasks, and of a machine with costs and tasks, that break no rule
---   length-mapped      how long an array of structs in a struct is, for `search`
 use mathlib.Core.Path.{_≡_, refl, sym, ap, _∙_}
 use mathlib.Core.Bool.{Bool, true, false, cond, _&&_}
 use mathlib.Core.List.{List, [], _∷_, _++_, map, append-assoc}
@@ -25,9 +24,6 @@ use Rattle.demand.specs.Sizes.{sized, sizedCosts, Sized, SizedCosts, Each, time
 use Rattle.demand.proofs.SizeLaws.{sized-true, sized-costs-true}
 use Rattle.task.specs.Names.{formed, sameName}
 use Rattle.task.specs.Tasks.{wholePiece, placeOf, faultOf, firstFault, orElse, past, taskAt, rule, stateFault, sizedMachine, coresMost, tasksMost}
-
-pub length-mapped : (X Y : Type 0) (f : X → Y) (l : List X) (n : ℕ) → length (map f l) ≡ n → length l ≡ n
-length-mapped X Y f l n e = sym (length-map l f) ∙ e
 
 module _ (n : Name) (ts : List Task) (i : ℕ) (d : Task) (room : i < length ts) where
   pub place-other : sameName n (getD ts i d .name) ≡ false → placeOf (i + 1) n (drop i ts) ≡ placeOf (i + 1 + 1) n (drop (i + 1) ts)

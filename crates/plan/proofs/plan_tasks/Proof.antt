@@ -1,9 +1,9 @@
 -- `plan_tasks` meets its contract: a fault is refused; else the walk over the packing order of the tidied list is the definition's, stuck or fine.
+use Rattle.demand.proofs.RunLaws.{length-mapped}
 use mathlib.Core.Path.{_≡_, sym, _∙_}
 use native.Mathlib.Omega.{arith}
 use lib.ListN.{length, take}
 use Rattle.task.proofs.TaskLaws.{state-sane}
-use Rattle.plan.proofs.Lists.{length-mapped}
 use Rattle.plan.proofs.PlanLaws.{small-padded, walk-fits, plan-refused, plan-stuck, plan-fine}
 use lib.ListN.{length}
 use borrow.Author.Needs.{needs}

@@ -1,4 +1,5 @@
 -- `rows::run_of` meets its contract: after i turns the first i pieces stand in the run.
+use Rattle.demand.proofs.RunLaws.{length-mapped}
 use Rattle.demand.specs.declared.Kind.the-variants.{Whole}
 use borrow.Author.Needs.{needs}
 use mathlib.Core.Path.{_≡_, refl, ap, _∙_}
@@ -8,7 +9,7 @@ use native.Mathlib.Omega.{arith}
 use lib.ListN.{length, take, getD, length-replicate}
 use Rattle.demand.specs.declared.Piece.{Piece}
 use Rattle.plan.specs.Layout.{pieceAt, pieceOf, blank}
-use Rattle.plan.proofs.Lists.{length-mapped, each-at, take-put, map-more}
+use Rattle.plan.proofs.Lists.{each-at, take-put, map-more}
 use Rattle.plan.proofs.rows.run_of.Statement.{statement}
 use Rattle.plan.proofs.rows.run_of.Tie as tie
 use Rattle.plan.proofs.rows.run_of.Reads as reads

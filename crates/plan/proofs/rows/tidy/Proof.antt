@@ -1,4 +1,5 @@
 -- `rows::tidy` meets its contract: from the count to i the list is blank, and past i as it was.
+use Rattle.demand.proofs.RunLaws.{length-mapped}
 use Rattle.plan.proofs.Lists.{fill-end}
 use borrow.Author.Needs.{needs}
 use mathlib.Core.Path.{_≡_, refl, sym, ap, _∙_}
@@ -9,7 +10,7 @@ use lib.ListN.{length, take, drop, replicate, take-append-drop, length-set, drop
 use lib.Seq.{length-take-le}
 use Rattle.task.specs.declared.Task.{Task}
 use Rattle.plan.specs.Plan.{noTask, padded}
-use Rattle.plan.proofs.Lists.{length-mapped, fill-more, fill-none}
+use Rattle.plan.proofs.Lists.{fill-more, fill-none}
 use Rattle.plan.proofs.rows.tidy.Statement.{statement}
 use Rattle.plan.proofs.rows.tidy.Tie as tie
 use Rattle.plan.proofs.rows.tidy.Reads as reads

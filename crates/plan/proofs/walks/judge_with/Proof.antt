@@ -1,4 +1,5 @@
 -- `walks::judge_with` meets its contract: the row with the piece behind it is within the sizes, so the verdict is given and not refused.
+use Rattle.demand.proofs.RunLaws.{length-mapped}
 use mathlib.Core.Path.{_≡_, sym, ap, _∙_}
 use mathlib.Core.List.{List, [], _∷_, _++_}
 use Prim.Native.Nat.{ℕ, _+_}
@@ -11,7 +12,7 @@ use Rattle.demand.specs.declared.Answer.the-variants.{Judged, Refused}
 use Rattle.demand.specs.Sizes.{Sized, Each}
 use Rattle.demand.specs.Verdict.{verdictOf}
 use Rattle.plan.specs.Going.{told}
-use Rattle.plan.proofs.Lists.{take-put, length-mapped}
+use Rattle.plan.proofs.Lists.{take-put}
 use Rattle.plan.proofs.JudgeLaws.{judged-row, judged-is, never-refused}
 use borrow.Author.Needs.{needs}
 use Rattle.plan.proofs.walks.judge_with.Statement.{statement}

@@ -1,8 +1,8 @@
 -- `walks::split_on` meets its contract: the row and the piece are within the sizes, so the split is given and not refused.
+use Rattle.demand.proofs.RunLaws.{length-mapped}
 use mathlib.Core.Path.{_≡_, sym, _∙_}
 use native.Mathlib.Omega.{arith}
 use lib.ListN.{length}
-use Rattle.plan.proofs.Lists.{length-mapped}
 use Rattle.plan.proofs.JudgeLaws.{split-is, never-denied}
 use borrow.Author.Needs.{needs}
 use Rattle.plan.proofs.walks.split_on.Statement.{statement}

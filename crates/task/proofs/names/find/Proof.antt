@@ -1,11 +1,12 @@
 -- `names::find` meets its contract: what is left has the same place.
+use Rattle.demand.proofs.RunLaws.{length-mapped}
 use mathlib.Core.Path.{_≡_, sym, _∙_}
 use Prim.Native.Nat.{_≤_, _-_, _+_}
 use native.Mathlib.Omega.{arith}
 use lib.ListN.{length, take, drop, getD, length-take}
 use lib.Seq.{getD-take}
 use Rattle.task.specs.Tasks.{placeOf, past}
-use Rattle.task.proofs.TaskLaws.{length-mapped, run-other, run-here, run-end}
+use Rattle.task.proofs.TaskLaws.{run-other, run-here, run-end}
 use borrow.Author.Needs.{needs}
 use Rattle.task.proofs.names.find.Statement.{statement}
 use Rattle.task.proofs.names.find.Tie as tie

@@ -1,4 +1,5 @@
 -- `names::first_fault` meets its contract: what is left has the same first fault.
+use Rattle.demand.proofs.RunLaws.{length-mapped}
 use borrow.Author.Needs.{needs}
 use mathlib.Core.Path.{_≡_, sym, _∙_}
 use mathlib.Core.List.{[]}
@@ -6,7 +7,7 @@ use Prim.Native.Nat.{_≤_, _-_, _+_}
 use native.Mathlib.Omega.{arith}
 use lib.ListN.{length, take, drop, length-take}
 use Rattle.task.specs.Tasks.{firstFault, faultOf, taskAt}
-use Rattle.task.proofs.TaskLaws.{length-mapped, run-fault-none, run-fault-here, run-fault-end}
+use Rattle.task.proofs.TaskLaws.{run-fault-none, run-fault-here, run-fault-end}
 use Rattle.task.proofs.names.first_fault.Statement.{statement}
 use Rattle.task.proofs.names.first_fault.Tie as tie
 use Rattle.task.proofs.names.first_fault.Reads as reads
