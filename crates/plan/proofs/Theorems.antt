@@ -15,6 +15,7 @@
 --   free-is-budget        with all costs, J and P zero the window of a first piece is its budget, which is C=D
 --   cores-pass            every core passes
 --   cores-keep-up         so no live length, however long, asks more of a core than itself
+--   task-pieces           a task has one piece, and a second exactly where it has a first piece: so first pieces count the tasks that are split
 --   plan-counts           at most 79 pieces, at most 64 on a core, at most m - 1 splits, all on the machine's cores
 --   plan-shows            the plan's rows show what was placed: each piece by its number, each core's row by the numbers of its pieces
 --   words-show            a core's word has bit k set exactly when the task at place k has a piece there, and its ones are its pieces
@@ -49,7 +50,7 @@ use Rattle.plan.proofs.OrderLaws.{pack-every}
 use Rattle.plan.proofs.WalkLaws.{IfFine, Shares, shares, Fit, fit, SticksAt, sticks-at}
 use Rattle.plan.proofs.RuleLaws.{Fine, cd-sound}
 use Rattle.plan.proofs.PlanLaws.{sized-at, upto-each, fault-seven}
-use Rattle.plan.proofs.ShareLaws.{rearranged, share-of, shared-of, shared-budgets, shared-windows, shared-free, shares-firsts, row-short}
+use Rattle.plan.proofs.ShareLaws.{rearranged, share-of, shared-of, shared-budgets, shared-windows, shared-free, shared-firsts, shares-firsts, row-short}
 use Rattle.plan.proofs.ShowLaws.{Room, kept, kept-shows, each-middle}
 use Rattle.plan.proofs.WordLaws.{apart-on, word-shows}
 
@@ -181,6 +182,9 @@ module _ (m : Machine) (c : Costs) (n : ℕ) (ts : List Task) (faultless : state
     cores-keep-up q t live = passes-all c (rowOf q l) (fits .rows q .sizes) (cores-pass q) t live
 
     -- ---- numbers
+
+    pub task-pieces : (k : ℕ) → k < length (take n ts) → length (ofTask k l) ≡ 1 + firsts (ofTask k l)
+    task-pieces k low = shared-firsts c (m .grain) (wholeAt (take n ts) k) k (whole-kind (take n ts) k) (all-placed k low)
 
     pub plan-counts : Counted (m .cores) (length (take n ts)) l
     plan-counts =
