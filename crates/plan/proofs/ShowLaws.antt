@@ -5,6 +5,7 @@
 --   Core s q x           core q of the layout s has the pieces x
 --   Size, Kept           the arrays' lengths; the layout has a log
 --   Room l               there is room for all that is placed
+--   each-middle          what holds of each holds of one
 --   kept                 what was put is what the layout has
 --   kept-shows           and so shows
 use mathlib.Core.Path.{_≡_, refl, sym, ap, _∙_, subst}
@@ -123,7 +124,7 @@ pub record Room (log : List (Placed ℕ)) : Type 0 where
   pub seats : (q : ℕ) → length (onCore q log) ≤ 64
   pub cores : Each (λ e. e .on < 16) log
 
-each-middle : {B : Type 0} (P : B → Type 0) (k : List B) (e : B) (l : List B) → Each P (k ++ (e ∷ l)) → P e
+pub each-middle : {B : Type 0} (P : B → Type 0) (k : List B) (e : B) (l : List B) → Each P (k ++ (e ∷ l)) → P e
 each-middle P [] e l h = h .0
 each-middle P (a ∷ k) e l h = each-middle P k e l (h .1)
 

@@ -7,6 +7,7 @@
 --   no-room               7 comes exactly when the walk sticks, and carries the place of the task that it sticks at
 --   plan-faultless, no-room-faultless      and neither comes for a state that breaks a rule
 --   no-room-at            those before that task in packing order are placed, and where they end it has no place
+--   no-room-place         and it is one of the first n
 --   packing-order         the packing order has the place of each task, once
 --   all-placed            every task is placed: whole on a core, or by its greatest split on a core and the next; nothing else is placed of it
 --   budgets-add           the budgets of a task's pieces add to C
@@ -14,6 +15,7 @@
 --   free-is-budget        with all costs, J and P zero the window of a first piece is its budget, which is C=D
 --   cores-pass            every core passes
 --   cores-keep-up         so no live length, however long, asks more of a core than itself
+--   task-pieces           a task has one piece, and a second exactly where it has a first piece: so first pieces count the tasks that are split
 --   plan-counts           at most 79 pieces, at most 64 on a core, at most m - 1 splits, all on the machine's cores
 --   plan-shows            the plan's rows show what was placed: each piece by its number, each core's row by the numbers of its pieces
 --   words-show            a core's word has bit k set exactly when the task at place k has a piece there, and its ones are its pieces
@@ -39,17 +41,17 @@ use Rattle.task.specs.Tasks.{wholePiece, taskAt, stateFault}
 use Rattle.task.proofs.TaskLaws.{Sane, state-sane}
 use Rattle.plan.specs.declared.Reply.{Reply}
 use Rattle.plan.specs.Order.{denserAt, upto}
-use Rattle.plan.specs.Walk.{Stand, Placed, Outcome, fine, stuck, onCore, rowOf, rulesFor}
+use Rattle.plan.specs.Walk.{Stand, Placed, Outcome, fine, stuck, onCore, rowOf}
 use Rattle.plan.specs.Layout.{layoutOn, none, blank}
 use Rattle.plan.specs.Plan.{wholeAt, walked, refused, finished, unlessFault, planOf}
-use Rattle.plan.specs.Shares.{packed, Rearranged, ofTask, sumBy, firsts, Shared}
+use Rattle.plan.specs.Shares.{packed, rulesOf, onFirst, Rearranged, ofTask, sumBy, firsts, Shared}
 use Rattle.plan.specs.Shows.{Shows, WordShows}
 use Rattle.plan.proofs.OrderLaws.{pack-every}
 use Rattle.plan.proofs.WalkLaws.{IfFine, Shares, shares, Fit, fit, SticksAt, sticks-at}
 use Rattle.plan.proofs.RuleLaws.{Fine, cd-sound}
 use Rattle.plan.proofs.PlanLaws.{sized-at, upto-each, fault-seven}
-use Rattle.plan.proofs.ShareLaws.{rearranged, share-of, shared-of, shared-budgets, shared-windows, shared-free, shares-firsts, row-short}
-use Rattle.plan.proofs.ShowLaws.{Room, kept, kept-shows}
+use Rattle.plan.proofs.ShareLaws.{rearranged, share-of, shared-of, shared-budgets, shared-windows, shared-free, shared-firsts, shares-firsts, row-short}
+use Rattle.plan.proofs.ShowLaws.{Room, kept, kept-shows, each-middle}
 use Rattle.plan.proofs.WordLaws.{apart-on, word-shows}
 
 -- ---- the packing order
@@ -73,7 +75,7 @@ whole-kind ts k = refl
 -- ---- a state that breaks a rule has its own number
 
 module _ (m : Machine) (c : Costs) (n : ℕ) (ts : List Task) where
-  own-number : (o : Reply) (k : ℕ) → unlessFault k o .number ≡ k ⊎ (k ≡ 0)
+  own-number : (o : Reply) (k : ℕ) → (unlessFault k o .number ≡ k) ⊎ (k ≡ 0)
   own-number o zero = inr refl
   own-number o (suc k) = inl refl
 
@@ -124,9 +126,14 @@ module _ (m : Machine) (c : Costs) (n : ℕ) (ts : List Task) (faultless : state
       by (fine s l) e z y = absurd (omega arith)
       by (stuck j) e z y = (let same : j ≡ k = omega arith in e ∙ ap stuck same)
 
-  pub no-room-at : (k : ℕ) → walked m c (take n ts) ≡ stuck k → SticksAt (rulesFor c (m .grain) (wholeAt (take n ts))) (record { core = 0; left = m .cores - 1; row = [] }) [] (packed (take n ts)) k
+  pub no-room-at : (k : ℕ) → walked m c (take n ts) ≡ stuck k → SticksAt (rulesOf m c (take n ts)) (onFirst m) [] (packed (take n ts)) k
   unfolding walked
-  no-room-at k e = sticks-at (rulesFor c (m .grain) (wholeAt (take n ts))) (packed (take n ts)) (record { core = 0; left = m .cores - 1; row = [] }) [] k e
+  no-room-at k e = sticks-at (rulesOf m c (take n ts)) (packed (take n ts)) (onFirst m) [] k e
+
+  pub no-room-place : (k : ℕ) → walked m c (take n ts) ≡ stuck k → k < length (take n ts)
+  no-room-place k e =
+      let at = no-room-at k e in
+      each-middle (λ (j : ℕ). j < length (take n ts)) (at .before) k (at .after) (subst (Each (λ j. j < length (take n ts))) (at .order) (packing-order (take n ts) .below))
 
   -- ---- every task is placed
 
@@ -137,23 +144,23 @@ module _ (m : Machine) (c : Costs) (n : ℕ) (ts : List Task) (faultless : state
   sized-order = pack-every (denserAt (take n ts)) (λ k. Sized (wholeAt (take n ts) k)) (upto (length (take n ts))) (upto-each (λ k. Sized (wholeAt (take n ts) k)) (length (take n ts)) sized-place)
 
   module _ (s : Stand) (l : List (Placed ℕ)) (planned : walked m c (take n ts) ≡ fine s l) where
-    shared : Shares (rulesFor c (m .grain) (wholeAt (take n ts))) (Fine c) (packed (take n ts)) l
+    shared : Shares (rulesOf m c (take n ts)) (Fine c) (packed (take n ts)) l
     unfolding walked
     shared =
         let sound = cd-sound c (m .grain) (wholeAt (take n ts)) (sane .costs) in
-        subst (IfFine (λ t k. Shares (rulesFor c (m .grain) (wholeAt (take n ts))) (Fine c) (packed (take n ts)) k)) planned
-        (shares (rulesFor c (m .grain) (wholeAt (take n ts))) (λ k. Sized (wholeAt (take n ts) k)) (Fine c) sound (packed (take n ts)) sized-order (record { core = 0; left = m .cores - 1; row = [] }) (sound .empty))
+        subst (IfFine (λ t k. Shares (rulesOf m c (take n ts)) (Fine c) (packed (take n ts)) k)) planned
+        (shares (rulesOf m c (take n ts)) (λ k. Sized (wholeAt (take n ts) k)) (Fine c) sound (packed (take n ts)) sized-order (onFirst m) (sound .empty))
 
     fits : Fit (Fine c) (m .cores) (length (packed (take n ts))) s l
     unfolding walked
     fits =
         subst (IfFine (Fit (Fine c) (m .cores) (length (packed (take n ts))))) planned
-        (fit (rulesFor c (m .grain) (wholeAt (take n ts))) (λ k. Sized (wholeAt (take n ts) k)) (Fine c) (cd-sound c (m .grain) (wholeAt (take n ts)) (sane .costs)) (m .cores) (packed (take n ts)) sized-order (sane .cores-some))
+        (fit (rulesOf m c (take n ts)) (λ k. Sized (wholeAt (take n ts) k)) (Fine c) (cd-sound c (m .grain) (wholeAt (take n ts)) (sane .costs)) (m .cores) (packed (take n ts)) sized-order (sane .cores-some))
 
     pub all-placed : (k : ℕ) → k < length (take n ts) → Shared c (m .grain) (wholeAt (take n ts) k) k (ofTask k l)
     all-placed k low =
         let order = packing-order (take n ts) in
-        shared-of c (m .grain) (wholeAt (take n ts)) k (share-of (rulesFor c (m .grain) (wholeAt (take n ts))) (Fine c) k shared (order .once) (order .every k low))
+        shared-of c (m .grain) (wholeAt (take n ts)) k (share-of (rulesOf m c (take n ts)) (Fine c) k shared (order .once) (order .every k low))
 
     pub budgets-add : (k : ℕ) → k < length (take n ts) → sumBy (λ q. q .budget) (ofTask k l) ≡ taskAt (take n ts) k .times .worst
     unfolding wholePiece
@@ -176,12 +183,15 @@ module _ (m : Machine) (c : Costs) (n : ℕ) (ts : List Task) (faultless : state
 
     -- ---- numbers
 
+    pub task-pieces : (k : ℕ) → k < length (take n ts) → length (ofTask k l) ≡ 1 + firsts (ofTask k l)
+    task-pieces k low = shared-firsts c (m .grain) (wholeAt (take n ts) k) k (whole-kind (take n ts) k) (all-placed k low)
+
     pub plan-counts : Counted (m .cores) (length (take n ts)) l
     plan-counts =
         let order = packing-order (take n ts) in
         let few : length (take n ts) ≤ 64 = omega (arith, length-take n ts, sane .few) in
         let pieces : length l ≤ length (take n ts) + (m .cores - 1) = omega (arith, fits .count, fits .cores, order .long) in
-        let row : (q : ℕ) → length (rowOf q l) ≤ length (take n ts) = (λ q. omega (arith, length-map (onCore q l) (λ (e : Placed ℕ). e .piece), row-short (rulesFor c (m .grain) (wholeAt (take n ts))) (Fine c) q shared, order .long)) in
+        let row : (q : ℕ) → length (rowOf q l) ≤ length (take n ts) = (λ q. omega (arith, length-map (onCore q l) (λ (e : Placed ℕ). e .piece), row-short (rulesOf m c (take n ts)) (Fine c) q shared, order .long)) in
         record {
           pieces = pieces;
           pieces-fit = omega (arith, sane .cores-fit);
@@ -209,4 +219,4 @@ module _ (m : Machine) (c : Costs) (n : ℕ) (ts : List Task) (faultless : state
     pub words-show : (q : ℕ) → q < 16 → WordShows (getD (planOf m c n ts .plan .layout .words) q 0) (onCore q l)
     words-show q low =
         word-shows (getD (planOf m c n ts .plan .layout .words) q 0) (onCore q l) (rw laid (kept l room .core q low blank .word))
-        (apart-on (rulesFor c (m .grain) (wholeAt (take n ts))) (Fine c) q shared (packing-order (take n ts) .once))
+        (apart-on (rulesOf m c (take n ts)) (Fine c) q shared (packing-order (take n ts) .once))
