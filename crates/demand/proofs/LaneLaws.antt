@@ -1,9 +1,9 @@
 -- Laws of a core that lies in an array.
 -- Assumes nothing.
 --
---   rows-length, rows-more   n places, and one place more
+--   rows-length, rows-more, rows-lane   n places, and one place more
 --   total-more, largest-more, earliest-more     and what that adds to each figure
---   lane-each             what holds of all rows holds of each lane
+--   lane-each, rows-front what holds of all rows holds of each lane, and of the rows before the last
 --   least-live-rows       t0, by the lane at place 0
 --   rows-put              seven numbers written at a place are a piece there, and nothing before it changes
 --   tight-of-rows         the tight window of the last lane
@@ -40,6 +40,9 @@ rows-length a (suc n) = rw (length-append, rows-length a n) (omega arith)
 pub rows-more : (a : List ℕ) (i : ℕ) → rows a (i + 1) ≡ rows a i ++ (lane a i ∷ [])
 rows-more a i = rw add-one
 
+pub rows-lane : (a : List ℕ) (i : ℕ) (q : Charged) → q ≡ lane a i → rows a (i + 1) ≡ rows a i ++ (q ∷ [])
+rows-lane a i q is = rw (is, add-one)
+
 pub total-more : (f : Charged → ℕ) (a : List ℕ) (i : ℕ) → total f (rows a (i + 1)) ≡ total f (rows a i) + f (lane a i)
 total-more f a i = rw add-one (total-snoc f (rows a i) (lane a i))
 
@@ -48,6 +51,9 @@ largest-more a i = rw add-one (largest-snoc (rows a i) (lane a i))
 
 pub earliest-more : (w : ℕ) (a : List ℕ) (i : ℕ) → earliest w (rows a (i + 1)) ≡ min (earliest w (rows a i)) (lane a i .window - lane a i .jitter)
 earliest-more w a i = rw add-one (earliest-snoc w (rows a i) (lane a i))
+
+pub rows-front : (P : Charged → Type 0) (a : List ℕ) (n : ℕ) → Each P (rows a (n + 1)) → Each P (rows a n)
+rows-front P a n ok = each-front P (rows a n) (lane a n) (rw (rows-more a n) at ok)
 
 pub lane-each : (P : Charged → Type 0) (a : List ℕ) (n : ℕ) → Each P (rows a n) → (i : ℕ) → i < n → P (lane a i)
 lane-each P a zero ok i h = absurd (not-suc-le-zero h)

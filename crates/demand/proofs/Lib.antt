@@ -9,6 +9,7 @@ pub mod RunLaws
 pub mod BusyLaws
 pub mod VerdictLaws
 pub mod Judgement
+pub mod CapLaws
 pub mod SearchLaws
 pub mod SplitLaws
 pub mod Cases

@@ -1,6 +1,7 @@
 // What one core is asked for, the verdict on it and the split of a task on it: document 01, "A piece and its charge" to "The C=D walk".
 //
 // Every public function takes any input. It refuses what document 01 refuses, and its contract is an equation with one definition of `specs/`.
+mod caps;
 mod charges;
 mod demands;
 mod lanes;
