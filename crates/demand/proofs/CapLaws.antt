@@ -6,6 +6,7 @@
 --   lowers-same, lowers-again           the same, with a second length
 --   passed-start, -step, -done          the walk down, one length more
 --   caps-both                           two walks one after the other
+--   bounds-as, caps-as                  both from the code's own figures
 --   beside-snoc, demand-same            the demand with q behind, and beside
 --   bound-most, -squeezed, -undecided, -own, -never, -stands      what the core with q behind tells
 use mathlib.Core.Path.{_≡_, refl, sym, ap, _∙_, subst}
@@ -23,6 +24,7 @@ use Rattle.demand.specs.declared.Found.the-variants.{At, Nothing}
 use Rattle.demand.specs.declared.Verdict.{Verdict}
 use Rattle.demand.specs.declared.Verdict.the-variants.{Passes, Overloaded, Undecided}
 use Rattle.demand.specs.declared.caps.Level.{Level}
+use Rattle.demand.specs.declared.caps.Bound.{Bound}
 use Rattle.demand.specs.declared.caps.Bound.the-variants.{Stands, Falls, AtMost}
 use Rattle.demand.specs.Sizes.{timeMost, Ranged, Each}
 use Rattle.demand.specs.Demand.{total, jobsDue, interrupts, largestWindow, blocking, load, demand, Live, leastLive}
@@ -156,13 +158,23 @@ module _ (b : ℕ) (qs : List Charged) (q : Charged) where
               omega (arith, fits, beside-mono f {t = u} {u = end - 1} (omega arith) (λ w. omega (arith, calm .1 w)))
         ]
 
+-- ---- as the code has them
+
+pub bounds-as : (b d : ℕ) (qs rs : List Charged) (q s : Charged) (r : Bound) → b ≡ d → qs ≡ rs → q ≡ s → Bounds b qs q r → Bounds d rs s r
+bounds-as b d qs rs q s r stall row piece bound =
+    subst (λ (e : ℕ). Bounds e rs s r) stall (subst (λ (ps : List Charged). Bounds b ps s r) row (subst (λ (p : Charged). Bounds b qs p r) piece bound))
+
+pub caps-as : (b d : ℕ) (qs rs : List Charged) (q s : Charged) (f a e r : ℕ) → b ≡ d → qs ≡ rs → q ≡ s → a ≡ e → Caps b qs q f a r → Caps d rs s f e r
+caps-as b d qs rs q s f a e r stall row piece start caps =
+    subst (λ (m : ℕ). Caps d rs s f m r) start (subst (λ (m : ℕ). Caps m rs s f a r) stall (subst (λ (ps : List Charged). Caps b ps s f a r) row (subst (λ (p : Charged). Caps b qs p f a r) piece caps)))
+
 -- ---- with the piece behind
 
-blocking-below : (b : ℕ) (qs : List Charged) (u : ℕ) → u < largestWindow qs → blocking b qs u ≡ b
+pub blocking-below : (b : ℕ) (qs : List Charged) (u : ℕ) → u < largestWindow qs → blocking b qs u ≡ b
 unfolding blocking
 blocking-below b qs u h = simp (lt-ltb u (largestWindow qs) h)
 
-blocking-above : (b : ℕ) (qs : List Charged) (u : ℕ) → largestWindow qs ≤ u → blocking b qs u ≡ 0
+pub blocking-above : (b : ℕ) (qs : List Charged) (u : ℕ) → largestWindow qs ≤ u → blocking b qs u ≡ 0
 unfolding blocking
 blocking-above b qs u h = simp (le-ltb u (largestWindow qs) h)
 

@@ -11,5 +11,6 @@ pub mod VerdictLaws
 pub mod Judgement
 pub mod CapLaws
 pub mod SearchLaws
+pub mod SkipLaws
 pub mod SplitLaws
 pub mod Cases

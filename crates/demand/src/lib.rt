@@ -9,6 +9,7 @@ mod lengths;
 mod sizes;
 mod spans;
 mod splits;
+mod starts;
 
 use charges::stall_of;
 use demands::demand_at;
@@ -82,12 +83,6 @@ pub enum Found {
 pub enum Split {
     Cut(u64, u64),
     Nowhere,
-}
-
-/// What one candidate for a split told: it is allowed, with its tight window, or how far down the next may stand.
-pub enum Step {
-    Done(u64),
-    Below(u64),
 }
 
 /// Which figure of the pieces is summed.
