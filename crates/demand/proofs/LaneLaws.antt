@@ -1,13 +1,14 @@
 -- Laws of a core that lies in an array.
 -- Assumes nothing.
 --
---   rows-length, rows-more   n places, and one place more
+--   rows-length, rows-more, rows-lane   n places, and one place more
 --   total-more, largest-more, earliest-more     and what that adds to each figure
---   lane-each             what holds of all rows holds of each lane
+--   lane-each, rows-front what holds of all rows holds of each lane, and of the rows before the last
 --   least-live-rows       t0, by the lane at place 0
 --   rows-put              seven numbers written at a place are a piece there, and nothing before it changes
 --   tight-of-rows         the tight window of the last lane
---   rows-kept             a piece written behind the rows leaves them as they were
+--   rows-kept, lane-put   a piece written behind the rows leaves them as they were, and lies there
+--   head-total            one charge is at most all
 --   core-snoc, core-more  the pieces of a core, one more
 use mathlib.Core.Path.{_≡_, refl, sym, ap, subst, _∙_}
 use mathlib.Core.List.{List, [], _∷_, _++_, map}
@@ -40,6 +41,9 @@ rows-length a (suc n) = rw (length-append, rows-length a n) (omega arith)
 pub rows-more : (a : List ℕ) (i : ℕ) → rows a (i + 1) ≡ rows a i ++ (lane a i ∷ [])
 rows-more a i = rw add-one
 
+pub rows-lane : (a : List ℕ) (i : ℕ) (q : Charged) → q ≡ lane a i → rows a (i + 1) ≡ rows a i ++ (q ∷ [])
+rows-lane a i q is = rw (is, add-one)
+
 pub total-more : (f : Charged → ℕ) (a : List ℕ) (i : ℕ) → total f (rows a (i + 1)) ≡ total f (rows a i) + f (lane a i)
 total-more f a i = rw add-one (total-snoc f (rows a i) (lane a i))
 
@@ -48,6 +52,9 @@ largest-more a i = rw add-one (largest-snoc (rows a i) (lane a i))
 
 pub earliest-more : (w : ℕ) (a : List ℕ) (i : ℕ) → earliest w (rows a (i + 1)) ≡ min (earliest w (rows a i)) (lane a i .window - lane a i .jitter)
 earliest-more w a i = rw add-one (earliest-snoc w (rows a i) (lane a i))
+
+pub rows-front : (P : Charged → Type 0) (a : List ℕ) (n : ℕ) → Each P (rows a (n + 1)) → Each P (rows a n)
+rows-front P a n ok = each-front P (rows a n) (lane a n) (rw (rows-more a n) at ok)
 
 pub lane-each : (P : Charged → Type 0) (a : List ℕ) (n : ℕ) → Each P (rows a n) → (i : ℕ) → i < n → P (lane a i)
 lane-each P a zero ok i h = absurd (not-suc-le-zero h)
@@ -132,6 +139,21 @@ snoc-front (a ∷ xs) (b ∷ ys) x y e same =
     let tails : xs ++ (x ∷ []) ≡ ys ++ (y ∷ []) = cc in
     let heads : a ≡ b = cc in
     cc (snoc-front xs ys x y tails (omega arith))
+
+snoc-last : (xs ys : List Charged) (x y : Charged) → xs ++ (x ∷ []) ≡ ys ++ (y ∷ []) → length xs ≡ length ys → x ≡ y
+snoc-last [] [] x y e same = cc
+snoc-last [] (b ∷ ys) x y e same = absurd (omega arith)
+snoc-last (a ∷ xs) [] x y e same = absurd (omega arith)
+snoc-last (a ∷ xs) (b ∷ ys) x y e same =
+    let tails : xs ++ (x ∷ []) ≡ ys ++ (y ∷ []) = cc in
+    snoc-last xs ys x y tails (omega arith)
+
+pub lane-put : (a b : List ℕ) (n : ℕ) (q : Charged) → rows b (n + 1) ≡ rows a n ++ (q ∷ []) → lane b n ≡ q
+lane-put a b n q e = snoc-last (rows b n) (rows a n) (lane b n) q (sym (rows-more b n) ∙ e) (omega (arith, rows-length a n, rows-length b n))
+
+pub head-total : (a : List ℕ) (n : ℕ) → 1 ≤ n → lane a 0 .charge ≤ total (λ q. q .charge) (rows a n)
+head-total a zero h = absurd (not-suc-le-zero h)
+head-total a (suc n) h = let more = rows-head a n in rw (more .1) (omega arith)
 
 pub rows-kept : (a b : List ℕ) (n : ℕ) (q : Charged) → rows b (n + 1) ≡ rows a n ++ (q ∷ []) → rows b n ≡ rows a n
 rows-kept a b n q e = snoc-front (rows b n) (rows a n) (lane b n) q (sym (rows-more b n) ∙ e) (omega (arith, rows-length a n, rows-length b n))

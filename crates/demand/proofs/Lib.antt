@@ -9,7 +9,9 @@ pub mod RunLaws
 pub mod BusyLaws
 pub mod VerdictLaws
 pub mod Judgement
+pub mod CapLaws
 pub mod SearchLaws
+pub mod SkipLaws
 pub mod SplitLaws
 pub mod AnswerLaws
 pub mod Cases

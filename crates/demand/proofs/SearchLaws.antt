@@ -3,14 +3,15 @@
 --
 --   first-countable, last-countable    the pieces of a split can be charged
 --   first-charge, last-charge          what they are charged above their budgets
---   ready-kept, kept-again, laid-first, laid-kept, laid-alone      the core and the last piece in their arrays
+--   core-weighs               the pieces of a core are charged something
+--   ready-laid, ready-kept, kept-same, kept-again, laid-first, laid-kept, laid-alone      the core and the last piece in their arrays
 --   tight-parts               the sum of the tight window: stall, charge and all interrupts
 --   tight-in                  the tight window that is found is the one that is meant
 --   tight-same                it is one
 --   untight, fails-here, fails-there   why a candidate does not fit
 --   last-undecided            a last piece with no busy length: no greater one has one
 --   step-none, step-stop, step-done    what one candidate told
---   none-first, none-next, none-end    no candidate above is allowed: at the start, after a step, at the end
+--   none-first, none-start, none-next, none-end    no candidate above is allowed: at the start, after a step, at the end
 --   splits-of                 the choice over charged pieces is the split of the pieces
 use mathlib.Core.Path.{_≡_, refl, sym, ap, _∙_, subst, fun-ext}
 use mathlib.Core.List.{List, [], _∷_, _++_}
@@ -30,21 +31,21 @@ use Rattle.demand.specs.declared.Verdict.{Verdict}
 use Rattle.demand.specs.declared.Verdict.the-variants.{Passes, Overloaded, Undecided}
 use Rattle.demand.specs.declared.Split.{Split}
 use Rattle.demand.specs.declared.Split.the-variants.{Cut, Nowhere}
-use Rattle.demand.specs.declared.Step.the-variants.{Done, Below}
-use Rattle.demand.specs.Sizes.{SizedCosts, Sized, Countable, Ranged, Each}
+use Rattle.demand.specs.declared.splits.Step.the-variants.{Done, Below}
+use Rattle.demand.specs.Sizes.{runMost, SizedCosts, Sized, Countable, Ranged, Each}
 use Rattle.demand.specs.Charge.{charge, charged, ipiCost, coreOf, stall}
-use Rattle.demand.specs.Demand.{ceil, total, interrupts}
+use Rattle.demand.specs.Demand.{ceil, total, interrupts, largestWindow}
 use Rattle.demand.specs.Busy.{Least, Holds, Finds, leastHolding, busyLoad, busySum, later, tightSum, tightWindow}
 use Rattle.demand.specs.Verdict.{Means, verdict, verdictOf}
 use Rattle.demand.specs.Split.{lastJitter, firstPiece, lastPiece, tightOn, Allowed, Candidate, Greatest, Splits}
 use Rattle.demand.specs.Answer.{tightOfLast}
-use Rattle.demand.specs.Search.{Ready, Kept, withFirst, lastAlone, tightBeside, Tight, Fits, NoneAbove, Chosen, TightIn, Steps}
-use Rattle.demand.specs.Lanes.{rows}
-use Rattle.demand.proofs.Sums.{total-snoc, each-snoc}
+use Rattle.demand.specs.Search.{Weighs, Ready, Kept, withFirst, lastAlone, tightBeside, Tight, Fits, NoneAbove, Chosen, TightIn, Steps, Starts}
+use Rattle.demand.specs.Lanes.{rows, lane, term}
+use Rattle.demand.proofs.Sums.{total-snoc, each-snoc, each-map}
 use Rattle.demand.proofs.DemandLaws.{Recurs, interrupts-mono, sum-mono}
-use Rattle.demand.proofs.ChargeLaws.{charged-ranged}
+use Rattle.demand.proofs.ChargeLaws.{charged-ranged, core-ranged, all-countable}
 use Rattle.demand.proofs.BusyLaws.{least-unique, least-holding-finds, tight-of-last}
-use Rattle.demand.proofs.LaneLaws.{rows-kept, core-snoc}
+use Rattle.demand.proofs.LaneLaws.{rows-kept, lane-put, core-snoc}
 use Rattle.demand.proofs.VerdictLaws.{verdict-means}
 
 -- ---- the two pieces
@@ -100,10 +101,29 @@ pub alone-ranged : (c : Costs) (p : Piece) (x w : ℕ) → SizedCosts c → Size
 unfolding lastAlone
 alone-ranged c p x w costs ok = (charged-ranged c costs (lastPiece c p x w) (last-countable c p x w costs ok), tt)
 
+charged-weighs : (c : Costs) (p : Piece) → Sized p → Weighs (charged c p)
+unfolding charged charge
+charged-weighs c p ok = record { some = omega arith }
+
+pub core-weighs : (c : Costs) (ps : List Piece) → Each Sized ps → Each Weighs (coreOf c ps)
+unfolding coreOf
+core-weighs c ps each = each-map Sized Weighs (charged c) (charged-weighs c) ps each
+
 -- ---- in the array
 
+pub ready-laid : (c : Costs) (n : ℕ) (ps : List Piece) → SizedCosts c → n < runMost → Each Sized ps → (a : List ℕ) → rows a n ≡ coreOf c ps → length a ≡ 553 → Ready a n
+ready-laid c n ps costs room each a laid long = record {
+  room = room;
+  ranged = rw laid (core-ranged c costs ps (all-countable ps each));
+  weighs = rw laid (core-weighs c ps each);
+  long = long;
+}
+
 pub ready-kept : (a b : List ℕ) (n : ℕ) → Ready a n → Kept a b n → Ready b n
-ready-kept a b n ready kept = record { room = ready .room; ranged = rw (kept .same) (ready .ranged); long = kept .long }
+ready-kept a b n ready kept = record { room = ready .room; ranged = rw (kept .same) (ready .ranged); weighs = rw (kept .same) (ready .weighs); long = kept .long }
+
+pub kept-same : (a : List ℕ) (n : ℕ) → Ready a n → Kept a a n
+kept-same a n ready = record { same = refl; long = ready .long }
 
 pub kept-again : (a b d : List ℕ) (n : ℕ) → Kept a b n → Kept b d n → Kept a d n
 kept-again a b d n one two = record { same = two .same ∙ one .same; long = two .long }
@@ -117,6 +137,11 @@ module _ (a b : List ℕ) (n : ℕ) (q : Charged) (written : rows b (n + 1) ≡ 
   unfolding withFirst
   laid-first c p x w is = written ∙ ap (λ (r : Charged). rows a n ++ (r ∷ [])) is
 
+-- and then it lies there
+pub laid-lane : (c : Costs) (p : Piece) (x w : ℕ) (a b : List ℕ) (n : ℕ) → rows b (n + 1) ≡ withFirst c (rows a n) p x w → lane b n ≡ charged c (firstPiece p x w)
+unfolding withFirst
+laid-lane c p x w a b n row = lane-put a b n (charged c (firstPiece p x w)) row
+
 -- the last piece written alone
 pub laid-alone : (c : Costs) (p : Piece) (x w : ℕ) (a b : List ℕ) (q : Charged) → rows b 1 ≡ rows a 0 ++ (q ∷ []) → q ≡ charged c (lastPiece c p x w) → rows b 1 ≡ lastAlone c p x w
 unfolding lastAlone
@@ -128,7 +153,7 @@ laid-alone c p x w a b q written is = written ∙ ap (λ (r : Charged). r ∷ []
 unfoldable pub calls : Costs → List Charged → Piece → ℕ → ℕ
 calls c qs p t = total (λ q. interrupts q t) qs + interrupts (charged c (firstPiece p 0 0)) t
 
-first-interrupts : (c : Costs) (p : Piece) (x w t : ℕ) → interrupts (charged c (firstPiece p x w)) t ≡ interrupts (charged c (firstPiece p 0 0)) t
+pub first-interrupts : (c : Costs) (p : Piece) (x w t : ℕ) → interrupts (charged c (firstPiece p x w)) t ≡ interrupts (charged c (firstPiece p 0 0)) t
 unfolding interrupts charged ipiCost firstPiece
 first-interrupts c p x w t = refl
 
@@ -141,7 +166,12 @@ pub tight-parts : (c : Costs) (qs : List Charged) (p : Piece) (x t : ℕ) → ti
 unfolding tightBeside
 tight-parts c qs p x t = sum-parts c qs p x 0 t
 
-first-recurs : (c : Costs) (p : Piece) (x w : ℕ) → Sized p → Recurs (charged c (firstPiece p x w))
+-- as the code sums it, for a first piece without a budget
+pub least-is : (c : Costs) (qs : List Charged) (p : Piece) (b k i : ℕ) → b ≡ stall c → k ≡ charged c (firstPiece p 0 0) .charge → i ≡ total (term Interrupts 1) (withFirst c qs p 0 0) → b + k + i ≡ tightBeside c qs p 0 1
+unfolding tightBeside tightSum
+least-is c qs p b k i stalled charge calls = omega arith
+
+pub first-recurs : (c : Costs) (p : Piece) (x w : ℕ) → Sized p → Recurs (charged c (firstPiece p x w))
 unfolding charged firstPiece
 first-recurs c p x w ok = record { again = omega arith }
 
@@ -204,6 +234,14 @@ undecided-fails undecided pass = let z : _≡_ {A = ℕ} 0 1 = cc in omega arith
 
 -- ---- the last piece alone
 
+-- a verdict on it as the code has it
+pub judged-last : (c : Costs) (p : Piece) (x w b : ℕ) (rs : List Charged) → b ≡ stall c → rs ≡ lastAlone c p x w → (v : Verdict) → v ≡ verdict b rs → v ≡ verdict (stall c) (lastAlone c p x w)
+judged-last c p x w b rs is row v judged = judged ∙ rw (is, row) refl
+
+pub last-largest : (c : Costs) (p : Piece) (x w : ℕ) → largestWindow (lastAlone c p x w) ≡ p .window - w
+unfolding lastAlone charged lastPiece
+last-largest c p x w = omega arith
+
 pub last-recurs : (c : Costs) (p : Piece) (x w : ℕ) → Sized p → Each Recurs (lastAlone c p x w)
 unfolding lastAlone charged lastPiece
 last-recurs c p x w ok = (record { again = omega arith }, tt)
@@ -223,7 +261,7 @@ busier c p x y v w l h =
     more : y ≤ x → p .budget - x + lastExtra c p + lastCalls c ≤ p .budget - y + lastExtra c p + lastCalls c
     more h = omega arith
 
-never-empty : (c : Costs) (p : Piece) (x w : ℕ) → lastAlone c p x w ≡ [] → ⊥
+pub never-empty : (c : Costs) (p : Piece) (x w : ℕ) → lastAlone c p x w ≡ [] → ⊥
 unfolding lastAlone
 never-empty c p x w e = let z : _≡_ {A = ℕ} 0 1 = cc in omega arith
 
@@ -254,6 +292,15 @@ module _ (g : ℕ) (p : Piece) (pos : 1 ≤ g) where
 
   pub none-first : (c : Costs) (qs : List Charged) → NoneAbove c g qs p ((p .budget - 1) / g * g)
   none-first c qs z u high k fits = omega (arith, rounded (p .budget - 1) z k (omega (arith, k .less)))
+
+  pub none-start : (c : Costs) (qs : List Charged) (r : ℕ) → Starts c qs p r → NoneAbove c g qs p (r / g * g)
+  none-start c qs r starts z u high k fits = elim (decLt r z) [
+    | yes above ↦ starts .1 z u above (k .less) fits
+    | no below ↦ omega (arith, rounded r z k (omega arith))
+  ]
+
+  pub start-below : (r : ℕ) → r < p .budget → r / g * g < p .budget
+  start-below r h = omega (arith, div-mul-le-self r g)
 
   pub none-next : (c : Costs) (qs : List Charged) (x y : ℕ) → NoneAbove c g qs p x → Steps c qs p x (Below y) → NoneAbove c g qs p (y / g * g)
   none-next c qs x y above step z u high k fits = elim (decLt y z) [

@@ -25,7 +25,7 @@ use Rattle.demand.specs.declared.Verdict.{Verdict}
 use Rattle.demand.specs.declared.Verdict.the-variants.{Passes, Overloaded, Undecided}
 use Rattle.demand.specs.declared.Split.{Split}
 use Rattle.demand.specs.declared.Split.the-variants.{Cut, Nowhere}
-use Rattle.demand.specs.declared.Step.the-variants.{Below}
+use Rattle.demand.specs.declared.splits.Step.the-variants.{Below}
 use Rattle.demand.specs.Sizes.{SizedCosts, Sized, Each, Tells}
 use Rattle.demand.specs.Charge.{byKind, charge, charged, ipiCost, coreOf, stall}
 use Rattle.demand.specs.Demand.{ceil, total, interrupts, jobsDue, load, demand, Live}

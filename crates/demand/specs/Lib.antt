@@ -7,5 +7,6 @@ pub mod Verdict
 pub mod Split
 pub mod Answer
 pub mod Lanes
+pub mod Caps
 pub mod Search
 pub mod Cases

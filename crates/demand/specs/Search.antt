@@ -1,6 +1,7 @@
 -- What the functions of the split search promise one another, over the charged pieces qs of a core. It is a way and no meaning: what a
 -- split means stands in `specs/Split.antt`, and `proofs/SearchLaws.antt` leads from here to there.
 --
+--   Weighs q               q is charged something
 --   Ready a n              n pieces lie in the array a, each fit to be counted with, and there is room for one more
 --   Kept a b n             the array b has the n pieces of a
 --   withFirst c qs p x w   the core qs with the first piece of x behind, in the window w
@@ -10,9 +11,13 @@
 --   Chosen c g qs p s      `Splits`, over charged pieces
 --   TightIn c qs p x f     f is the tight window, where it leaves the last piece one
 --   Steps c qs p x s       what one candidate told: it fits, or none from it down to above y does
+--   Hopeless c p x w s     no last piece of y ≤ x passes alone, while its window is longer by no more than x - y and s
+--   LastBounds c p x w s r    what the last piece of x told
+--   Ends c qs p e          the t of each allowed split's tight window is below e
+--   Starts c qs p r        no split above r is allowed
 use mathlib.Core.Path.{_≡_}
 use mathlib.Core.List.{List, [], _∷_, _++_}
-use Prim.Native.Nat.{ℕ, _+_, _≤_, _<_}
+use Prim.Native.Nat.{ℕ, _+_, _-_, _≤_, _<_}
 use lib.ListN.{length}
 use Rattle.demand.specs.declared.Piece.{Piece}
 use Rattle.demand.specs.declared.Costs.{Costs}
@@ -22,8 +27,10 @@ use Rattle.demand.specs.declared.Found.the-variants.{At, Nothing}
 use Rattle.demand.specs.declared.Verdict.the-variants.{Passes}
 use Rattle.demand.specs.declared.Split.{Split}
 use Rattle.demand.specs.declared.Split.the-variants.{Cut, Nowhere}
-use Rattle.demand.specs.declared.Step.{Step}
-use Rattle.demand.specs.declared.Step.the-variants.{Done, Below}
+use Rattle.demand.specs.declared.caps.Bound.{Bound}
+use Rattle.demand.specs.declared.caps.Bound.the-variants.{Stands, Falls, AtMost}
+use Rattle.demand.specs.declared.splits.Step.{Step}
+use Rattle.demand.specs.declared.splits.Step.the-variants.{Done, Below}
 use Rattle.demand.specs.Sizes.{runMost, Ranged, Each}
 use Rattle.demand.specs.Charge.{charged, stall}
 use Rattle.demand.specs.Busy.{Least, Holds, tightSum}
@@ -31,9 +38,13 @@ use Rattle.demand.specs.Verdict.{verdict}
 use Rattle.demand.specs.Split.{firstPiece, lastPiece, Candidate}
 use Rattle.demand.specs.Lanes.{rows}
 
+pub record Weighs (q : Charged) : Type 0 where
+  pub some : 1 ≤ q .charge
+
 pub record Ready (a : List ℕ) (n : ℕ) : Type 0 where
   pub room : n < runMost
   pub ranged : Each Ranged (rows a n)
+  pub weighs : Each Weighs (rows a n)
   pub long : length a ≡ 553
 
 pub record Kept (a b : List ℕ) (n : ℕ) : Type 0 where
@@ -73,3 +84,17 @@ TightIn c qs p x Nothing = (t : ℕ) → Tight c qs p x t → p .jitter + t + 1 
 abbrev pub Steps : Costs → List Charged → Piece → ℕ → Step → Type 0
 Steps c qs p x (Done w) = (t : ℕ) × Fits c qs p x t × (w ≡ p .jitter + t)
 Steps c qs p x (Below y) = (y < x) × ((z u : ℕ) → y < z → z ≤ x → Fits c qs p z u → ⊥)
+
+abbrev pub Hopeless : Costs → Piece → ℕ → ℕ → ℕ → Type 0
+Hopeless c p x w s = (y v : ℕ) → y ≤ x → v ≤ w → w ≤ v + (x - y) + s → verdict (stall c) (lastAlone c p y v) ≡ Passes → ⊥
+
+abbrev pub LastBounds : Costs → Piece → ℕ → ℕ → ℕ → Bound → Type 0
+LastBounds c p x w s Stands = verdict (stall c) (lastAlone c p x w) ≡ Passes
+LastBounds c p x w s Falls = verdict (stall c) (lastAlone c p x w) ≡ Passes → ⊥
+LastBounds c p x w s (AtMost f) = (f < x) × Hopeless c p x w s
+
+abbrev pub Ends : Costs → List Charged → Piece → ℕ → Type 0
+Ends c qs p e = (x t : ℕ) → 1 ≤ x → Fits c qs p x t → t < e
+
+abbrev pub Starts : Costs → List Charged → Piece → ℕ → Type 0
+Starts c qs p r = (r < p .budget) × ((z u : ℕ) → r < z → z < p .budget → Fits c qs p z u → ⊥)

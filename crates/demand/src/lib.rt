@@ -1,6 +1,7 @@
 // What one core is asked for, the verdict on it and the split of a task on it: document 01, "A piece and its charge" to "The C=D walk".
 //
 // Every public function takes any input. It refuses what document 01 refuses, and its contract is an equation with one definition of `specs/`.
+mod caps;
 mod charges;
 mod demands;
 mod lanes;
@@ -8,6 +9,7 @@ mod lengths;
 mod sizes;
 mod spans;
 mod splits;
+mod starts;
 
 use charges::stall_of;
 use demands::demand_at;
@@ -86,12 +88,6 @@ pub enum Found {
 pub enum Split {
     Cut(u64, u64),
     Nowhere,
-}
-
-/// What one candidate for a split told: it is allowed, with its tight window, or how far down the next may stand.
-pub enum Step {
-    Done(u64),
-    Below(u64),
 }
 
 /// Which figure of the pieces is summed.

@@ -1,19 +1,16 @@
 -- `splits::greatest_split` meets its contract: what the search over charged pieces chooses is the split of the pieces.
 use borrow.Author.Needs.{needs}
-use Rattle.demand.specs.Sizes.{Ranged, Each}
-use mathlib.Core.Path.{_≡_, refl, sym, subst}
+use mathlib.Core.Path.{_≡_, refl, sym, ap, subst, _∙_}
 use mathlib.Core.List.{List}
-use native.Mathlib.Omega.{arith}
-use native.Mathlib.Nat.{div-zero}
-use lib.ListN.{take, length, length-replicate}
 use Prim.Native.Nat.{ℕ}
+use native.Mathlib.Omega.{arith}
+use lib.ListN.{take, length}
 use Rattle.demand.specs.declared.Charged.{Charged}
 use Rattle.demand.specs.Charge.{coreOf}
 use Rattle.demand.specs.Lanes.{rows}
-use Rattle.demand.specs.Search.{Chosen}
-use Rattle.demand.specs.Split.{greatestSplit}
-use Rattle.demand.proofs.ChargeLaws.{all-countable, core-ranged}
-use Rattle.demand.proofs.SearchLaws.{splits-of}
+use Rattle.demand.specs.Search.{Ready, Kept, Chosen, Starts, tightBeside}
+use Rattle.demand.proofs.ChargeLaws.{all-countable}
+use Rattle.demand.proofs.SearchLaws.{ready-laid, ready-kept, kept-again, splits-of}
 use Rattle.demand.proofs.SplitLaws.{split-is, split-none}
 use Rattle.demand.proofs.splits.greatest_split.Statement.{statement}
 use Rattle.demand.proofs.splits.greatest_split.Tie as tie
@@ -21,6 +18,8 @@ use Rattle.demand.proofs.splits.greatest_split.Reads as reads
 use Rattle.demand.proofs.splits.greatest_split.Lts as lts
 use Rattle.demand.proofs.lanes.lay_out.Reads as lay-out-reads
 use Rattle.demand.proofs.splits.search.Reads as search-reads
+use Rattle.demand.proofs.starts.least_sum.Reads as least-sum-reads
+use Rattle.demand.proofs.starts.start_of.Reads as start-of-reads
 
 returns : tie.Need-returns
 returns c =
@@ -32,19 +31,44 @@ lay-out-requires c κs =
     let s = c .before .args in
     (c .before .pre .0, (omega arith, all-countable (take (s .run .count) (s .run .pieces)) (c .before .pre .1 .0 .1)))
 
+least-sum-requires : tie.Need-least-sum-requires
+least-sum-requires c κs =
+    let s = c .before .before .before .args in
+    let long : length (c .before .lay-out .result) ≡ 553 = search needs in
+    (c .before .before .before .pre .0, (c .before .before .before .pre .1 .1, ready-laid (s .costs) (s .run .count) (take (s .run .count) (s .run .pieces)) (c .before .before .before .pre .0) (c .before .before .before .pre .1 .0 .0) (c .before .before .before .pre .1 .0 .1) (c .before .lay-out .result) (c .before .lay-out .ensures) long))
+
+start-of-requires : tie.Need-start-of-requires
+start-of-requires c κs =
+    let s = c .before .before .before .before .before .args in
+    let long : length (c .before .before .before .lay-out .result) ≡ 553 = search needs in
+    let ready : Ready (c .before .before .before .lay-out .result) (s .run .count) = ready-laid (s .costs) (s .run .count) (take (s .run .count) (s .run .pieces)) (c .before .before .before .before .before .pre .0) (c .before .before .before .before .before .pre .1 .0 .0) (c .before .before .before .before .before .pre .1 .0 .1) (c .before .before .before .lay-out .result) (c .before .before .before .lay-out .ensures) long in
+    (c .before .before .before .before .before .pre .0, (c .before .before .before .before .before .pre .1 .1, (ready-kept (c .before .before .before .lay-out .result) (c .before .least-sum .last .0) (s .run .count) ready (c .before .least-sum .ensures .2), (c .before .least-sum .ensures .0 ∙ ap (λ (qs : List Charged). tightBeside (s .costs) qs (s .task) 0 1) (sym (c .before .least-sum .ensures .2 .same)), c .before .least-sum .ensures .1))))
+
 search-requires : tie.Need-search-requires
 search-requires c κs =
-    let s = c .before .before .before .before .args in
-    let long : length (c .before .before .lay-out .result) ≡ 553 = search needs in
-    let ranged : Each Ranged (rows (c .before .before .lay-out .result) (s .run .count)) = rw (c .before .before .lay-out .ensures) (core-ranged (s .costs) (c .before .before .before .before .pre .0) (take (s .run .count) (s .run .pieces)) (all-countable (take (s .run .count) (s .run .pieces)) (c .before .before .before .before .pre .1 .0 .1))) in
-    (c .before .before .before .before .pre .0, (c .before .before .before .before .pre .1 .1, ((record { room = c .before .before .before .before .pre .1 .0 .0; ranged = ranged; long = long }, refl), omega arith)))
+    let s = c .before .before .before .before .before .before .before .before .args in
+    let n = s .run .count in
+    let long : length (c .before .before .before .before .before .before .lay-out .result) ≡ 553 = search needs in
+    let ready : Ready (c .before .before .before .before .before .before .lay-out .result) n = ready-laid (s .costs) n (take n (s .run .pieces)) (c .before .before .before .before .before .before .before .before .pre .0) (c .before .before .before .before .before .before .before .before .pre .1 .0 .0) (c .before .before .before .before .before .before .before .before .pre .1 .0 .1) (c .before .before .before .before .before .before .lay-out .result) (c .before .before .before .before .before .before .lay-out .ensures) long in
+    let kept : Kept (c .before .before .before .before .before .before .lay-out .result) (c .before .before .start-of .last .0) n = kept-again (c .before .before .before .before .before .before .lay-out .result) (c .before .before .before .before .least-sum .last .0) (c .before .before .start-of .last .0) n (c .before .before .before .before .least-sum .ensures .2) (c .before .before .start-of .ensures .1) in
+    (c .before .before .before .before .before .before .before .before .pre .0, (c .before .before .before .before .before .before .before .before .pre .1 .1, ((ready-kept (c .before .before .before .before .before .before .lay-out .result) (c .before .before .start-of .last .0) n ready kept, refl), ((c .before .before .before .before .least-sum .ensures .0 ∙ ap (λ (qs : List Charged). tightBeside (s .costs) qs (s .task) 0 1) (sym (kept .same)), c .before .before .before .before .least-sum .ensures .1), (subst (λ (qs : List Charged). Starts (s .costs) qs (s .task) (c .before .before .start-of .result)) (sym (c .before .before .start-of .ensures .1 .same)) (c .before .before .start-of .ensures .0), omega arith)))))
 
 returns-2 : tie.Need-returns-2
 returns-2 c =
-    let s = c .before .before .before .before .before .args in
-    let ps = take (s .run .count) (s .run .pieces) in
-    let chosen = subst (λ (qs : List Charged). Chosen (s .costs) (s .grain) qs (s .task) (c .search .result)) (c .before .before .before .lay-out .ensures) (c .search .ensures) in
-    split-is (s .costs) (s .grain) ps (s .task) (c .before .before .before .before .before .pre .1 .0 .1) (c .before .before .before .before .before .pre .1 .1) (c .search .result) (splits-of (s .costs) ps (s .task) (s .grain) (c .search .result) chosen)
+    let s = c .before .before .before .before .before .before .before .before .before .args in
+    let n = s .run .count in
+    let ps = take n (s .run .pieces) in
+    let row : rows (c .before .before .before .start-of .last .0) n ≡ coreOf (s .costs) ps = c .before .before .before .start-of .ensures .1 .same ∙ (c .before .before .before .before .before .least-sum .ensures .2 .same ∙ c .before .before .before .before .before .before .before .lay-out .ensures) in
+    let chosen = subst (λ (qs : List Charged). Chosen (s .costs) (s .grain) qs (s .task) (c .search .result)) row (c .search .ensures) in
+    split-is (s .costs) (s .grain) ps (s .task) (c .before .before .before .before .before .before .before .before .before .pre .1 .0 .1) (c .before .before .before .before .before .before .before .before .before .pre .1 .1) (c .search .result) (splits-of (s .costs) ps (s .task) (s .grain) (c .search .result) chosen)
 
 pub greatest-split-spec : {M : Type 1} → statement M
-greatest-split-spec = tie.close (tie.spec returns lay-out-requires search-requires returns-2)
+greatest-split-spec =
+    tie.close
+    (tie.spec
+    returns
+    lay-out-requires
+    least-sum-requires
+    start-of-requires
+    search-requires
+    returns-2)

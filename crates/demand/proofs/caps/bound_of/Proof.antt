@@ -1,0 +1,93 @@
+-- `caps::bound_of` meets its contract: the cap of the far length and the short walk, no busy length, or what the busy length tells.
+use mathlib.Core.Path.{_≡_, sym, ap, subst, _∙_}
+use Prim.Native.Nat.{ℕ, _+_, _-_, _≤_, max}
+use native.Mathlib.Omega.{arith}
+use Rattle.demand.specs.declared.Charged.{Charged}
+use Rattle.demand.specs.declared.Sum.the-variants.{Busy}
+use Rattle.demand.specs.declared.caps.Bound.the-variants.{Falls, AtMost}
+use Rattle.demand.specs.Caps.{Bounds}
+use Rattle.demand.specs.Lanes.{rows, lane}
+use Rattle.demand.specs.Sizes.{Ranged, busyMost}
+use Rattle.demand.proofs.BusyLaws.{asked, asked-mono, found-within, busy-length-asked}
+use Rattle.demand.proofs.CapLaws.{bound-most, bound-undecided}
+use Rattle.demand.proofs.ChargeLaws.{all-recurs}
+use Rattle.demand.proofs.LaneLaws.{rows-lane, rows-front, lane-each}
+use borrow.Author.Needs.{needs}
+use Rattle.demand.proofs.caps.bound_of.Statement.{statement}
+use Rattle.demand.proofs.caps.bound_of.Tie as tie
+use Rattle.demand.proofs.caps.bound_of.Reads as reads
+use Rattle.demand.proofs.caps.bound_of.Lts as lts
+use Rattle.demand.proofs.caps.bound_within.Reads as bound-within-reads
+use Rattle.demand.proofs.caps.cap_of.Reads as cap-of-reads
+use Rattle.demand.proofs.demands.least_live.Reads as least-live-reads
+use Rattle.demand.proofs.lanes.lane_at.Reads as lane-at-reads
+use Rattle.demand.proofs.lengths.climb.Reads as climb-reads
+
+lane-at-requires : tie.Need-lane-at-requires
+lane-at-requires c κs = search needs
+
+add-least-live : tie.Need-add-least-live
+add-least-live c = search needs
+
+least-live-requires : tie.Need-least-live-requires
+least-live-requires c κs = search needs
+
+cap-of-requires : tie.Need-cap-of-requires
+cap-of-requires c κs =
+    let s = c .before .before .args in
+    let ranged : Ranged (c .before .lane-at .result) = rw (c .before .lane-at .ensures) (lane-each Ranged (s .core .now) (s .n + 1) (c .before .before .pre .0 .1) (s .n) (omega arith)) in
+    ((omega arith, rows-front Ranged (s .core .now) (s .n) (c .before .before .pre .0 .1)), (ranged, (c .before .before .pre .1 .0, ranged .charge-fits, c .least-live .ensures .1)))
+
+returns : tie.Need-returns
+returns c =
+    let s = c .before .before .before .before .before .args in
+    let qs = rows (s .core .now) (s .n) in
+    subst (λ (q : Charged). Bounds (s .b) qs q (AtMost (c .before .before .cap-of .result))) (c .before .before .before .before .lane-at .ensures)
+    (bound-most (s .b) qs (rows (s .core .now) (s .n + 1)) (c .before .before .before .before .lane-at .result) (rows-lane (s .core .now) (s .n) (c .before .before .before .before .lane-at .result) (c .before .before .before .before .lane-at .ensures)) (c .before .before .before .least-live .result) (c .before .before .cap-of .result) (c .before .before .before .least-live .ensures .0) (c .if1 .taken) (c .before .before .cap-of .ensures))
+
+add-climb : tie.Need-add-climb
+add-climb c = search needs
+
+climb-requires : tie.Need-climb-requires
+climb-requires c κs = search needs
+
+enum-told : tie.Need-enum-told
+enum-told c = search needs
+
+enum-known-l : tie.Need-enum-known-l
+enum-known-l c = search needs
+
+bound-within-requires : tie.Need-bound-within-requires
+bound-within-requires c κs =
+    let s = c .before .before .before .before .before .before .before .before .before .args in
+    let rs = rows (s .core .now) (s .n + 1) in
+    ((c .before .before .before .before .before .before .before .before .before .pre .0 .0, c .before .before .before .before .before .before .before .before .before .pre .0 .1), ((c .before .before .before .before .before .before .before .before .before .pre .1 .0, c .before .before .before .before .before .before .before .least-live .ensures .1, found-within (asked Busy 0 rs) (asked-mono Busy 0 rs (all-recurs rs (c .before .before .before .before .before .before .before .before .before .pre .0 .1))) busyMost (c .before .l .given .0 .0) (sym (c .before .before .before .climb .ensures) ∙ c .before .l .given .1), c .before .before .before .before .before .before .before .before .before .pre .1 .1), (c .before .before .before .before .before .before .before .least-live .ensures .0, busy-length-asked rs ∙ (sym (c .before .before .before .climb .ensures) ∙ c .before .l .given .1))))
+
+returns-2 : tie.Need-returns-2
+returns-2 c =
+    let s = c .before .before .before .before .before .before .before .before .args in
+    let qs = rows (s .core .now) (s .n) in
+    let rs = rows (s .core .now) (s .n + 1) in
+    let q = c .before .before .before .before .before .before .before .lane-at .result in
+    subst (λ (r : Charged). Bounds (s .b) qs r Falls) (c .before .before .before .before .before .before .before .lane-at .ensures)
+    (bound-undecided (s .b) qs rs q (rows-lane (s .core .now) (s .n) q (c .before .before .before .before .before .before .before .lane-at .ensures)) (busy-length-asked rs ∙ (sym (c .before .before .climb .ensures) ∙ c .enum-told .given .1)))
+
+returns-3 : tie.Need-returns-3
+returns-3 c = search needs
+
+pub bound-of-spec : {M : Type 1} → statement M
+bound-of-spec =
+    tie.close
+    (tie.spec
+    lane-at-requires
+    add-least-live
+    least-live-requires
+    cap-of-requires
+    returns
+    add-climb
+    climb-requires
+    enum-told
+    enum-known-l
+    bound-within-requires
+    returns-2
+    returns-3)

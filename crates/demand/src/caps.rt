@@ -1,0 +1,220 @@
+// How much a piece may be charged beside a core: a walk down that lowers its charge wherever it does not fit. One walk so tells of every smaller
+// charge at once, where a verdict tells of one.
+use crate::Charged;
+use crate::Found;
+use crate::Sum;
+use crate::Verdict;
+use crate::demands::demand_at;
+use crate::demands::greater;
+use crate::demands::interrupts_of;
+use crate::demands::jobs_due;
+use crate::demands::largest_window;
+use crate::demands::least_live;
+use crate::demands::less;
+use crate::demands::lesser;
+use crate::lanes::lane_at;
+use crate::lengths::climb;
+use crate::spans::descend;
+use crate::spans::next_end;
+ghost use mathlib.Core.Path.{_≡_};
+ghost use Prim.Native.Nat.{_+_, _<_, _≤_};
+ghost use Rattle.demand.specs.Busy.{busyLength};
+ghost use Rattle.demand.specs.Caps.{Fitting, Levels, Lowers, Squeezed, Caps, Bounds};
+ghost use Rattle.demand.specs.declared.Found.the-variants.{At};
+ghost use Rattle.demand.specs.Demand.{largestWindow, leastLive};
+ghost use Rattle.demand.specs.Lanes.{rows, lane};
+ghost use Rattle.demand.specs.Sizes.{Ranged, Each, lengthMost, timeMost, busyMost};
+
+// What a length left: the charge, and the end below which the walk goes on.
+pub struct Level {
+    pub charge: u64,
+    pub end: u64,
+}
+
+// What a core with a piece behind tells: it passes, it does not, or it does not with any charge of that piece above f.
+pub enum Bound {
+    Stands,
+    Falls,
+    AtMost(u64),
+}
+
+// The greatest charge up to f whose jobs fit the room.
+pub fn fitting(f: u64, jobs: u64, room: u64) -> u64
+    requires { ⌜ (f ≤ 2000000) × (jobs ≤ 102000001) ⌝ }
+    ensures { λ r. ⌜ Fitting f jobs room r ⌝ }
+{
+    if jobs * f <= room { f } else { room / jobs }
+}
+
+// The greatest multiple of b up to a.
+pub fn floor_to(a: u64, b: u64) -> u64
+    requires { ⌜ 1 ≤ b ⌝ }
+    ensures { λ r. ⌜ r ≤ a ⌝ }
+{
+    a / b * b
+}
+
+// From where on as many jobs of q are due as at t. What is made of it needs no more than that it is a length.
+pub fn due_start(q: Charged, t: u64) -> u64
+    requires { ⌜ Ranged q ⌝ }
+    requires { ⌜ t ≤ lengthMost ⌝ }
+{
+    if t + q.jitter < q.window {
+        return 0;
+    }
+    less(
+        q.window + floor_to(t + q.jitter - q.window, q.period),
+        q.jitter,
+    )
+}
+
+// From where on as many interrupts, of that cost and jitter, have come as at t, if they cost anything.
+pub fn call_start(cost: u64, period: u64, jitter: u64, t: u64) -> u64
+    requires { ⌜ (1 ≤ period) × (jitter ≤ timeMost) × (t ≤ lengthMost) ⌝ }
+{
+    if cost == 0 {
+        return 0;
+    }
+    less(floor_to(less(t + jitter, 1), period) + 1, jitter)
+}
+
+pub fn lane_start(q: Charged, t: u64) -> u64
+    requires { ⌜ Ranged q ⌝ }
+    requires { ⌜ t ≤ lengthMost ⌝ }
+{
+    let calls = call_start(q.release, q.period, q.jitter, t);
+    let ipis = call_start(q.ipi, q.period, q.ipij, t);
+    greater(due_start(q, t), greater(calls, ipis))
+}
+
+// From where on the demand of the n pieces and of q is as at t.
+pub fn stretch_start(core: &[u64; 553], n: usize, q: Charged, t: u64) -> u64
+    requires { ⌜ (n ≤ 79) × Each Ranged (rows (now core) n) ⌝ }
+    requires { ⌜ Ranged q ⌝ }
+    requires { ⌜ t ≤ lengthMost ⌝ }
+{
+    let mut start = lane_start(q, t);
+    let mut i: usize = 0;
+    while i < n {
+        start = greater(start, lane_start(lane_at(core, i), t));
+        i += 1;
+    }
+    start
+}
+
+// The greatest charge up to f that fits at t; w is the largest window of the n pieces.
+pub fn level_at(core: &[u64; 553], n: usize, b: u64, w: u64, q: Charged, f: u64, t: u64) -> Level
+    requires { ⌜ (n ≤ 79) × Each Ranged (rows (now core) n) ⌝ }
+    requires { ⌜ Ranged q ⌝ }
+    requires { ⌜ (b ≤ 200000) × (w ≡ largestWindow (rows (now core) n)) × (f ≤ 2000000) × (t ≤ lengthMost) ⌝ }
+    ensures { λ r. ⌜ Levels b (rows (now (core .entry)) n) q f t r ⌝ }
+{
+    let g = demand_at(core, n, b, w, t);
+    if t < g {
+        return Level { charge: 0, end: 0 };
+    }
+    let calls = interrupts_of(q, t);
+    if t - g < calls {
+        return Level { charge: 0, end: 0 };
+    }
+    let jobs = jobs_due(q, t);
+    let y = fitting(f, jobs, t - g - calls);
+    let end = next_end(g + calls + jobs * y, w, t);
+    Level {
+        charge: y,
+        end: end,
+    }
+}
+
+// The same, and where it is lowered, lowered again where the demand at t begins: it fits least there.
+pub fn lower(
+    core: &[u64; 553],
+    n: usize,
+    b: u64,
+    w: u64,
+    q: Charged,
+    f: u64,
+    a: u64,
+    t: u64,
+) -> Level
+    requires { ⌜ (n ≤ 79) × Each Ranged (rows (now core) n) ⌝ }
+    requires { ⌜ Ranged q ⌝ }
+    requires { ⌜ (b ≤ 200000) × (w ≡ largestWindow (rows (now core) n)) × (f ≤ 2000000) × (t ≤ lengthMost) ⌝ }
+    requires { ⌜ a ≤ t ⌝ }
+    ensures { λ r. ⌜ Lowers b (rows (now (core .entry)) n) q f a t r ⌝ }
+{
+    let v = level_at(core, n, b, w, q, f, t);
+    if f <= v.charge {
+        return v;
+    }
+    let s = lesser(t, greater(a, stretch_start(core, n, q, t)));
+    level_at(core, n, b, w, q, v.charge, s)
+}
+
+// Down from the last of the l lengths from a, with f lowered wherever it does not fit.
+pub fn squeeze(core: &[u64; 553], n: usize, b: u64, q: Charged, f: u64, a: u64, l: u64) -> u64
+    requires { ⌜ (n ≤ 79) × Each Ranged (rows (now core) n) ⌝ }
+    requires { ⌜ Ranged q ⌝ }
+    requires { ⌜ (b ≤ 200000) × (f ≤ 2000000) × (a + l ≤ lengthMost) ⌝ }
+    ensures { λ r. ⌜ Squeezed b (rows (now (core .entry)) n) q f a (a + l) r ⌝ }
+{
+    let w = largest_window(core, n);
+    let mut r = f;
+    let mut end = a + l;
+    while a < end {
+        let v = lower(core, n, b, w, q, r, a, end - 1);
+        r = v.charge;
+        end = v.end;
+    }
+    r
+}
+
+// What one far length and a short walk leave of f: the far length tells where there is more to do than time, the short walk finds most of the rest.
+pub fn cap_of(core: &[u64; 553], n: usize, b: u64, q: Charged, f: u64, a: u64) -> u64
+    requires { ⌜ (n ≤ 79) × Each Ranged (rows (now core) n) ⌝ }
+    requires { ⌜ Ranged q ⌝ }
+    requires { ⌜ (b ≤ 200000) × (f ≤ 2000000) × (a ≤ timeMost) ⌝ }
+    ensures { λ r. ⌜ Caps b (rows (now (core .entry)) n) q f a r ⌝ }
+{
+    let far = squeeze(core, n, b, q, f, 100000000, 1);
+    squeeze(core, n, b, q, far, a, 4 * q.period)
+}
+
+// What the busy length l tells of the n pieces and the one behind, from their least live length a on. Between the largest window of the n and that of the one
+// behind only its own blocking is left.
+pub fn bound_within(core: &[u64; 553], n: usize, b: u64, a: u64, l: u64) -> Bound
+    requires { ⌜ (n < 79) × Each Ranged (rows (now core) (n + 1)) ⌝ }
+    requires { ⌜ (b ≤ 200000) × (a ≤ timeMost) × (l ≤ busyMost) × (1 ≤ lane (now core) n .charge) ⌝ }
+    requires { ⌜ (a ≡ leastLive (rows (now core) (n + 1))) × (busyLength (rows (now core) (n + 1)) ≡ At l) ⌝ }
+    ensures { λ r. ⌜ Bounds b (rows (now (core .entry)) n) (lane (now (core .entry)) n) r ⌝ }
+{
+    let q = lane_at(core, n);
+    let near = squeeze(core, n, b, q, q.charge, a, l);
+    if near < q.charge {
+        return Bound::AtMost(near);
+    }
+    let own = greater(a, largest_window(core, n));
+    match descend(core, n + 1, b, own, less(q.window, own)) {
+        Verdict::Passes => Bound::Stands,
+        Verdict::Overloaded(t) => Bound::Falls,
+        Verdict::Undecided => Bound::Falls,
+    }
+}
+
+// What a core with one piece behind its n tells.
+pub fn bound_of(core: &[u64; 553], n: usize, b: u64) -> Bound
+    requires { ⌜ (n < 79) × Each Ranged (rows (now core) (n + 1)) ⌝ }
+    requires { ⌜ (b ≤ 200000) × (1 ≤ lane (now core) n .charge) ⌝ }
+    ensures { λ r. ⌜ Bounds b (rows (now (core .entry)) n) (lane (now (core .entry)) n) r ⌝ }
+{
+    let q = lane_at(core, n);
+    let a = least_live(core, n + 1);
+    let cap = cap_of(core, n, b, q, q.charge, a);
+    if cap < q.charge {
+        return Bound::AtMost(cap);
+    }
+    match climb(core, n + 1, Sum::Busy, 0, 100000000) {
+        Found::Nothing => Bound::Falls,
+        Found::At(l) => bound_within(core, n, b, a, l),
+    }
+}
