@@ -1,0 +1,173 @@
+-- A timing sheet, read: document 01, "Sheet" and "Refusal numbers".
+--
+--   Above               what stands above a line
+--   lineFault a l       what is wrong with the line l below a: 8, then 1, 2 or 3, then 4, then 5, then 6; or 0
+--   after a l           what stands after it
+--   readFrom a n l ls   the lines from line n on: the first bad one's refusal, or all that stands at the end
+--   outcomeOf bytes     the whole sheet; 9 first
+--   readOf bytes        the same as the struct that is given back
+use mathlib.Core.Bool.{Bool, true, false, cond, not}
+use mathlib.Core.List.{List, [], _∷_, _++_}
+use Prim.Native.Nat.{ℕ, zero, suc, _+_}
+use lib.Dec.{leb, ltb, eqb}
+use lib.ListN.{length}
+use Rattle.demand.specs.declared.Costs.{Costs}
+use Rattle.demand.specs.Sizes.{sized, sizedCosts}
+use Rattle.task.specs.declared.Name.{Name}
+use Rattle.task.specs.declared.Times.{Times}
+use Rattle.task.specs.declared.Task.{Task}
+use Rattle.task.specs.declared.Tasks.{Tasks}
+use Rattle.task.specs.declared.Machine.{Machine}
+use Rattle.task.specs.Names.{sameName}
+use Rattle.task.specs.Tasks.{tasksMost, sizedMachine, wholePiece, placeOf, rule}
+use Rattle.sheet.specs.declared.Word.{Word}
+use Rattle.sheet.specs.declared.Line.{Line}
+use Rattle.sheet.specs.declared.Sheet.{Sheet}
+use Rattle.sheet.specs.declared.Read.{Read}
+use Rattle.sheet.specs.Lines.{newline, upTo, beyond, padded}
+use Rattle.sheet.specs.Forms.{noMachine, noCosts, noTimes, noTask, lineOf}
+
+pub record Above : Type 0 where
+  pub stage : ℕ
+  pub machine : Machine
+  pub costs : Costs
+  pub parts : List Task
+  pub tasks : List Task
+
+-- ---- the order of lines: `machine`, `cost`, any `part` lines, any `fit` lines
+
+abbrev pub atTop : ℕ
+atTop = 0
+
+abbrev pub belowMachine : ℕ
+belowMachine = 1
+
+abbrev pub amongParts : ℕ
+amongParts = 2
+
+abbrev pub amongFits : ℕ
+amongFits = 3
+
+abbrev pub top : Above
+top = record { stage = atTop; machine = noMachine; costs = noCosts; parts = []; tasks = [] }
+
+-- ---- one line's judgement, each rule with the number of its refusal
+
+-- none of them has that name
+abbrev pub free : Name → List Task → Bool
+free n ts = eqb (placeOf 1 n ts) 0
+
+-- a 65th has no room
+abbrev pub room : List Task → Bool
+room ts = ltb (length ts) tasksMost
+
+unfoldable pub machineFault : ℕ → Machine → ℕ
+unfolding sizedMachine
+machineFault stage m =
+    rule (eqb stage atTop) 8
+    (rule (sizedMachine m) 1
+    0)
+
+unfoldable pub costFault : ℕ → Costs → ℕ
+unfolding sizedCosts
+costFault stage c =
+    rule (eqb stage belowMachine) 8
+    (rule (sizedCosts c) 2
+    0)
+
+unfoldable pub partFault : ℕ → Task → List Task → ℕ
+unfolding sized wholePiece sameName
+partFault stage t parts =
+    rule (eqb stage amongParts) 8
+    (rule (sized (wholePiece (t .times))) 3
+    (rule (free (t .name) parts) 4
+    (rule (room parts) 6
+    0)))
+
+unfoldable pub fitFault : ℕ → (task part : Name) → (parts tasks : List Task) → ℕ
+unfolding sameName
+fitFault stage n p parts tasks =
+    rule (leb amongParts stage) 8
+    (rule (free n tasks) 4
+    (rule (not (free p parts)) 5
+    (rule (room tasks) 6
+    0)))
+
+abbrev pub wordFault : Word → Above → Line → ℕ
+wordFault Word.Machine a l = machineFault (a .stage) (l .machine)
+wordFault Word.Cost a l = costFault (a .stage) (l .costs)
+wordFault Word.Part a l = partFault (a .stage) (l .task) (a .parts)
+wordFault Word.Fit a l = fitFault (a .stage) (l .task .name) (l .part) (a .parts) (a .tasks)
+wordFault Word.Other a l = 8
+
+unfoldable pub lineFault : Above → Line → ℕ
+unfolding machineFault costFault partFault fitFault
+lineFault a l = wordFault (l .word) a l
+
+-- ---- what stands after a good line
+
+-- the times of the part of that name
+abbrev pub partTimes : Name → List Task → Times
+partTimes n [] = noTimes
+partTimes n (t ∷ ts) = cond (sameName n (t .name)) (t .times) (partTimes n ts)
+
+abbrev pub wordAfter : Word → Above → Line → Above
+wordAfter Word.Machine a l = record { stage = belowMachine; machine = l .machine; costs = a .costs; parts = a .parts; tasks = a .tasks }
+wordAfter Word.Cost a l = record { stage = amongParts; machine = a .machine; costs = l .costs; parts = a .parts; tasks = a .tasks }
+wordAfter Word.Part a l = record { stage = amongParts; machine = a .machine; costs = a .costs; parts = a .parts ++ (l .task ∷ []); tasks = a .tasks }
+wordAfter Word.Fit a l =
+    record {
+      stage = amongFits;
+      machine = a .machine;
+      costs = a .costs;
+      parts = a .parts;
+      tasks = a .tasks ++ (record { name = l .task .name; times = partTimes (l .part) (a .parts) } ∷ []);
+    }
+wordAfter Word.Other a l = a
+
+unfoldable pub after : Above → Line → Above
+unfolding sameName
+after a l = wordAfter (l .word) a l
+
+-- ---- the lines from the top
+
+pub data Outcome : Type 0 where
+  refused : (number line : ℕ) → Outcome
+  whole : Above → Outcome
+
+-- where no line is left: one without its newline is 8, and so is a missing `machine` or `cost`, where it should stand
+abbrev pub ending : Above → ℕ → List ℕ → Outcome
+ending a n [] = cond (leb amongParts (a .stage)) (whole a) (refused 8 n)
+ending a n (b ∷ l) = refused 8 n
+
+abbrev pub next : ℕ → ℕ → Outcome → Outcome
+next zero n rest = rest
+next (suc k) n rest = refused (suc k) n
+
+unfoldable pub readFrom : Above → ℕ → List ℕ → List (List ℕ) → Outcome
+unfolding lineFault after lineOf
+readFrom a n l [] = ending a n l
+readFrom a n l (m ∷ ls) = next (lineFault a (lineOf l)) n (readFrom (after a (lineOf l)) (n + 1) m ls)
+
+abbrev pub sheetMost : ℕ
+sheetMost = 16384
+
+unfoldable pub outcomeOf : List ℕ → Outcome
+unfolding readFrom beyond
+outcomeOf bytes = cond (leb (length bytes) sheetMost) (readFrom top 1 (upTo newline bytes) (beyond newline bytes)) (refused 9 0)
+
+-- ---- the struct: a refusal has the empty sheet
+
+abbrev pub tasksOf : List Task → Tasks
+tasksOf ts = record { count = length ts; list = padded tasksMost noTask ts }
+
+abbrev pub sheetOf : Above → Sheet
+sheetOf a = record { machine = a .machine; costs = a .costs; tasks = tasksOf (a .tasks) }
+
+abbrev pub shown : Outcome → Read
+shown (refused number line) = record { number = number; carries = line; sheet = sheetOf top }
+shown (whole a) = record { number = 0; carries = 0; sheet = sheetOf a }
+
+unfoldable pub readOf : List ℕ → Read
+unfolding outcomeOf
+readOf bytes = shown (outcomeOf bytes)
