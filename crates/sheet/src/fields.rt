@@ -7,7 +7,7 @@ ghost use mathlib.Core.List.{_∷_};
 ghost use Prim.Native.Nat.{_<_};
 ghost use lib.ListN.{length};
 ghost use Rattle.task.specs.Names.{sameBytes};
-ghost use Rattle.sheet.specs.Lines.{tab, upTo, beyond, isDigit, nameOf};
+ghost use Rattle.sheet.specs.Lines.{tab, upTo, beyond, isDigit, unled, nameOf};
 ghost use Rattle.sheet.specs.Held.{noNumber, numberOf, noNumbers, numbersOf};
 
 // How many bytes stand before the first b.
@@ -75,6 +75,16 @@ pub fn is_digit(b: u8) -> bool
     b <= 57
 }
 
+// Whether no zero leads, but for 0 itself.
+pub fn unled(f: &[u8]) -> bool
+    ensures { λ r. ⌜ r ≡ unled (now (f .entry)) ⌝ }
+{
+    if f.len() < 2 {
+        return true;
+    }
+    f[0] != 48
+}
+
 // What a field is that is no number.
 pub fn no_number() -> Number
     ensures { λ r. ⌜ r ≡ noNumber ⌝ }
@@ -96,10 +106,8 @@ pub fn number_of(f: &[u8]) -> Number
     if 7 < n {
         return no_number();
     }
-    if 1 < n {
-        if f[0] == 48 {
-            return no_number();
-        }
+    if !unled(f) {
+        return no_number();
     }
     let mut value: u64 = 0;
     let mut i = 0;

@@ -1,0 +1,22 @@
+use borrow.Author.Needs.{needs}
+use Rattle.sheet.proofs.drafts.no_tasks.Statement.{statement}
+use Rattle.sheet.proofs.drafts.no_tasks.Tie as tie
+use Rattle.sheet.proofs.drafts.no_tasks.Reads as reads
+use Rattle.sheet.proofs.drafts.no_tasks.Lts as lts
+use Rattle.sheet.proofs.forms.no_name.Reads as no-name-reads
+use Rattle.sheet.proofs.forms.untimed.Reads as untimed-reads
+
+-- src/drafts.rt:27:24
+no-name-requires : tie.Need-no-name-requires
+no-name-requires c κs = search needs
+
+-- src/drafts.rt:27:9
+untimed-requires : tie.Need-untimed-requires
+untimed-requires c κs = search needs
+
+-- src/drafts.rt:24:1
+returns : tie.Need-returns
+returns c = ?
+
+pub no-tasks-spec : {M : Type 1} → statement M
+no-tasks-spec = tie.close (tie.spec no-name-requires untimed-requires returns)

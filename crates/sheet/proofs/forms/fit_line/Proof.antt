@@ -1,0 +1,27 @@
+use borrow.Author.Needs.{needs}
+use Rattle.sheet.proofs.forms.fit_line.Statement.{statement}
+use Rattle.sheet.proofs.forms.fit_line.Tie as tie
+use Rattle.sheet.proofs.forms.fit_line.Reads as reads
+use Rattle.sheet.proofs.forms.fit_line.Lts as lts
+use Rattle.sheet.proofs.forms.no_costs.Reads as no-costs-reads
+use Rattle.sheet.proofs.forms.no_machine.Reads as no-machine-reads
+use Rattle.sheet.proofs.forms.untimed.Reads as untimed-reads
+
+-- src/forms.rt:136:9
+no-machine-requires : tie.Need-no-machine-requires
+no-machine-requires c κs = search needs
+
+-- src/forms.rt:137:9
+no-costs-requires : tie.Need-no-costs-requires
+no-costs-requires c κs = search needs
+
+-- src/forms.rt:138:9
+untimed-requires : tie.Need-untimed-requires
+untimed-requires c κs = search needs
+
+-- src/forms.rt:133:1
+returns : tie.Need-returns
+returns c = ?
+
+pub fit-line-spec : {M : Type 1} → statement M
+fit-line-spec = tie.close (tie.spec no-machine-requires no-costs-requires untimed-requires returns)

@@ -1,0 +1,28 @@
+use borrow.Author.Needs.{needs}
+use Rattle.sheet.proofs.forms.machine_line.Statement.{statement}
+use Rattle.sheet.proofs.forms.machine_line.Tie as tie
+use Rattle.sheet.proofs.forms.machine_line.Reads as reads
+use Rattle.sheet.proofs.forms.machine_line.Lts as lts
+use Rattle.sheet.proofs.forms.no_costs.Reads as no-costs-reads
+use Rattle.sheet.proofs.forms.no_name.Reads as no-name-reads
+use Rattle.sheet.proofs.forms.untimed.Reads as untimed-reads
+
+-- src/forms.rt:88:9
+no-costs-requires : tie.Need-no-costs-requires
+no-costs-requires c κs = search needs
+
+-- src/forms.rt:89:9
+no-name-requires : tie.Need-no-name-requires
+no-name-requires c κs = search needs
+
+-- src/forms.rt:90:9
+untimed-requires : tie.Need-untimed-requires
+untimed-requires c κs = search needs
+
+-- src/forms.rt:85:1
+returns : tie.Need-returns
+returns c = ?
+
+pub machine-line-spec : {M : Type 1} → statement M
+machine-line-spec =
+    tie.close (tie.spec no-costs-requires no-name-requires untimed-requires returns)

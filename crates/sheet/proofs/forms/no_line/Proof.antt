@@ -1,0 +1,34 @@
+use borrow.Author.Needs.{needs}
+use Rattle.sheet.proofs.forms.no_line.Statement.{statement}
+use Rattle.sheet.proofs.forms.no_line.Tie as tie
+use Rattle.sheet.proofs.forms.no_line.Reads as reads
+use Rattle.sheet.proofs.forms.no_line.Lts as lts
+use Rattle.sheet.proofs.forms.no_costs.Reads as no-costs-reads
+use Rattle.sheet.proofs.forms.no_machine.Reads as no-machine-reads
+use Rattle.sheet.proofs.forms.no_name.Reads as no-name-reads
+use Rattle.sheet.proofs.forms.untimed.Reads as untimed-reads
+
+-- src/forms.rt:71:9
+no-machine-requires : tie.Need-no-machine-requires
+no-machine-requires c κs = search needs
+
+-- src/forms.rt:72:9
+no-costs-requires : tie.Need-no-costs-requires
+no-costs-requires c κs = search needs
+
+-- src/forms.rt:73:9
+no-name-requires : tie.Need-no-name-requires
+no-name-requires c κs = search needs
+
+-- src/forms.rt:74:9
+untimed-requires : tie.Need-untimed-requires
+untimed-requires c κs = search needs
+
+-- src/forms.rt:68:1
+returns : tie.Need-returns
+returns c = ?
+
+pub no-line-spec : {M : Type 1} → statement M
+no-line-spec =
+    tie.close
+    (tie.spec no-machine-requires no-costs-requires no-name-requires untimed-requires returns)
