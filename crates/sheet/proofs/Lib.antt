@@ -2,3 +2,4 @@
 pub mod Examples
 pub mod LineLaws
 pub mod FieldLaws
+pub mod RunLaws

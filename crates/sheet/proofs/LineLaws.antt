@@ -3,7 +3,7 @@
 --
 --   run-other, run-here, run-end        a run, one byte on
 --   up-to-take, beyond-none, -some      where a run ends, and what stands beyond it
---   rest, rest-drop                     what a slice from a place on holds
+--   rest, rest-drop, -length            what a slice from a place on holds
 --   padded-*                            a list in so many places
 use mathlib.Core.Path.{_≡_, refl, sym, ap, _∙_}
 use mathlib.Core.Bool.{Bool, true, false, cond, _&&_, and-false}
@@ -88,6 +88,9 @@ rest s at = take (length s - at) (drop at s)
 
 pub rest-drop : (s : List ℕ) (at : ℕ) → rest s at ≡ drop at s
 rest-drop s at = take-all (length s - at) (drop at s) (rw length-drop (omega arith))
+
+pub rest-length : (s : List ℕ) (at : ℕ) → length (rest s at) ≡ length s - at
+rest-length s at = ap length (rest-drop s at) ∙ length-drop at s
 
 -- ---- padded lists
 

@@ -2,6 +2,7 @@
 --
 --   bytesOf "text"          the bytes of an ASCII text
 --   upTo b s, beyond b s    the run of s up to its first byte b, and the runs beyond it: lines by newlines, fields by tabs
+--   fields s                the fields of s
 --   isNumber f              1 to 7 decimal digits, no leading zero but for 0 itself
 --   valueOf f               the number that they stand for
 --   nameOf f                the name with the bytes f: their number, the bytes, and zeros to 24
@@ -38,6 +39,9 @@ unfoldable pub beyond : ℕ → List ℕ → List (List ℕ)
 unfolding upTo
 beyond b [] = []
 beyond b (x ∷ s) = cond (eqb x b) (upTo b s ∷ beyond b s) (beyond b s)
+
+abbrev pub fields : List ℕ → List (List ℕ)
+fields s = upTo tab s ∷ beyond tab s
 
 -- ---- numbers
 

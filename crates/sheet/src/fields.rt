@@ -3,11 +3,10 @@ use crate::Number;
 use crate::Numbers;
 use task::Name;
 ghost use mathlib.Core.Path.{_≡_};
-ghost use mathlib.Core.List.{_∷_};
 ghost use Prim.Native.Nat.{_<_};
 ghost use lib.ListN.{length};
 ghost use Rattle.task.specs.Names.{sameBytes};
-ghost use Rattle.sheet.specs.Lines.{tab, upTo, beyond, isDigit, unled, nameOf};
+ghost use Rattle.sheet.specs.Lines.{upTo, fields, isDigit, unled, nameOf};
 ghost use Rattle.sheet.specs.Held.{noNumber, numberOf, noNumbers, numbersOf};
 
 // How many bytes stand before the first b.
@@ -134,7 +133,7 @@ pub fn no_numbers() -> Numbers
 
 // The numbers that the fields of s are.
 pub fn numbers_of(s: &[u8]) -> Numbers
-    ensures { λ r. ⌜ r ≡ numbersOf (upTo tab (now (s .entry)) ∷ beyond tab (now (s .entry))) ⌝ }
+    ensures { λ r. ⌜ r ≡ numbersOf (fields (now (s .entry))) ⌝ }
 {
     let mut values = [0u64; 9];
     let mut at = 0;

@@ -12,8 +12,7 @@ use task::Task;
 use task::Times;
 use task::well_formed;
 ghost use mathlib.Core.Path.{_≡_};
-ghost use mathlib.Core.List.{_∷_};
-ghost use Rattle.sheet.specs.Lines.{tab, upTo, beyond};
+ghost use Rattle.sheet.specs.Lines.{fields};
 ghost use Rattle.sheet.specs.Forms.{noMachine, noCosts, noName, untimed, noLine, machineLine, costLine, partLine, fitLine, machineForm, costForm, partForm, fitForm, wordOf, lineOf};
 
 pub fn no_machine() -> Machine
@@ -145,11 +144,11 @@ pub fn fit_line(name: Name, part: Name) -> Line
     }
 }
 
-// The `machine` line with these fields.
-pub fn machine_form(fields: &[u8]) -> Line
-    ensures { λ r. ⌜ r ≡ machineForm (upTo tab (now (fields .entry)) ∷ beyond tab (now (fields .entry))) ⌝ }
+// The `machine` line whose fields stand in s.
+pub fn machine_form(s: &[u8]) -> Line
+    ensures { λ r. ⌜ r ≡ machineForm (fields (now (s .entry))) ⌝ }
 {
-    let g = numbers_of(fields);
+    let g = numbers_of(s);
     if g.count != 2 {
         return no_line();
     }
@@ -160,11 +159,11 @@ pub fn machine_form(fields: &[u8]) -> Line
     })
 }
 
-// The `cost` line with these fields.
-pub fn cost_form(fields: &[u8]) -> Line
-    ensures { λ r. ⌜ r ≡ costForm (upTo tab (now (fields .entry)) ∷ beyond tab (now (fields .entry))) ⌝ }
+// The `cost` line whose fields stand in s.
+pub fn cost_form(s: &[u8]) -> Line
+    ensures { λ r. ⌜ r ≡ costForm (fields (now (s .entry))) ⌝ }
 {
-    let g = numbers_of(fields);
+    let g = numbers_of(s);
     if g.count != 9 {
         return no_line();
     }
@@ -182,19 +181,19 @@ pub fn cost_form(fields: &[u8]) -> Line
     })
 }
 
-// The `part` line with these fields.
-pub fn part_form(fields: &[u8]) -> Line
-    ensures { λ r. ⌜ r ≡ partForm (upTo tab (now (fields .entry)) ∷ beyond tab (now (fields .entry))) ⌝ }
+// The `part` line whose fields stand in s.
+pub fn part_form(s: &[u8]) -> Line
+    ensures { λ r. ⌜ r ≡ partForm (fields (now (s .entry))) ⌝ }
 {
-    let e = until(fields, 9);
-    if e == fields.len() {
+    let e = until(s, 9);
+    if e == s.len() {
         return no_line();
     }
-    let name = name_of(&fields[..e]);
+    let name = name_of(&s[..e]);
     if !well_formed(name) {
         return no_line();
     }
-    let g = numbers_of(&fields[e + 1..]);
+    let g = numbers_of(&s[e + 1..]);
     if g.count != 6 {
         return no_line();
     }
@@ -212,19 +211,19 @@ pub fn part_form(fields: &[u8]) -> Line
     })
 }
 
-// The `fit` line with these fields.
-pub fn fit_form(fields: &[u8]) -> Line
-    ensures { λ r. ⌜ r ≡ fitForm (upTo tab (now (fields .entry)) ∷ beyond tab (now (fields .entry))) ⌝ }
+// The `fit` line whose fields stand in s.
+pub fn fit_form(s: &[u8]) -> Line
+    ensures { λ r. ⌜ r ≡ fitForm (fields (now (s .entry))) ⌝ }
 {
-    let e = until(fields, 9);
-    if e == fields.len() {
+    let e = until(s, 9);
+    if e == s.len() {
         return no_line();
     }
-    let name = name_of(&fields[..e]);
+    let name = name_of(&s[..e]);
     if !well_formed(name) {
         return no_line();
     }
-    let rest = &fields[e + 1..];
+    let rest = &s[e + 1..];
     if until(rest, 9) < rest.len() {
         return no_line();
     }
@@ -263,12 +262,12 @@ pub fn line_of(line: &[u8]) -> Line
         return no_line();
     }
     let word = word_of(&line[..e]);
-    let fields = &line[e + 1..];
+    let rest = &line[e + 1..];
     match word {
-        Word::Machine => machine_form(fields),
-        Word::Cost => cost_form(fields),
-        Word::Part => part_form(fields),
-        Word::Fit => fit_form(fields),
+        Word::Machine => machine_form(rest),
+        Word::Cost => cost_form(rest),
+        Word::Part => part_form(rest),
+        Word::Fit => fit_form(rest),
         Word::Other => no_line(),
     }
 }
