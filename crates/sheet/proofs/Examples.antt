@@ -1,54 +1,53 @@
--- Sheets read by the definitions: document 01's, the one that names `drv-a2` where only `drv-a` is listed, the empty one and a cut one.
+-- Sheets read by the definitions, as one table: document 01's, the one that names `drv-a2` where only `drv-a` is listed, the empty one, a cut
+-- one, and the order of refusals.
 -- Assumes nothing.
 use mathlib.Core.Path.{_≡_, refl}
-use mathlib.Core.List.{List, [], _∷_, _++_}
+use mathlib.Core.List.{List, [], _∷_, _++_, map}
 use Prim.Native.Nat.{ℕ}
 use Prim.Native.String.{String}
+use Rattle.demand.specs.Sizes.{sized, sizedCosts}
 use Rattle.task.specs.declared.Task.{Task}
-use Rattle.sheet.specs.Lines.{bytesOf, nameOf}
-use Rattle.sheet.specs.Forms.{noCosts}
-use Rattle.sheet.specs.Sheet.{Outcome, refused, whole, outcomeOf, amongFits}
+use Rattle.task.specs.Names.{nameByte, formed, sameName}
+use Rattle.task.specs.Tasks.{wholePiece, sizedMachine}
+use Rattle.sheet.specs.Lines.{bytesOf, upTo, beyond, isNumber, padded, nameOf, isName}
+use Rattle.sheet.specs.Forms.{noCosts, machineForm, costForm, partForm, fitForm, wordOf, lineOf}
+use Rattle.sheet.specs.Sheet.{Outcome, refused, whole, amongFits, machineFault, costFault, partFault, fitFault, lineFault, after, readFrom, outcomeOf}
 
--- machine, costs, the part and two fits of document 01's sheet
-head : String
-head = "machine\t2\t1\ncost\t0\t0\t0\t0\t0\t0\t0\t0\t0\npart\tdrv-a\t6\t10\t10\t0\t0\t1\nfit\tpress\tdrv-a\nfit\tfeed\tdrv-a\n"
+-- a sheet, and what is to be made of it
+record Row : Type 0 where
+  text : String
+  outcome : Outcome
 
-below : String → Outcome
-unfolding head
-below last = outcomeOf (bytesOf head ++ bytesOf last)
+-- a name with the times of document 01's part
+timed : String → Task
+timed name = record { name = nameOf (bytesOf name); times = record { worst = 6; deadline = 10; period = 10; jitter = 0; preempt = 0; migrate = 1 } }
 
-like-drv-a : String → Task
-unfolding nameOf
-like-drv-a name = record { name = nameOf (bytesOf name); times = record { worst = 6; deadline = 10; period = 10; jitter = 0; preempt = 0; migrate = 1 } }
+rows : List Row
+rows =
+    record {
+      text = "machine\t2\t1\ncost\t0\t0\t0\t0\t0\t0\t0\t0\t0\npart\tdrv-a\t6\t10\t10\t0\t0\t1\nfit\tpress\tdrv-a\nfit\tfeed\tdrv-a\nfit\tweld\tdrv-a\n";
+      outcome =
+          whole (record {
+            stage = amongFits;
+            machine = record { cores = 2; grain = 1 };
+            costs = noCosts;
+            parts = timed "drv-a" ∷ [];
+            tasks = timed "press" ∷ timed "feed" ∷ timed "weld" ∷ []
+          })
+    }
+    ∷ record { text = "machine\t2\t1\ncost\t0\t0\t0\t0\t0\t0\t0\t0\t0\npart\tdrv-a\t6\t10\t10\t0\t0\t1\nfit\tpress\tdrv-a2\n"; outcome = refused 5 4 }
+    ∷ record { text = ""; outcome = refused 8 1 }
+    ∷ record { text = "machine\t2\t1\n"; outcome = refused 8 2 }
+    ∷ record { text = "machine\t2\t1\ncost\t0\t0\t0\t0\t0\t0\t0\t0\t0"; outcome = refused 8 2 }
+    ∷ record { text = "machine\t17\t1\ncost\t0\n"; outcome = refused 1 1 }
+    ∷ record { text = "machine\t17\t01\n"; outcome = refused 8 1 }
+    ∷ record { text = "machine\t2\t1\ncost\t0\t0\t0\t0\t0\t0\t0\t0\t0\npart\ta\t1\t1\t1\t0\t0\t0\npart\ta\t2\t1\t1\t0\t0\t0\n"; outcome = refused 3 4 }
+    ∷ record { text = "machine\t2\t1\ncost\t0\t0\t0\t0\t0\t0\t0\t0\t0\npart\ta\t1\t1\t1\t0\t0\t0\nfit\tx\ta\nfit\tx\tb\n"; outcome = refused 4 5 }
+    ∷ []
 
-the-sheet :
-    below "fit\tweld\tdrv-a\n"
-    ≡ whole (record {
-      stage = amongFits;
-      machine = record { cores = 2; grain = 1 };
-      costs = noCosts;
-      parts = like-drv-a "drv-a" ∷ [];
-      tasks = like-drv-a "press" ∷ like-drv-a "feed" ∷ like-drv-a "weld" ∷ [];
-    })
-unfolding below outcomeOf like-drv-a
-the-sheet = refl
+read : Row → Outcome
+read r = outcomeOf (bytesOf (r .text))
 
-no-such-part : below "fit\tweld\tdrv-a2\n" ≡ refused 5 6
-unfolding below outcomeOf
-no-such-part = refl
-
-no-final-newline : below "fit\tweld\tdrv-a" ≡ refused 8 6
-unfolding below outcomeOf
-no-final-newline = refl
-
-second-task : below "fit\tfeed\tdrv-b\n" ≡ refused 4 6
-unfolding below outcomeOf
-second-task = refl
-
-part-after-fit : below "part\tdrv-b\t0\t10\t10\t0\t0\t1\n" ≡ refused 8 6
-unfolding below outcomeOf
-part-after-fit = refl
-
-empty : outcomeOf [] ≡ refused 8 1
-unfolding outcomeOf
-empty = refl
+all-rows : map read rows ≡ map (λ (r : Row). r .outcome) rows
+unfolding read rows timed outcomeOf readFrom lineFault machineFault costFault partFault fitFault after lineOf wordOf machineForm costForm partForm fitForm upTo beyond isNumber isName nameOf padded formed nameByte sameName sizedMachine sizedCosts sized wholePiece
+all-rows = refl

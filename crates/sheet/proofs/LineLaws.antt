@@ -2,8 +2,8 @@
 -- Assumes nothing.
 --
 --   run-other, run-here, run-end        a run, one byte on
---   up-to-take, beyond-none, -some      where a run ends, and what stands beyond it
---   rest, rest-drop, -length            what a slice from a place on holds
+--   rest, rest-drop, -length, -rest            what a slice from a place on holds
+--   run-le, -take, -whole, -last, -more the same of a run whose end is known
 --   padded-*                            a list in so many places
 use mathlib.Core.Path.{_≡_, refl, sym, ap, _∙_}
 use mathlib.Core.Bool.{Bool, true, false, cond, _&&_, and-false}
@@ -15,7 +15,7 @@ use native.Mathlib.Omega.{arith}
 use borrow.Author.Tests.{eq-eqb, ne-eqb, eqb-true, eqb-false}
 use lib.Dec.{eqb}
 use lib.ListN.{length, take, drop, getD, set, replicate, length-drop, drop-of-length-le}
-use lib.Seq.{drop-cons, take-all}
+use lib.Seq.{drop-cons, drop-drop, take-all}
 use Rattle.task.specs.Names.{sameBytes}
 use Rattle.sheet.specs.Lines.{upTo, beyond, padded}
 
@@ -48,17 +48,17 @@ run-of b (x ∷ s) = by-test (eqb x b) (run-of b s)
     by-test false r = (ap (λ (l : List ℕ). x ∷ l) (r .0), omega (arith, r .1))
 
 module _ (b : ℕ) (s : List ℕ) where
-  pub up-to-take : take (length (upTo b s)) s ≡ upTo b s
+  up-to-take : take (length (upTo b s)) s ≡ upTo b s
   up-to-take = run-of b s .0
 
-  pub up-to-le : length (upTo b s) ≤ length s
+  up-to-le : length (upTo b s) ≤ length s
   up-to-le = run-of b s .1
 
-pub up-to-whole : (b : ℕ) (s : List ℕ) → length s ≤ length (upTo b s) → upTo b s ≡ s
+up-to-whole : (b : ℕ) (s : List ℕ) → length s ≤ length (upTo b s) → upTo b s ≡ s
 up-to-whole b s whole = sym (up-to-take b s) ∙ take-all (length (upTo b s)) s whole
 
-pub beyond-none : (b : ℕ) (s : List ℕ) → length s ≤ length (upTo b s) → beyond b s ≡ []
-unfolding beyond
+beyond-none : (b : ℕ) (s : List ℕ) → length s ≤ length (upTo b s) → beyond b s ≡ []
+unfolding beyond upTo
 beyond-none b [] whole = refl
 beyond-none b (x ∷ s) whole = by-test (eqb x b) (λ h. beyond-none b s h) whole
   where
@@ -67,9 +67,9 @@ beyond-none b (x ∷ s) whole = by-test (eqb x b) (λ h. beyond-none b s h) whol
     by-test true h w = absurd (omega arith)
     by-test false h w = h (omega arith)
 
-pub beyond-some : (b : ℕ) (s : List ℕ) → length (upTo b s) < length s
+beyond-some : (b : ℕ) (s : List ℕ) → length (upTo b s) < length s
     → beyond b s ≡ upTo b (drop (length (upTo b s) + 1) s) ∷ beyond b (drop (length (upTo b s) + 1) s)
-unfolding beyond
+unfolding beyond upTo
 beyond-some b [] short = absurd (omega arith)
 beyond-some b (x ∷ s) short = by-test (eqb x b) (λ h. beyond-some b s h) short
   where
@@ -91,6 +91,32 @@ rest-drop s at = take-all (length s - at) (drop at s) (rw length-drop (omega ari
 
 pub rest-length : (s : List ℕ) (at : ℕ) → length (rest s at) ≡ length s - at
 rest-length s at = ap length (rest-drop s at) ∙ length-drop at s
+
+-- what stands behind a run and the byte that ends it
+pub rest-rest : (s : List ℕ) (at e : ℕ) → rest (rest s at) (e + 1) ≡ rest s (at + e + 1)
+rest-rest s at e =
+    let place : at + (e + 1) ≡ at + e + 1 = omega arith in
+    rw (rest-drop (rest s at) (e + 1), rest-drop s at, rest-drop s (at + e + 1), drop-drop, place)
+
+-- ---- a run that ends at e, as slices have it
+
+module _ (b : ℕ) (s : List ℕ) (e : ℕ) (run : e ≡ length (upTo b s)) where
+  pub run-le : e ≤ length s
+  run-le = omega (arith, up-to-le b s)
+
+  pub run-take : take e s ≡ upTo b s
+  run-take = rw run (up-to-take b s)
+
+  -- the only run
+  pub run-whole : length s ≤ e → upTo b s ≡ s
+  run-whole whole = up-to-whole b s (omega arith)
+
+  pub run-last : length s ≤ e → beyond b s ≡ []
+  run-last whole = beyond-none b s (omega arith)
+
+  -- one with others beyond it
+  pub run-more : e < length s → beyond b s ≡ upTo b (rest s (e + 1)) ∷ beyond b (rest s (e + 1))
+  run-more more = rw (rest-drop s (e + 1), run) (beyond-some b s (omega arith))
 
 -- ---- padded lists
 

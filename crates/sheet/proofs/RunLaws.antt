@@ -14,13 +14,12 @@ use native.Mathlib.Omega.{arith}
 use borrow.Author.Tests.{le-leb, lt-leb}
 use lib.Dec.{leb}
 use lib.ListN.{length, take, drop, set, replicate, length-append}
-use lib.Seq.{drop-drop}
 use Rattle.sheet.specs.declared.Number.{Number}
 use Rattle.sheet.specs.declared.Numbers.{Numbers}
 use Rattle.sheet.specs.Lines.{tab, upTo, beyond, fields, every, isNumber, valueOf, padded}
 use Rattle.sheet.specs.Forms.{values}
 use Rattle.sheet.specs.Held.{numberOf, runMost, noNumbers, numbersOf}
-use Rattle.sheet.proofs.LineLaws.{up-to-take, up-to-le, up-to-whole, beyond-none, beyond-some, rest, rest-drop, rest-length, padded-none, padded-put}
+use Rattle.sheet.proofs.LineLaws.{rest, rest-drop, rest-length, rest-rest, run-le, run-take, run-last, run-more, padded-none, padded-put}
 use Rattle.sheet.proofs.FieldLaws.{number-ok, number-value}
 
 pub numbersWith : List ℕ → List (List ℕ) → Numbers
@@ -76,14 +75,11 @@ module _ (s vs : List ℕ) (at i : ℕ) (p : Passed s vs at i) where
 
   -- the next field, with the answer x on it
   module _ (e : ℕ) (run : e ≡ length (upTo tab (rest s at))) (x : Number) (answer : x ≡ numberOf (take e (rest s at))) where
-    field-is : take e (rest s at) ≡ upTo tab (rest s at)
-    field-is = rw run (up-to-take tab (rest s at))
-
     good-field : (t : Bool) → x .ok ≡ t → isNumber (upTo tab (rest s at)) ≡ t
-    good-field t ok = ap isNumber (sym field-is) ∙ number-ok (take e (rest s at)) x answer ∙ ok
+    good-field t ok = ap isNumber (sym (run-take tab (rest s at) e run)) ∙ number-ok (take e (rest s at)) x answer ∙ ok
 
     value-is : x .ok ≡ true → x .value ≡ valueOf (upTo tab (rest s at))
-    value-is ok = number-value (take e (rest s at)) x answer ok ∙ ap valueOf field-is
+    value-is ok = number-value (take e (rest s at)) x answer ok ∙ ap valueOf (run-take tab (rest s at) e run)
 
     pub passed-bad : x .ok ≡ false → noNumbers ≡ numbersOf (fields s)
     passed-bad bad = sym (p .so-far ∙ with-bad (p .us) (upTo tab (rest s at)) (beyond tab (rest s at)) (good-field false bad))
@@ -99,25 +95,22 @@ module _ (s vs : List ℕ) (at i : ℕ) (p : Passed s vs at i) where
 
       pub passed-last : e ≡ length (rest s at) → record { count = i + 1; values = set vs i (x .value) } ≡ numbersOf (fields s)
       passed-last last =
-          let none = beyond-none tab (rest s at) (omega arith) in
+          let none = run-last tab (rest s at) e run (omega arith) in
           let so-far = p .so-far ∙ with-more (p .us) (upTo tab (rest s at)) (beyond tab (rest s at)) (good-field true ok) in
           let all = with-all (p .us ++ (valueOf (upTo tab (rest s at)) ∷ [])) (omega (arith, counted)) in
           rw (so-far, none, all, counted, put)
 
       pub passed-more : (e ≡ length (rest s at) → ⊥) → Passed s (set vs i (x .value)) (at + e + 1) (i + 1)
       passed-more more =
-          let short : length (upTo tab (rest s at)) < length (rest s at) = omega (arith, up-to-le tab (rest s at)) in
-          let some = beyond-some tab (rest s at) short in
-          let place : at + (e + 1) ≡ at + e + 1 = omega arith in
-          let on : drop (e + 1) (rest s at) ≡ rest s (at + e + 1) = rw (rest-drop s at, rest-drop s (at + e + 1), drop-drop, place) in
+          let some = run-more tab (rest s at) e run (omega (arith, run-le tab (rest s at) e run)) in
           record {
             us = p .us ++ (valueOf (upTo tab (rest s at)) ∷ []);
             few = omega arith;
             count = counted;
             held = put;
-            on = omega (arith, p .on, rest-length s at);
+            on = omega (arith, p .on, rest-length s at, run-le tab (rest s at) e run);
             so-far =
                 p .so-far
                 ∙ with-more (p .us) (upTo tab (rest s at)) (beyond tab (rest s at)) (good-field true ok)
-                ∙ ap (numbersWith (p .us ++ (valueOf (upTo tab (rest s at)) ∷ []))) (some ∙ rw (← run, on))
+                ∙ ap (numbersWith (p .us ++ (valueOf (upTo tab (rest s at)) ∷ []))) (some ∙ rw (rest-rest s at e))
           }

@@ -82,20 +82,16 @@ abbrev pub values : List (List ℕ) → List ℕ
 values fs = map valueOf fs
 
 unfoldable pub machineForm : List (List ℕ) → Line
-unfolding isNumber
 machineForm fs = cond (numbered 2 fs) (machineLine (machineOf (values fs))) noLine
 
 unfoldable pub costForm : List (List ℕ) → Line
-unfolding isNumber
 costForm fs = cond (numbered 9 fs) (costLine (costsOf (values fs))) noLine
 
 unfoldable pub partForm : List (List ℕ) → Line
-unfolding isNumber isName
 partForm [] = noLine
 partForm (f ∷ fs) = cond (isName f && numbered 6 fs) (partLine (record { name = nameOf f; times = timesOf (values fs) })) noLine
 
 unfoldable pub fitForm : List (List ℕ) → Line
-unfolding isName
 fitForm [] = noLine
 fitForm (f ∷ []) = noLine
 fitForm (f ∷ g ∷ []) = cond (isName f && isName g) (fitLine (nameOf f) (nameOf g)) noLine
@@ -118,5 +114,4 @@ formOf Word.Fit fs = fitForm fs
 formOf Word.Other fs = noLine
 
 unfoldable pub lineOf : List ℕ → Line
-unfolding wordOf machineForm costForm partForm fitForm beyond
 lineOf l = formOf (wordOf (upTo tab l)) (beyond tab l)

@@ -16,7 +16,7 @@ use Prim.Native.String.{String, [] as done, _∷_ as _then_}
 use lib.Dec.{eqb}
 use lib.ListN.{length}
 use Rattle.task.specs.declared.Name.{Name}
-use Rattle.task.specs.Names.{between, nameByte, formed}
+use Rattle.task.specs.Names.{between, formed}
 
 -- ---- lines and fields
 
@@ -36,7 +36,6 @@ upTo b (x ∷ s) = cond (eqb x b) [] (x ∷ upTo b s)
 
 -- as many as there are bytes b: what stands behind the last is a run too, if only an empty one
 unfoldable pub beyond : ℕ → List ℕ → List (List ℕ)
-unfolding upTo
 beyond b [] = []
 beyond b (x ∷ s) = cond (eqb x b) (upTo b s ∷ beyond b s) (beyond b s)
 
@@ -84,9 +83,7 @@ nameMost = 24
 
 -- more than 24 bytes give a length that `formed` refuses
 unfoldable pub nameOf : List ℕ → Name
-unfolding padded
 nameOf f = record { len = length f; bytes = padded nameMost 0 f }
 
 unfoldable pub isName : List ℕ → Bool
-unfolding nameOf formed nameByte
 isName f = formed (nameOf f)

@@ -62,21 +62,18 @@ abbrev pub room : List Task → Bool
 room ts = ltb (length ts) tasksMost
 
 unfoldable pub machineFault : ℕ → Machine → ℕ
-unfolding sizedMachine
 machineFault stage m =
     rule (eqb stage atTop) 8
     (rule (sizedMachine m) 1
     0)
 
 unfoldable pub costFault : ℕ → Costs → ℕ
-unfolding sizedCosts
 costFault stage c =
     rule (eqb stage belowMachine) 8
     (rule (sizedCosts c) 2
     0)
 
 unfoldable pub partFault : ℕ → Task → List Task → ℕ
-unfolding sized wholePiece sameName
 partFault stage t parts =
     rule (eqb stage amongParts) 8
     (rule (sized (wholePiece (t .times))) 3
@@ -85,7 +82,6 @@ partFault stage t parts =
     0)))
 
 unfoldable pub fitFault : ℕ → (task part : Name) → (parts tasks : List Task) → ℕ
-unfolding sameName
 fitFault stage n p parts tasks =
     rule (leb amongParts stage) 8
     (rule (free n tasks) 4
@@ -101,7 +97,6 @@ wordFault Word.Fit a l = fitFault (a .stage) (l .task .name) (l .part) (a .parts
 wordFault Word.Other a l = 8
 
 unfoldable pub lineFault : Above → Line → ℕ
-unfolding machineFault costFault partFault fitFault
 lineFault a l = wordFault (l .word) a l
 
 -- ---- what stands after a good line
@@ -126,7 +121,6 @@ wordAfter Word.Fit a l =
 wordAfter Word.Other a l = a
 
 unfoldable pub after : Above → Line → Above
-unfolding sameName
 after a l = wordAfter (l .word) a l
 
 -- ---- the lines from the top
@@ -145,7 +139,6 @@ next zero n rest = rest
 next (suc k) n rest = refused (suc k) n
 
 unfoldable pub readFrom : Above → ℕ → List ℕ → List (List ℕ) → Outcome
-unfolding lineFault after lineOf
 readFrom a n l [] = ending a n l
 readFrom a n l (m ∷ ls) = next (lineFault a (lineOf l)) n (readFrom (after a (lineOf l)) (n + 1) m ls)
 
@@ -153,7 +146,6 @@ abbrev pub sheetMost : ℕ
 sheetMost = 16384
 
 unfoldable pub outcomeOf : List ℕ → Outcome
-unfolding readFrom beyond
 outcomeOf bytes = cond (leb (length bytes) sheetMost) (readFrom top 1 (upTo newline bytes) (beyond newline bytes)) (refused 9 0)
 
 -- ---- the struct: a refusal has the empty sheet
@@ -169,5 +161,4 @@ shown (refused number line) = record { number = number; carries = line; sheet = 
 shown (whole a) = record { number = 0; carries = 0; sheet = sheetOf a }
 
 unfoldable pub readOf : List ℕ → Read
-unfolding outcomeOf
 readOf bytes = shown (outcomeOf bytes)

@@ -1,3 +1,6 @@
+-- `drafts::blank` meets its contract: each field is what its function gives.
+-- Assumes nothing.
+use Rattle.sheet.specs.Held.{laid}
 use borrow.Author.Needs.{needs}
 use Rattle.sheet.proofs.drafts.blank.Statement.{statement}
 use Rattle.sheet.proofs.drafts.blank.Tie as tie
@@ -7,21 +10,18 @@ use Rattle.sheet.proofs.drafts.no_tasks.Reads as no-tasks-reads
 use Rattle.sheet.proofs.forms.no_costs.Reads as no-costs-reads
 use Rattle.sheet.proofs.forms.no_machine.Reads as no-machine-reads
 
--- src/drafts.rt:38:9
 no-machine-requires : tie.Need-no-machine-requires
 no-machine-requires c κs = search needs
 
--- src/drafts.rt:39:9
 no-costs-requires : tie.Need-no-costs-requires
 no-costs-requires c κs = search needs
 
--- src/drafts.rt:40:9
 no-tasks-requires : tie.Need-no-tasks-requires
 no-tasks-requires c κs = search needs
 
--- src/drafts.rt:35:1
 returns : tie.Need-returns
-returns c = ?
+unfolding laid
+returns c = cc
 
 pub blank-spec : {M : Type 1} → statement M
 blank-spec = tie.close (tie.spec no-machine-requires no-costs-requires no-tasks-requires returns)

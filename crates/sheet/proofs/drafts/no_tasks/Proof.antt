@@ -1,3 +1,5 @@
+-- `drafts::no_tasks` meets its contract: each place holds the same.
+-- Assumes nothing.
 use borrow.Author.Needs.{needs}
 use Rattle.sheet.proofs.drafts.no_tasks.Statement.{statement}
 use Rattle.sheet.proofs.drafts.no_tasks.Tie as tie
@@ -6,15 +8,12 @@ use Rattle.sheet.proofs.drafts.no_tasks.Lts as lts
 use Rattle.sheet.proofs.forms.no_name.Reads as no-name-reads
 use Rattle.sheet.proofs.forms.untimed.Reads as untimed-reads
 
--- src/drafts.rt:27:24
 no-name-requires : tie.Need-no-name-requires
 no-name-requires c κs = search needs
 
--- src/drafts.rt:27:9
 untimed-requires : tie.Need-untimed-requires
 untimed-requires c κs = search needs
 
--- src/drafts.rt:24:1
 returns : tie.Need-returns
 returns c = ?
 

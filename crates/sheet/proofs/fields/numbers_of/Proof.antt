@@ -8,7 +8,7 @@ use native.Mathlib.Omega.{arith}
 use borrow.Author.Tests.{not-true, not-false}
 use lib.Seq.{length-take-le}
 use Rattle.sheet.specs.Lines.{tab}
-use Rattle.sheet.proofs.LineLaws.{rest, rest-length, up-to-le}
+use Rattle.sheet.proofs.LineLaws.{rest, rest-length, run-le}
 use Rattle.sheet.proofs.RunLaws.{Passed, passed-none, passed-many, passed-bad, passed-last, passed-more}
 use Rattle.sheet.proofs.fields.numbers_of.Statement.{statement}
 use Rattle.sheet.proofs.fields.numbers_of.Tie as tie
@@ -42,7 +42,7 @@ until-requires c κs = search needs
 slice-aggregate-number-of : tie.Need-slice-aggregate-number-of Inv-loop μ-loop
 slice-aggregate-number-of c =
     let s = rest (c .before .before .before .before .before .before .args .s .now) (c .before .before .before .before .loop .at) in
-    sym (length-take-le (c .before .until .result) s (omega (arith, c .before .until .ensures, up-to-le tab s)))
+    sym (length-take-le (c .before .until .result) s (omega (arith, run-le tab s (c .before .until .result) (c .before .until .ensures))))
 
 number-of-requires : tie.Need-number-of-requires Inv-loop μ-loop
 number-of-requires c κs = search needs
@@ -68,12 +68,12 @@ returns-2 c = passed-last (c .before .before .before .before .before .before .be
 add-at : tie.Need-add-at Inv-loop μ-loop
 add-at c =
     let s = rest (c .before .before .before .before .before .before .before .before .before .before .args .s .now) (c .before .before .before .before .before .before .before .before .loop .at) in
-    omega (arith, c .before .before .before .before .before .until .ensures, up-to-le tab s, rest-length (c .before .before .before .before .before .before .before .before .before .before .args .s .now) (c .before .before .before .before .before .before .before .before .loop .at))
+    omega (arith, run-le tab s (c .before .before .before .before .before .until .result) (c .before .before .before .before .before .until .ensures), rest-length (c .before .before .before .before .before .before .before .before .before .before .args .s .now) (c .before .before .before .before .before .before .before .before .loop .at))
 
 add-at-2 : tie.Need-add-at-2 Inv-loop μ-loop
 add-at-2 c =
     let s = rest (c .before .before .before .before .before .before .before .before .before .before .args .s .now) (c .before .before .before .before .before .before .before .before .loop .at) in
-    omega (arith, c .before .before .before .before .before .until .ensures, up-to-le tab s, rest-length (c .before .before .before .before .before .before .before .before .before .before .args .s .now) (c .before .before .before .before .before .before .before .before .loop .at))
+    omega (arith, run-le tab s (c .before .before .before .before .before .until .result) (c .before .before .before .before .before .until .ensures), rest-length (c .before .before .before .before .before .before .before .before .before .before .args .s .now) (c .before .before .before .before .before .before .before .before .loop .at))
 
 loop-less : tie.Need-loop-less Inv-loop μ-loop
 loop-less c = search needs

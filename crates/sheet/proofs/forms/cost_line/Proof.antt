@@ -1,3 +1,5 @@
+-- `forms::cost_line` meets its contract: each field is what its function gives.
+-- Assumes nothing.
 use borrow.Author.Needs.{needs}
 use Rattle.sheet.proofs.forms.cost_line.Statement.{statement}
 use Rattle.sheet.proofs.forms.cost_line.Tie as tie
@@ -7,21 +9,17 @@ use Rattle.sheet.proofs.forms.no_machine.Reads as no-machine-reads
 use Rattle.sheet.proofs.forms.no_name.Reads as no-name-reads
 use Rattle.sheet.proofs.forms.untimed.Reads as untimed-reads
 
--- src/forms.rt:104:9
 no-machine-requires : tie.Need-no-machine-requires
 no-machine-requires c κs = search needs
 
--- src/forms.rt:105:9
 no-name-requires : tie.Need-no-name-requires
 no-name-requires c κs = search needs
 
--- src/forms.rt:106:9
 untimed-requires : tie.Need-untimed-requires
 untimed-requires c κs = search needs
 
--- src/forms.rt:101:1
 returns : tie.Need-returns
-returns c = ?
+returns c = cc
 
 pub cost-line-spec : {M : Type 1} → statement M
 cost-line-spec = tie.close (tie.spec no-machine-requires no-name-requires untimed-requires returns)

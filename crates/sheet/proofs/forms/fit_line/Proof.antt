@@ -1,3 +1,5 @@
+-- `forms::fit_line` meets its contract: each field is what its function gives.
+-- Assumes nothing.
 use borrow.Author.Needs.{needs}
 use Rattle.sheet.proofs.forms.fit_line.Statement.{statement}
 use Rattle.sheet.proofs.forms.fit_line.Tie as tie
@@ -7,21 +9,17 @@ use Rattle.sheet.proofs.forms.no_costs.Reads as no-costs-reads
 use Rattle.sheet.proofs.forms.no_machine.Reads as no-machine-reads
 use Rattle.sheet.proofs.forms.untimed.Reads as untimed-reads
 
--- src/forms.rt:136:9
 no-machine-requires : tie.Need-no-machine-requires
 no-machine-requires c κs = search needs
 
--- src/forms.rt:137:9
 no-costs-requires : tie.Need-no-costs-requires
 no-costs-requires c κs = search needs
 
--- src/forms.rt:138:9
 untimed-requires : tie.Need-untimed-requires
 untimed-requires c κs = search needs
 
--- src/forms.rt:133:1
 returns : tie.Need-returns
-returns c = ?
+returns c = cc
 
 pub fit-line-spec : {M : Type 1} → statement M
 fit-line-spec = tie.close (tie.spec no-machine-requires no-costs-requires untimed-requires returns)

@@ -1,3 +1,5 @@
+-- `forms::machine_line` meets its contract: each field is what its function gives.
+-- Assumes nothing.
 use borrow.Author.Needs.{needs}
 use Rattle.sheet.proofs.forms.machine_line.Statement.{statement}
 use Rattle.sheet.proofs.forms.machine_line.Tie as tie
@@ -7,21 +9,17 @@ use Rattle.sheet.proofs.forms.no_costs.Reads as no-costs-reads
 use Rattle.sheet.proofs.forms.no_name.Reads as no-name-reads
 use Rattle.sheet.proofs.forms.untimed.Reads as untimed-reads
 
--- src/forms.rt:88:9
 no-costs-requires : tie.Need-no-costs-requires
 no-costs-requires c κs = search needs
 
--- src/forms.rt:89:9
 no-name-requires : tie.Need-no-name-requires
 no-name-requires c κs = search needs
 
--- src/forms.rt:90:9
 untimed-requires : tie.Need-untimed-requires
 untimed-requires c κs = search needs
 
--- src/forms.rt:85:1
 returns : tie.Need-returns
-returns c = ?
+returns c = cc
 
 pub machine-line-spec : {M : Type 1} → statement M
 machine-line-spec =
