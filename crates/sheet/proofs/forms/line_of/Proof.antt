@@ -1,3 +1,14 @@
+-- `forms::line_of` meets its contract: the word, and then its form of what stands beyond it.
+-- Assumes nothing.
+use mathlib.Core.Path.{_≡_, sym, _∙_}
+use Prim.Native.Nat.{_<_}
+use native.Mathlib.Omega.{arith}
+use lib.ListN.{length}
+use lib.Seq.{length-take-le}
+use Rattle.sheet.specs.declared.Word.{Word}
+use Rattle.sheet.specs.Lines.{tab}
+use Rattle.sheet.proofs.LineLaws.{run-le}
+use Rattle.sheet.proofs.FormLaws.{line-short, line-some}
 use borrow.Author.Needs.{needs}
 use Rattle.sheet.proofs.forms.line_of.Statement.{statement}
 use Rattle.sheet.proofs.forms.line_of.Tie as tie
@@ -11,101 +22,102 @@ use Rattle.sheet.proofs.forms.no_line.Reads as no-line-reads
 use Rattle.sheet.proofs.forms.part_form.Reads as part-form-reads
 use Rattle.sheet.proofs.forms.word_of.Reads as word-of-reads
 
--- src/forms.rt:260:9
 until-requires : tie.Need-until-requires
 until-requires c κs = search needs
 
--- src/forms.rt:262:9
 no-line-requires : tie.Need-no-line-requires
 no-line-requires c κs = search needs
 
--- src/forms.rt:262:9
 returns : tie.Need-returns
-returns c = ?
+returns c = c .no-line .ensures ∙ line-short (c .before .before .before .before .args .line .now) (c .before .before .until .result) (c .before .before .until .ensures) (c .before .if1 .taken)
 
--- src/forms.rt:264:24
 slice-aggregate-word-of : tie.Need-slice-aggregate-word-of
-slice-aggregate-word-of c = ?
+slice-aggregate-word-of c = sym (length-take-le (c .before .before .until .result) (c .before .before .before .before .args .line .now) (run-le tab (c .before .before .before .before .args .line .now) (c .before .before .until .result) (c .before .before .until .ensures)))
 
--- src/forms.rt:264:9
 word-of-requires : tie.Need-word-of-requires
 word-of-requires c κs = search needs
 
--- src/forms.rt:265:22
 add-rest : tie.Need-add-rest
-add-rest c = ?
+add-rest c = omega (arith, run-le tab (c .before .before .before .before .before .args .line .now) (c .before .before .before .until .result) (c .before .before .before .until .ensures))
 
--- src/forms.rt:265:16
 sub-rest : tie.Need-sub-rest
-sub-rest c = ?
+sub-rest c = omega (arith, run-le tab (c .before .before .before .before .before .args .line .now) (c .before .before .before .until .result) (c .before .before .before .until .ensures))
 
--- src/forms.rt:265:16
 part-rest-start : tie.Need-part-rest-start
-part-rest-start c = ?
+part-rest-start c = omega (arith, run-le tab (c .before .before .before .before .before .args .line .now) (c .before .before .before .until .result) (c .before .before .before .until .ensures))
 
--- src/forms.rt:265:16
 part-rest-end : tie.Need-part-rest-end
 part-rest-end c = search needs
 
--- src/forms.rt:267:26
 enum-told : tie.Need-enum-told
 enum-told c = search needs
 
--- src/forms.rt:267:26
 machine-form-requires : tie.Need-machine-form-requires
 machine-form-requires c κs = search needs
 
--- src/forms.rt:268:23
 enum-told-2 : tie.Need-enum-told-2
 enum-told-2 c = search needs
 
--- src/forms.rt:268:23
 cost-form-requires : tie.Need-cost-form-requires
 cost-form-requires c κs = search needs
 
--- src/forms.rt:269:23
 enum-told-3 : tie.Need-enum-told-3
 enum-told-3 c = search needs
 
--- src/forms.rt:269:23
 part-form-requires : tie.Need-part-form-requires
 part-form-requires c κs = search needs
 
--- src/forms.rt:270:22
 enum-told-4 : tie.Need-enum-told-4
 enum-told-4 c = search needs
 
--- src/forms.rt:270:22
 fit-form-requires : tie.Need-fit-form-requires
 fit-form-requires c κs = search needs
 
--- src/forms.rt:271:24
 enum-told-5 : tie.Need-enum-told-5
 enum-told-5 c = search needs
 
--- src/forms.rt:271:24
 no-line-requires-2 : tie.Need-no-line-requires-2
 no-line-requires-2 c κs = search needs
 
--- src/forms.rt:257:1
 returns-2 : tie.Need-returns-2
-returns-2 c = ?
+returns-2 c =
+    let l = c .before .before .before .before .before .before .before .before .before .args .line .now in
+    let e = c .before .before .before .before .before .before .before .until .result in
+    let run = c .before .before .before .before .before .before .before .until .ensures in
+    let more : e < length l = omega (arith, run-le tab l e run) in
+    c .machine-form .ensures ∙ line-some l e run more Word.Machine (sym (c .before .enum-told .given .1) ∙ c .before .before .before .before .word-of .ensures)
 
--- src/forms.rt:257:1
 returns-3 : tie.Need-returns-3
-returns-3 c = ?
+returns-3 c =
+    let l = c .before .before .before .before .before .before .before .before .before .args .line .now in
+    let e = c .before .before .before .before .before .before .before .until .result in
+    let run = c .before .before .before .before .before .before .before .until .ensures in
+    let more : e < length l = omega (arith, run-le tab l e run) in
+    c .cost-form .ensures ∙ line-some l e run more Word.Cost (sym (c .before .enum-told2 .given .1) ∙ c .before .before .before .before .word-of .ensures)
 
--- src/forms.rt:257:1
 returns-4 : tie.Need-returns-4
-returns-4 c = ?
+returns-4 c =
+    let l = c .before .before .before .before .before .before .before .before .before .args .line .now in
+    let e = c .before .before .before .before .before .before .before .until .result in
+    let run = c .before .before .before .before .before .before .before .until .ensures in
+    let more : e < length l = omega (arith, run-le tab l e run) in
+    c .part-form .ensures ∙ line-some l e run more Word.Part (sym (c .before .enum-told3 .given .1) ∙ c .before .before .before .before .word-of .ensures)
 
--- src/forms.rt:257:1
 returns-5 : tie.Need-returns-5
-returns-5 c = ?
+returns-5 c =
+    let l = c .before .before .before .before .before .before .before .before .before .args .line .now in
+    let e = c .before .before .before .before .before .before .before .until .result in
+    let run = c .before .before .before .before .before .before .before .until .ensures in
+    let more : e < length l = omega (arith, run-le tab l e run) in
+    c .fit-form .ensures ∙ line-some l e run more Word.Fit (sym (c .before .enum-told4 .given .1) ∙ c .before .before .before .before .word-of .ensures)
 
--- src/forms.rt:257:1
 returns-6 : tie.Need-returns-6
-returns-6 c = ?
+returns-6 c =
+    let l = c .before .before .before .before .before .before .before .before .before .args .line .now in
+    let e = c .before .before .before .before .before .before .before .until .result in
+    let run = c .before .before .before .before .before .before .before .until .ensures in
+    let more : e < length l = omega (arith, run-le tab l e run) in
+    c .no-line2 .ensures ∙ line-some l e run more Word.Other (sym (c .before .enum-told5 .given .1) ∙ c .before .before .before .before .word-of .ensures)
 
 pub line-of-spec : {M : Type 1} → statement M
 line-of-spec =

@@ -1,3 +1,8 @@
+-- `forms::machine_form` meets its contract: two numbers, or no line.
+-- Assumes nothing.
+use mathlib.Core.Path.{_∙_}
+use Rattle.sheet.specs.Lines.{fields}
+use Rattle.sheet.proofs.FormLaws.{machine-none, machine-some}
 use borrow.Author.Needs.{needs}
 use Rattle.sheet.proofs.forms.machine_form.Statement.{statement}
 use Rattle.sheet.proofs.forms.machine_form.Tie as tie
@@ -7,33 +12,26 @@ use Rattle.sheet.proofs.fields.numbers_of.Reads as numbers-of-reads
 use Rattle.sheet.proofs.forms.machine_line.Reads as machine-line-reads
 use Rattle.sheet.proofs.forms.no_line.Reads as no-line-reads
 
--- src/forms.rt:151:9
 numbers-of-requires : tie.Need-numbers-of-requires
 numbers-of-requires c κs = search needs
 
--- src/forms.rt:153:9
 no-line-requires : tie.Need-no-line-requires
 no-line-requires c κs = search needs
 
--- src/forms.rt:153:9
 returns : tie.Need-returns
-returns c = ?
+returns c = c .no-line .ensures ∙ machine-none (fields (c .before .before .before .before .before .args .s .now)) (c .before .before .before .numbers-of .result) (c .before .before .before .numbers-of .ensures) (c .before .if1 .taken)
 
--- src/forms.rt:157:16
 array-read-t7 : tie.Need-array-read-t7
 array-read-t7 c = search needs
 
--- src/forms.rt:158:16
 array-read-t11 : tie.Need-array-read-t11
 array-read-t11 c = search needs
 
--- src/forms.rt:156:5
 machine-line-requires : tie.Need-machine-line-requires
 machine-line-requires c κs = search needs
 
--- src/forms.rt:148:1
 returns-2 : tie.Need-returns-2
-returns-2 c = ?
+returns-2 c = c .machine-line .ensures ∙ machine-some (fields (c .before .before .before .before .before .before .args .s .now)) (c .before .before .before .before .numbers-of .result) (c .before .before .before .before .numbers-of .ensures) (c .before .before .if1 .left)
 
 pub machine-form-spec : {M : Type 1} → statement M
 machine-form-spec =
