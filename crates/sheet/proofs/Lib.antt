@@ -4,3 +4,5 @@ pub mod LineLaws
 pub mod FieldLaws
 pub mod RunLaws
 pub mod FormLaws
+pub mod FaultLaws
+pub mod DraftLaws

@@ -1,3 +1,8 @@
+-- `drafts::line_fault` meets its contract: the rules of its word.
+-- Assumes nothing.
+use mathlib.Core.Path.{_∙_}
+use Rattle.sheet.specs.Sheet.{lineFault}
+use Rattle.sheet.specs.Held.{told}
 use borrow.Author.Needs.{needs}
 use Rattle.sheet.proofs.drafts.line_fault.Statement.{statement}
 use Rattle.sheet.proofs.drafts.line_fault.Tie as tie
@@ -8,61 +13,52 @@ use Rattle.sheet.proofs.drafts.fit_fault.Reads as fit-fault-reads
 use Rattle.sheet.proofs.drafts.machine_fault.Reads as machine-fault-reads
 use Rattle.sheet.proofs.drafts.part_fault.Reads as part-fault-reads
 
--- src/drafts.rt:127:17
 enum-told : tie.Need-enum-told
 enum-told c = search needs
 
--- src/drafts.rt:128:13
 machine-fault-requires : tie.Need-machine-fault-requires
 machine-fault-requires c κs = search needs
 
--- src/drafts.rt:131:17
 enum-told-2 : tie.Need-enum-told-2
 enum-told-2 c = search needs
 
--- src/drafts.rt:132:13
 cost-fault-requires : tie.Need-cost-fault-requires
 cost-fault-requires c κs = search needs
 
--- src/drafts.rt:134:23
 enum-told-3 : tie.Need-enum-told-3
 enum-told-3 c = search needs
 
--- src/drafts.rt:134:23
 part-fault-requires : tie.Need-part-fault-requires
 part-fault-requires c κs = search needs
 
--- src/drafts.rt:136:17
 enum-told-4 : tie.Need-enum-told-4
 enum-told-4 c = search needs
 
--- src/drafts.rt:138:13
 fit-fault-requires : tie.Need-fit-fault-requires
 fit-fault-requires c κs = search needs
 
--- src/drafts.rt:140:24
 enum-told-5 : tie.Need-enum-told-5
 enum-told-5 c = search needs
 
--- src/drafts.rt:117:1
 returns : tie.Need-returns
-returns c = ?
+unfolding lineFault told
+returns c = rw (c .before .before .enum-told .given .1) (c .machine-fault .ensures)
 
--- src/drafts.rt:117:1
 returns-2 : tie.Need-returns-2
-returns-2 c = ?
+unfolding lineFault told
+returns-2 c = rw (c .before .before .enum-told2 .given .1) (c .cost-fault .ensures)
 
--- src/drafts.rt:117:1
 returns-3 : tie.Need-returns-3
-returns-3 c = ?
+unfolding lineFault told
+returns-3 c = rw (c .before .enum-told3 .given .1) (c .part-fault .ensures)
 
--- src/drafts.rt:117:1
 returns-4 : tie.Need-returns-4
-returns-4 c = ?
+unfolding lineFault told
+returns-4 c = rw (c .before .before .before .enum-told4 .given .1) (c .fit-fault .ensures)
 
--- src/drafts.rt:117:1
 returns-5 : tie.Need-returns-5
-returns-5 c = ?
+unfolding lineFault
+returns-5 c = rw (c .enum-told5 .given .1)
 
 pub line-fault-spec : {M : Type 1} → statement M
 line-fault-spec =

@@ -1,3 +1,8 @@
+-- `drafts::machine_fault` meets its contract: the rules in their order.
+-- Assumes nothing.
+use mathlib.Core.Path.{sym, _∙_}
+use borrow.Author.Tests.{eq-eqb, ne-eqb, not-true, not-false}
+use Rattle.sheet.specs.Sheet.{machineFault}
 use borrow.Author.Needs.{needs}
 use Rattle.sheet.proofs.drafts.machine_fault.Statement.{statement}
 use Rattle.sheet.proofs.drafts.machine_fault.Tie as tie
@@ -5,21 +10,20 @@ use Rattle.sheet.proofs.drafts.machine_fault.Reads as reads
 use Rattle.sheet.proofs.drafts.machine_fault.Lts as lts
 use Rattle.task.proofs.machine_within.Reads as machine-within-reads
 
--- src/drafts.rt:55:9
 returns : tie.Need-returns
-returns c = ?
+unfolding machineFault
+returns c = rw (ne-eqb (c .before .args .stage) 0 (c .if1 .taken))
 
--- src/drafts.rt:57:9
 machine-within-requires : tie.Need-machine-within-requires
 machine-within-requires c κs = search needs
 
--- src/drafts.rt:58:9
 returns-2 : tie.Need-returns-2
-returns-2 c = ?
+unfolding machineFault
+returns-2 c = rw (eq-eqb (c .before .before .before .args .stage) 0 (c .before .before .if1 .left), sym (c .before .machine-within .ensures) ∙ not-true (c .before .machine-within .result) (c .if2 .taken))
 
--- src/drafts.rt:51:1
 returns-3 : tie.Need-returns-3
-returns-3 c = ?
+unfolding machineFault
+returns-3 c = rw (eq-eqb (c .before .before .before .args .stage) 0 (c .before .before .if1 .left), sym (c .before .machine-within .ensures) ∙ not-false (c .before .machine-within .result) (c .if2 .left))
 
 pub machine-fault-spec : {M : Type 1} → statement M
 machine-fault-spec = tie.close (tie.spec returns machine-within-requires returns-2 returns-3)

@@ -1,5 +1,8 @@
 -- `drafts::no_tasks` meets its contract: each place holds the same.
 -- Assumes nothing.
+use mathlib.Core.Path.{ap, _∙_}
+use Rattle.sheet.specs.Forms.{untimed}
+use Rattle.sheet.proofs.DraftLaws.{tasks-none}
 use borrow.Author.Needs.{needs}
 use Rattle.sheet.proofs.drafts.no_tasks.Statement.{statement}
 use Rattle.sheet.proofs.drafts.no_tasks.Tie as tie
@@ -15,7 +18,7 @@ untimed-requires : tie.Need-untimed-requires
 untimed-requires c κs = search needs
 
 returns : tie.Need-returns
-returns c = ?
+returns c = tasks-none (c .untimed .result) (c .untimed .ensures ∙ ap untimed (c .before .no-name .ensures))
 
 pub no-tasks-spec : {M : Type 1} → statement M
 no-tasks-spec = tie.close (tie.spec no-name-requires untimed-requires returns)

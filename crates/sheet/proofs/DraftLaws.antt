@@ -1,0 +1,89 @@
+-- Laws of drafts: how the lists that stand above a line are held.
+-- Assumes nothing.
+--
+--   tasks-none, tasks-put             no task, and one more
+--   told-laid                         what a draft tells is what was laid in it
+--   kept-parts, kept-tasks, -count    the parts and tasks of a draft that has zeros past its counts
+--   after-machine, -cost, -part, -fit, -other
+use mathlib.Core.Path.{_≡_, refl, sym, ap, _∙_}
+use mathlib.Core.List.{List, [], _∷_, _++_}
+use Prim.Native.Nat.{ℕ, _+_, _≤_, _<_}
+use native.Mathlib.Omega.{arith}
+use lib.ListN.{length, take, set, replicate, length-append}
+use Rattle.task.specs.declared.Task.{Task}
+use Rattle.task.specs.declared.Tasks.{Tasks}
+use Rattle.task.specs.declared.Times.{Times}
+use Rattle.task.specs.Tasks.{tasksMost}
+use Rattle.sheet.specs.declared.Word.{Word}
+use Rattle.sheet.specs.declared.Line.{Line}
+use Rattle.sheet.specs.declared.Draft.{Draft}
+use Rattle.sheet.specs.Lines.{padded}
+use Rattle.sheet.specs.Forms.{noTask}
+use Rattle.sheet.specs.Sheet.{Above, belowMachine, amongParts, amongFits, partTimes, after, tasksOf}
+use Rattle.sheet.specs.Held.{listOf, told, laid}
+use Rattle.sheet.proofs.LineLaws.{padded-none, padded-take, padded-put}
+
+-- ---- lists in arrays
+
+pub tasks-none : (t : Task) → t ≡ noTask → record { count = 0; list = replicate tasksMost t } ≡ tasksOf []
+tasks-none t e = rw (e, padded-none noTask tasksMost)
+
+pub tasks-put : (q : Tasks) (t : Task) → q ≡ tasksOf (listOf q) → q .count < tasksMost
+    → record { count = q .count + 1; list = set (q .list) (q .count) t } ≡ tasksOf (listOf q ++ (t ∷ []))
+tasks-put q t kept space =
+    let count : q .count ≡ length (listOf q) = ap (λ (p : Tasks). p .count) kept in
+    let list : q .list ≡ padded tasksMost noTask (listOf q) = ap (λ (p : Tasks). p .list) kept in
+    let long : length (listOf q ++ (t ∷ [])) ≡ q .count + 1 = length-append (listOf q) (t ∷ []) ∙ ap (λ (n : ℕ). n + 1) (sym count) in
+    let put = padded-put noTask tasksMost (listOf q) t (omega arith) in
+    cc (count, list, long, put)
+
+-- ---- drafts
+
+pub told-laid : (a : Above) → length (a .parts) ≤ tasksMost → length (a .tasks) ≤ tasksMost → told (laid a) ≡ a
+unfolding told laid
+told-laid a parts tasks = rw (padded-take noTask tasksMost (a .parts) parts, padded-take noTask tasksMost (a .tasks) tasks)
+
+module _ (d : Draft) (kept : d ≡ laid (told d)) where
+  pub kept-parts : d .parts ≡ tasksOf (listOf (d .parts))
+  unfolding told laid
+  kept-parts = ap (λ (e : Draft). e .parts) kept
+
+  pub kept-tasks : d .tasks ≡ tasksOf (listOf (d .tasks))
+  unfolding told laid
+  kept-tasks = ap (λ (e : Draft). e .tasks) kept
+
+  pub parts-count : d .parts .count ≡ length (told d .parts)
+  unfolding told
+  parts-count = ap (λ (q : Tasks). q .count) kept-parts
+
+  pub tasks-count : d .tasks .count ≡ length (told d .tasks)
+  unfolding told
+  tasks-count = ap (λ (q : Tasks). q .count) kept-tasks
+
+  -- ---- after a line, by its word
+
+  module _ (l : Line) where
+    pub after-machine : l .word ≡ Word.Machine
+        → record { stage = belowMachine; machine = l .machine; costs = d .costs; parts = d .parts; tasks = d .tasks } ≡ laid (after (told d) l)
+    unfolding after told laid
+    after-machine word = rw word (cc (kept-parts, kept-tasks))
+
+    pub after-cost : l .word ≡ Word.Cost
+        → record { stage = amongParts; machine = d .machine; costs = l .costs; parts = d .parts; tasks = d .tasks } ≡ laid (after (told d) l)
+    unfolding after told laid
+    after-cost word = rw word (cc (kept-parts, kept-tasks))
+
+    pub after-part : l .word ≡ Word.Part → (q : Tasks) → q ≡ tasksOf (listOf (d .parts) ++ (l .task ∷ []))
+        → record { stage = amongParts; machine = d .machine; costs = d .costs; parts = q; tasks = d .tasks } ≡ laid (after (told d) l)
+    unfolding after told laid
+    after-part word q put = rw word (cc (put, kept-tasks))
+
+    pub after-fit : l .word ≡ Word.Fit → (ts : Times) → ts ≡ partTimes (l .part) (listOf (d .parts)) → (q : Tasks)
+        → q ≡ tasksOf (listOf (d .tasks) ++ (record { name = l .task .name; times = ts } ∷ []))
+        → record { stage = amongFits; machine = d .machine; costs = d .costs; parts = d .parts; tasks = q } ≡ laid (after (told d) l)
+    unfolding after told laid
+    after-fit word ts times q put = rw word (cc (times, put, kept-parts))
+
+    pub after-other : l .word ≡ Word.Other → d ≡ laid (after (told d) l)
+    unfolding after
+    after-other word = rw word kept
