@@ -2,9 +2,9 @@
 -- Assumes nothing.
 --
 --   rule-kept                               a rule that is not broken
---   machine-kept, cost-kept, part-kept, fit-kept   every rule of a good line holds
+--   line-machine, -cost, -part, -fit        every rule of a good line holds
 --   room-none, room-some                    whether one more has room, by the count
---   times-none, times-some                  the times of the part at a place
+--   times-absent, -inside, -there           the times of the part at a place
 use mathlib.Core.Path.{_≡_, refl, sym, ap, _∙_}
 use mathlib.Core.Bool.{Bool, true, false, cond, not}
 use mathlib.Core.List.{List, [], _∷_}
@@ -13,6 +13,7 @@ use native.Mathlib.Omega.{arith}
 use borrow.Author.Tests.{eqb-true, eqb-false, ltb-true, leb-true, lt-ltb, le-ltb, not-true}
 use lib.Dec.{leb, ltb, eqb}
 use lib.ListN.{length, take, getD, length-take}
+use lib.Seq.{getD-take}
 use Rattle.demand.specs.declared.Costs.{Costs}
 use Rattle.demand.specs.Sizes.{sized, sizedCosts}
 use Rattle.task.specs.declared.Name.{Name}
@@ -20,8 +21,10 @@ use Rattle.task.specs.declared.Task.{Task}
 use Rattle.task.specs.declared.Machine.{Machine}
 use Rattle.task.specs.Names.{sameName}
 use Rattle.task.specs.Tasks.{tasksMost, sizedMachine, wholePiece, placeOf, rule}
+use Rattle.sheet.specs.declared.Word.{Word}
+use Rattle.sheet.specs.declared.Line.{Line}
 use Rattle.sheet.specs.Forms.{noTimes}
-use Rattle.sheet.specs.Sheet.{atTop, belowMachine, amongParts, free, room, machineFault, costFault, partFault, fitFault, partTimes}
+use Rattle.sheet.specs.Sheet.{Above, atTop, belowMachine, amongParts, free, room, machineFault, costFault, partFault, fitFault, wordFault, lineFault, partTimes}
 
 -- ---- good lines
 
@@ -29,13 +32,13 @@ rule-kept : (t : Bool) (n rest : ℕ) → rule t (suc n) rest ≡ 0 → (t ≡ t
 rule-kept true n rest e = (refl, e)
 rule-kept false n rest e = absurd (omega arith)
 
-pub machine-kept : (stage : ℕ) (m : Machine) → machineFault stage m ≡ 0 → sizedMachine m ≡ true
+machine-kept : (stage : ℕ) (m : Machine) → machineFault stage m ≡ 0 → sizedMachine m ≡ true
 unfolding machineFault
 machine-kept stage m none =
     let order = rule-kept (eqb stage atTop) 7 (rule (sizedMachine m) 1 0) none in
     rule-kept (sizedMachine m) 0 0 (order .1) .0
 
-pub cost-kept : (stage : ℕ) (c : Costs) → costFault stage c ≡ 0 → (stage ≡ belowMachine) × (sizedCosts c ≡ true)
+cost-kept : (stage : ℕ) (c : Costs) → costFault stage c ≡ 0 → (stage ≡ belowMachine) × (sizedCosts c ≡ true)
 unfolding costFault
 cost-kept stage c none =
     let order = rule-kept (eqb stage belowMachine) 7 (rule (sizedCosts c) 2 0) none in
@@ -47,7 +50,7 @@ pub record PartKept (stage : ℕ) (t : Task) (parts : List Task) : Type 0 where
   pub new : placeOf 1 (t .name) parts ≡ 0
   pub space : length parts < tasksMost
 
-pub part-kept : (stage : ℕ) (t : Task) (parts : List Task) → partFault stage t parts ≡ 0 → PartKept stage t parts
+part-kept : (stage : ℕ) (t : Task) (parts : List Task) → partFault stage t parts ≡ 0 → PartKept stage t parts
 unfolding partFault
 part-kept stage t parts none =
     let order = rule-kept (eqb stage amongParts) 7 (rule (sized (wholePiece (t .times))) 3 (rule (free (t .name) parts) 4 (rule (room parts) 6 0))) none in
@@ -67,7 +70,7 @@ pub record FitKept (stage : ℕ) (n p : Name) (parts tasks : List Task) : Type 0
   pub known : placeOf 1 p parts ≡ 0 → ⊥
   pub space : length tasks < tasksMost
 
-pub fit-kept : (stage : ℕ) (n p : Name) (parts tasks : List Task) → fitFault stage n p parts tasks ≡ 0 → FitKept stage n p parts tasks
+fit-kept : (stage : ℕ) (n p : Name) (parts tasks : List Task) → fitFault stage n p parts tasks ≡ 0 → FitKept stage n p parts tasks
 unfolding fitFault
 fit-kept stage n p parts tasks none =
     let order = rule-kept (leb amongParts stage) 7 (rule (free n tasks) 4 (rule (not (free p parts)) 5 (rule (room tasks) 6 0))) none in
@@ -81,6 +84,24 @@ fit-kept stage n p parts tasks none =
       space = ltb-true (length tasks) tasksMost (space .0)
     }
 
+-- the same by the word of a line
+module _ (a : Above) (l : Line) (none : lineFault a l ≡ 0) where
+  by-word : (w : Word) → l .word ≡ w → wordFault w a l ≡ 0
+  unfolding lineFault
+  by-word w word = ap (λ (v : Word). wordFault v a l) (sym word) ∙ none
+
+  pub line-machine : l .word ≡ Word.Machine → sizedMachine (l .machine) ≡ true
+  line-machine word = machine-kept (a .stage) (l .machine) (by-word Word.Machine word)
+
+  pub line-cost : l .word ≡ Word.Cost → (a .stage ≡ belowMachine) × (sizedCosts (l .costs) ≡ true)
+  line-cost word = cost-kept (a .stage) (l .costs) (by-word Word.Cost word)
+
+  pub line-part : l .word ≡ Word.Part → PartKept (a .stage) (l .task) (a .parts)
+  line-part word = part-kept (a .stage) (l .task) (a .parts) (by-word Word.Part word)
+
+  pub line-fit : l .word ≡ Word.Fit → FitKept (a .stage) (l .task .name) (l .part) (a .parts) (a .tasks)
+  line-fit word = fit-kept (a .stage) (l .task .name) (l .part) (a .parts) (a .tasks) (by-word Word.Fit word)
+
 -- ---- room, by the count of an array that is full at 64
 
 module _ (count : ℕ) (list : List Task) (long : length list ≡ tasksMost) where
@@ -92,7 +113,7 @@ module _ (count : ℕ) (list : List Task) (long : length list ≡ tasksMost) whe
 
 -- ---- the times of a part
 
-pub times-none : (k : ℕ) (n : Name) (ts : List Task) → 1 ≤ k → placeOf k n ts ≡ 0 → partTimes n ts ≡ noTimes
+times-none : (k : ℕ) (n : Name) (ts : List Task) → 1 ≤ k → placeOf k n ts ≡ 0 → partTimes n ts ≡ noTimes
 times-none k n [] pos none = refl
 times-none k n (t ∷ ts) pos none = by-test (sameName n (t .name)) (λ h. times-none (k + 1) n ts (omega arith) h) none
   where
@@ -101,12 +122,12 @@ times-none k n (t ∷ ts) pos none = by-test (sameName n (t .name)) (λ h. times
     by-test false h e = h e
 
 -- the place of a part, counted from k, and its times
-pub record At (k : ℕ) (n : Name) (ts : List Task) (p : ℕ) : Type 0 where
-  pub low : k ≤ p
-  pub high : p < k + length ts
-  pub times : (d : Task) → partTimes n ts ≡ getD ts (p - k) d .times
+record At (k : ℕ) (n : Name) (ts : List Task) (p : ℕ) : Type 0 where
+  low : k ≤ p
+  high : p < k + length ts
+  times : (d : Task) → partTimes n ts ≡ getD ts (p - k) d .times
 
-pub times-some : (k : ℕ) (n : Name) (ts : List Task) → 1 ≤ k → (placeOf k n ts ≡ 0 → ⊥) → At k n ts (placeOf k n ts)
+times-some : (k : ℕ) (n : Name) (ts : List Task) → 1 ≤ k → (placeOf k n ts ≡ 0 → ⊥) → At k n ts (placeOf k n ts)
 times-some k n [] pos some = absurd (some refl)
 times-some k n (t ∷ ts) pos some = by-test (sameName n (t .name)) refl (λ h. times-some (k + 1) n ts (omega arith) h) some
   where
@@ -121,3 +142,20 @@ times-some k n (t ∷ ts) pos some = by-test (sameName n (t .name)) refl (λ h. 
           high = omega (arith, r .high);
           times = λ d. (let on : placeOf (k + 1) n ts - k ≡ suc (placeOf (k + 1) n ts - (k + 1)) = omega (arith, r .low) in rw (on, e) (r .times d))
         }
+
+-- the same in an array
+module _ (n : Name) (count : ℕ) (list : List Task) (long : length list ≡ tasksMost) (k : ℕ) (place : k ≡ placeOf 1 n (take count list)) where
+  pub times-absent : k ≡ 0 → partTimes n (take count list) ≡ noTimes
+  times-absent none = times-none 1 n (take count list) (omega arith) (sym place ∙ none)
+
+  module _ (some : k ≡ 0 → ⊥) where
+    found : At 1 n (take count list) k
+    found = rw place (times-some 1 n (take count list) (omega arith) (λ none. some (place ∙ none)))
+
+    pub times-inside : k - 1 < tasksMost
+    times-inside = omega (arith, found .low, found .high, length-take count list)
+
+    pub times-there : (d : Task) → partTimes n (take count list) ≡ getD list (k - 1) d .times
+    times-there d =
+        let low : k - 1 < count = omega (arith, found .low, found .high, length-take count list) in
+        found .times d ∙ ap (λ (t : Task). t .times) (getD-take count list (k - 1) d low)

@@ -1,3 +1,7 @@
+-- `refuse` meets its contract: the empty sheet is the blank draft's.
+-- Assumes nothing.
+use mathlib.Core.Path.{ap}
+use Rattle.sheet.specs.Held.{laid}
 use borrow.Author.Needs.{needs}
 use Rattle.sheet.proofs.refuse.Statement.{statement}
 use Rattle.sheet.proofs.refuse.Tie as tie
@@ -5,13 +9,12 @@ use Rattle.sheet.proofs.refuse.Reads as reads
 use Rattle.sheet.proofs.refuse.Lts as lts
 use Rattle.sheet.proofs.drafts.blank.Reads as blank-reads
 
--- src/lib.rt:108:9
 blank-requires : tie.Need-blank-requires
 blank-requires c κs = search needs
 
--- src/lib.rt:105:1
 returns : tie.Need-returns
-returns c = ?
+unfolding laid
+returns c = rw (c .before .before .before .blank .ensures)
 
 pub refuse-spec : {M : Type 1} → statement M
 refuse-spec = tie.close (tie.spec blank-requires returns)

@@ -1,3 +1,11 @@
+-- `drafts::after` meets its contract: each word changes what it says, and the lists stay as they are held. A good line finds room.
+-- Assumes nothing.
+use mathlib.Core.Path.{_≡_, sym, ap, _∙_}
+use native.Mathlib.Omega.{arith}
+use Rattle.sheet.specs.Sheet.{lineFault}
+use Rattle.sheet.specs.Held.{told}
+use Rattle.sheet.proofs.FaultLaws.{line-part, line-fit}
+use Rattle.sheet.proofs.DraftLaws.{kept-parts, kept-tasks, parts-count, tasks-count, after-machine, after-cost, after-part, after-fit, after-other}
 use borrow.Author.Needs.{needs}
 use Rattle.sheet.proofs.drafts.after.Statement.{statement}
 use Rattle.sheet.proofs.drafts.after.Tie as tie
@@ -6,57 +14,50 @@ use Rattle.sheet.proofs.drafts.after.Lts as lts
 use Rattle.sheet.proofs.drafts.part_times.Reads as part-times-reads
 use Rattle.sheet.proofs.drafts.put.Reads as put-reads
 
--- src/drafts.rt:179:17
 enum-told : tie.Need-enum-told
 enum-told c = search needs
 
--- src/drafts.rt:185:17
 enum-told-2 : tie.Need-enum-told-2
 enum-told-2 c = search needs
 
--- src/drafts.rt:191:17
 enum-told-3 : tie.Need-enum-told-3
 enum-told-3 c = search needs
 
--- src/drafts.rt:193:17
 put-requires : tie.Need-put-requires
-put-requires c κs = ?
+put-requires c κs =
+    let d = c .before .before .before .before .args .draft in
+    let good = line-part (told d) (c .before .before .before .before .args .line) (c .before .before .before .before .pre .1) (c .before .before .enum-told3 .given .1) in
+    (kept-parts d (c .before .before .before .before .pre .0), omega (arith, parts-count d (c .before .before .before .before .pre .0), good .space))
 
--- src/drafts.rt:199:17
 enum-told-4 : tie.Need-enum-told-4
 enum-told-4 c = search needs
 
--- src/drafts.rt:204:17
 part-times-requires : tie.Need-part-times-requires
 part-times-requires c κs = search needs
 
--- src/drafts.rt:205:17
 put-requires-2 : tie.Need-put-requires-2
-put-requires-2 c κs = ?
+put-requires-2 c κs =
+    let d = c .before .before .before .before .before .before .before .before .args .draft in
+    let good = line-fit (told d) (c .before .before .before .before .before .before .before .before .args .line) (c .before .before .before .before .before .before .before .before .pre .1) (c .before .before .before .before .before .before .enum-told4 .given .1) in
+    (kept-tasks d (c .before .before .before .before .before .before .before .before .pre .0), omega (arith, tasks-count d (c .before .before .before .before .before .before .before .before .pre .0), good .space))
 
--- src/drafts.rt:210:24
 enum-told-5 : tie.Need-enum-told-5
 enum-told-5 c = search needs
 
--- src/drafts.rt:171:1
 returns : tie.Need-returns
-returns c = ?
+returns c = after-machine (c .before .before .before .args .draft) (c .before .before .before .pre .0) (c .before .before .before .args .line) (c .before .enum-told .given .1)
 
--- src/drafts.rt:171:1
 returns-2 : tie.Need-returns-2
-returns-2 c = ?
+returns-2 c = after-cost (c .before .before .before .args .draft) (c .before .before .before .pre .0) (c .before .before .before .args .line) (c .before .enum-told2 .given .1)
 
--- src/drafts.rt:171:1
 returns-3 : tie.Need-returns-3
-returns-3 c = ?
+returns-3 c = after-part (c .before .before .before .before .before .args .draft) (c .before .before .before .before .before .pre .0) (c .before .before .before .before .before .args .line) (c .before .before .before .enum-told3 .given .1) (c .put .result) (c .put .ensures)
 
--- src/drafts.rt:171:1
 returns-4 : tie.Need-returns-4
-returns-4 c = ?
+returns-4 c = after-fit (c .before .before .before .before .before .before .before .before .before .args .draft) (c .before .before .before .before .before .before .before .before .before .pre .0) (c .before .before .before .before .before .before .before .before .before .args .line) (c .before .before .before .before .before .before .before .enum-told4 .given .1) (c .before .part-times .result) (c .before .part-times .ensures) (c .put2 .result) (c .put2 .ensures)
 
--- src/drafts.rt:171:1
 returns-5 : tie.Need-returns-5
-returns-5 c = ?
+returns-5 c = after-other (c .before .before .args .draft) (c .before .before .pre .0) (c .before .before .args .line) (c .enum-told5 .given .1)
 
 pub after-spec : {M : Type 1} → statement M
 after-spec =
