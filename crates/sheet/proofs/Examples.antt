@@ -32,8 +32,8 @@ rows =
             machine = record { cores = 2; grain = 1 };
             costs = noCosts;
             parts = timed "drv-a" ∷ [];
-            tasks = timed "press" ∷ timed "feed" ∷ timed "weld" ∷ []
-          })
+            tasks = timed "press" ∷ timed "feed" ∷ timed "weld" ∷ [];
+          });
     }
     ∷ record { text = "machine\t2\t1\ncost\t0\t0\t0\t0\t0\t0\t0\t0\t0\npart\tdrv-a\t6\t10\t10\t0\t0\t1\nfit\tpress\tdrv-a2\n"; outcome = refused 5 4 }
     ∷ record { text = ""; outcome = refused 8 1 }

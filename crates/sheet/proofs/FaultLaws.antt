@@ -61,7 +61,7 @@ part-kept stage t parts none =
       order = eqb-true stage amongParts (order .0);
       fits = fits .0;
       new = eqb-true (placeOf 1 (t .name) parts) 0 (new .0);
-      space = ltb-true (length parts) tasksMost (space .0)
+      space = ltb-true (length parts) tasksMost (space .0);
     }
 
 pub record FitKept (stage : ℕ) (n p : Name) (parts tasks : List Task) : Type 0 where
@@ -81,7 +81,7 @@ fit-kept stage n p parts tasks none =
       order = leb-true amongParts stage (order .0);
       new = eqb-true (placeOf 1 n tasks) 0 (new .0);
       known = eqb-false (placeOf 1 p parts) 0 (not-true (free p parts) (known .0));
-      space = ltb-true (length tasks) tasksMost (space .0)
+      space = ltb-true (length tasks) tasksMost (space .0);
     }
 
 -- the same by the word of a line
@@ -140,7 +140,7 @@ times-some k n (t ∷ ts) pos some = by-test (sameName n (t .name)) refl (λ h. 
         record {
           low = omega (arith, r .low);
           high = omega (arith, r .high);
-          times = λ d. (let on : placeOf (k + 1) n ts - k ≡ suc (placeOf (k + 1) n ts - (k + 1)) = omega (arith, r .low) in rw (on, e) (r .times d))
+          times = λ d. (let on : placeOf (k + 1) n ts - k ≡ suc (placeOf (k + 1) n ts - (k + 1)) = omega (arith, r .low) in rw (on, e) (r .times d));
         }
 
 -- the same in an array

@@ -6,3 +6,4 @@ pub mod RunLaws
 pub mod FormLaws
 pub mod FaultLaws
 pub mod DraftLaws
+pub mod ReadLaws

@@ -66,7 +66,7 @@ passed-none s =
       count = refl;
       held = sym (padded-none 0 runMost);
       on = omega arith;
-      so-far = rw rest-drop (with-none (fields s))
+      so-far = rw rest-drop (with-none (fields s));
     }
 
 module _ (s vs : List ℕ) (at i : ℕ) (p : Passed s vs at i) where
@@ -112,5 +112,5 @@ module _ (s vs : List ℕ) (at i : ℕ) (p : Passed s vs at i) where
             so-far =
                 p .so-far
                 ∙ with-more (p .us) (upTo tab (rest s at)) (beyond tab (rest s at)) (good-field true ok)
-                ∙ ap (numbersWith (p .us ++ (valueOf (upTo tab (rest s at)) ∷ []))) (some ∙ rw (rest-rest s at e))
+                ∙ ap (numbersWith (p .us ++ (valueOf (upTo tab (rest s at)) ∷ []))) (some ∙ rw (rest-rest s at e));
           }
