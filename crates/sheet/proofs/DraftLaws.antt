@@ -14,14 +14,14 @@ use Rattle.task.specs.declared.Task.{Task}
 use Rattle.task.specs.declared.Tasks.{Tasks}
 use Rattle.task.specs.declared.Times.{Times}
 use Rattle.task.specs.Tasks.{tasksMost}
-use Rattle.sheet.specs.declared.Word.{Word}
-use Rattle.sheet.specs.declared.Line.{Line}
+use Rattle.lines.specs.declared.Word.{Word}
+use Rattle.lines.specs.declared.Line.{Line}
 use Rattle.sheet.specs.declared.Draft.{Draft}
-use Rattle.sheet.specs.Lines.{padded}
-use Rattle.sheet.specs.Forms.{noTask}
+use Rattle.lines.specs.Lines.{padded}
+use Rattle.lines.specs.Forms.{noTask}
 use Rattle.sheet.specs.Sheet.{Above, belowMachine, amongParts, amongFits, partTimes, after, tasksOf}
 use Rattle.sheet.specs.Held.{listOf, told, laid}
-use Rattle.sheet.proofs.LineLaws.{padded-none, padded-take, padded-put}
+use Rattle.lines.proofs.LineLaws.{padded-none, padded-take, padded-put}
 
 -- ---- lists in arrays
 

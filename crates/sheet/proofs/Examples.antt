@@ -9,8 +9,8 @@ use Rattle.demand.specs.Sizes.{sized, sizedCosts}
 use Rattle.task.specs.declared.Task.{Task}
 use Rattle.task.specs.Names.{nameByte, formed, sameName}
 use Rattle.task.specs.Tasks.{wholePiece, sizedMachine}
-use Rattle.sheet.specs.Lines.{bytesOf, upTo, beyond, isNumber, padded, nameOf, isName}
-use Rattle.sheet.specs.Forms.{noCosts, machineForm, costForm, partForm, fitForm, wordOf, lineOf}
+use Rattle.lines.specs.Lines.{bytesOf, upTo, beyond, isNumber, padded, nameOf, isName}
+use Rattle.lines.specs.Forms.{noCosts, machineForm, costForm, partForm, fitForm, wordOf, lineOf}
 use Rattle.sheet.specs.Sheet.{Outcome, refused, whole, amongFits, machineFault, costFault, partFault, fitFault, lineFault, after, readFrom, outcomeOf}
 
 -- a sheet, and what is to be made of it

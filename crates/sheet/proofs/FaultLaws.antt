@@ -21,9 +21,9 @@ use Rattle.task.specs.declared.Task.{Task}
 use Rattle.task.specs.declared.Machine.{Machine}
 use Rattle.task.specs.Names.{sameName}
 use Rattle.task.specs.Tasks.{tasksMost, sizedMachine, wholePiece, placeOf, rule}
-use Rattle.sheet.specs.declared.Word.{Word}
-use Rattle.sheet.specs.declared.Line.{Line}
-use Rattle.sheet.specs.Forms.{noTimes}
+use Rattle.lines.specs.declared.Word.{Word}
+use Rattle.lines.specs.declared.Line.{Line}
+use Rattle.lines.specs.Forms.{noTimes}
 use Rattle.sheet.specs.Sheet.{Above, atTop, belowMachine, amongParts, free, room, machineFault, costFault, partFault, fitFault, wordFault, lineFault, partTimes}
 
 -- ---- good lines

@@ -13,14 +13,14 @@ use borrow.Author.Tests.{le-leb, lt-leb}
 use lib.ListN.{length, take, drop, length-append, drop-of-length-le}
 use Rattle.task.specs.declared.Task.{Task}
 use Rattle.task.specs.Tasks.{tasksMost}
-use Rattle.sheet.specs.declared.Word.{Word}
-use Rattle.sheet.specs.declared.Line.{Line}
+use Rattle.lines.specs.declared.Word.{Word}
+use Rattle.lines.specs.declared.Line.{Line}
 use Rattle.sheet.specs.declared.Draft.{Draft}
-use Rattle.sheet.specs.Lines.{newline, upTo, beyond}
-use Rattle.sheet.specs.Forms.{lineOf}
+use Rattle.lines.specs.Lines.{newline, upTo, beyond}
+use Rattle.lines.specs.Forms.{lineOf}
 use Rattle.sheet.specs.Sheet.{Above, top, amongParts, lineFault, wordAfter, after, Outcome, refused, whole, ending, next, readFrom, sheetMost, outcomeOf, shown, readOf}
 use Rattle.sheet.specs.Held.{told, laid}
-use Rattle.sheet.proofs.LineLaws.{rest, rest-drop, rest-length, rest-rest, run-le, run-take, run-whole, run-last, run-more}
+use Rattle.lines.proofs.LineLaws.{rest, rest-drop, rest-length, rest-rest, run-le, run-take, run-whole, run-last, run-more}
 use Rattle.sheet.proofs.FaultLaws.{line-part, line-fit}
 use Rattle.sheet.proofs.DraftLaws.{told-laid}
 

@@ -1,5 +1,3 @@
 -- What the contracts of `sheet` cite.
-pub mod Lines
-pub mod Forms
 pub mod Sheet
 pub mod Held

@@ -20,12 +20,12 @@ use Rattle.task.specs.declared.Tasks.{Tasks}
 use Rattle.task.specs.declared.Machine.{Machine}
 use Rattle.task.specs.Names.{sameName}
 use Rattle.task.specs.Tasks.{tasksMost, sizedMachine, wholePiece, placeOf, rule}
-use Rattle.sheet.specs.declared.Word.{Word}
-use Rattle.sheet.specs.declared.Line.{Line}
+use Rattle.lines.specs.declared.Word.{Word}
+use Rattle.lines.specs.declared.Line.{Line}
 use Rattle.sheet.specs.declared.Sheet.{Sheet}
 use Rattle.sheet.specs.declared.Read.{Read}
-use Rattle.sheet.specs.Lines.{newline, upTo, beyond, padded}
-use Rattle.sheet.specs.Forms.{noMachine, noCosts, noTimes, noTask, lineOf}
+use Rattle.lines.specs.Lines.{newline, upTo, beyond, padded}
+use Rattle.lines.specs.Forms.{noMachine, noCosts, noTimes, noTask, lineOf}
 
 pub record Above : Type 0 where
   pub stage : ℕ

@@ -1,12 +1,9 @@
 // What stands above a line, and what the line makes of it.
 use crate::Draft;
-use crate::Line;
-use crate::Word;
-use crate::forms::no_costs;
-use crate::forms::no_machine;
-use crate::forms::no_name;
-use crate::forms::untimed;
 use demand::Costs;
+use lines::Line;
+use lines::Word;
+use lines::no_line;
 use task::Machine;
 use task::Name;
 use task::Task;
@@ -24,7 +21,8 @@ ghost use Rattle.sheet.specs.Held.{listOf, told, laid};
 pub fn no_tasks() -> Tasks
     ensures { λ r. ⌜ r ≡ tasksOf [] ⌝ }
 {
-    let none = untimed(no_name());
+    let line = no_line();
+    let none = line.task;
     Tasks {
         count: 0,
         list: [none; 64],
@@ -35,8 +33,9 @@ pub fn no_tasks() -> Tasks
 pub fn blank() -> Draft
     ensures { λ r. ⌜ r ≡ laid top ⌝ }
 {
-    let machine = no_machine();
-    let costs = no_costs();
+    let line = no_line();
+    let machine = line.machine;
+    let costs = line.costs;
     let none = no_tasks();
     Draft {
         stage: 0,
@@ -159,7 +158,8 @@ pub fn part_times(name: Name, parts: Tasks) -> Times
 {
     let k = place_of(name, parts);
     if k == 0 {
-        let none = untimed(name);
+        let line = no_line();
+        let none = line.task;
         return none.times;
     }
     let i = k - 1;

@@ -1,17 +1,13 @@
 // A timing sheet, read from its bytes: document 01, "Sheet" and "Refusal numbers".
 mod drafts;
-mod fields;
-mod forms;
 
 use demand::Costs;
 use drafts::after;
 use drafts::blank;
 use drafts::line_fault;
-use fields::until;
-use forms::line_of;
+use lines::line_of;
+use lines::until;
 use task::Machine;
-use task::Name;
-use task::Task;
 use task::Tasks;
 ghost use mathlib.Core.Path.{_≡_};
 ghost use Rattle.sheet.specs.Sheet.{top, refused, whole, sheetOf, shown, readOf};
@@ -31,24 +27,6 @@ pub struct Read {
     pub sheet: Sheet,
 }
 
-/// The kind of a line, by its first field.
-pub enum Word {
-    Machine,
-    Cost,
-    Part,
-    Fit,
-    Other,
-}
-
-/// What a line says by its form alone: a machine, costs, a part, or a task's name with its part's. What it does not say is zero.
-pub struct Line {
-    pub word: Word,
-    pub machine: Machine,
-    pub costs: Costs,
-    pub task: Task,
-    pub part: Name,
-}
-
 /// What stands above a line. The stage is 0 at the top, 1 below `machine`, 2 below `cost` and among the parts, 3 among the fits.
 pub struct Draft {
     pub stage: u64,
@@ -56,18 +34,6 @@ pub struct Draft {
     pub costs: Costs,
     pub parts: Tasks,
     pub tasks: Tasks,
-}
-
-/// The answer on a field that is to be a number.
-pub struct Number {
-    pub ok: bool,
-    pub value: u64,
-}
-
-/// The answer on fields that are to be numbers: how many, or 0 where they are not, or are more than nine.
-pub struct Numbers {
-    pub count: usize,
-    pub values: [u64; 9],
 }
 
 /// The sheet in these bytes, or the refusal with its line.

@@ -7,8 +7,8 @@ use Prim.Native.Nat.{_-_, _≤_}
 use native.Mathlib.Omega.{arith}
 use lib.ListN.{length}
 use lib.Seq.{length-take-le}
-use Rattle.sheet.specs.Lines.{newline}
-use Rattle.sheet.proofs.LineLaws.{rest, rest-length, run-le}
+use Rattle.lines.specs.Lines.{newline}
+use Rattle.lines.proofs.LineLaws.{rest, rest-length, run-le}
 use Rattle.sheet.proofs.ReadLaws.{Reached, read-long, reached-top, reached-cut, reached-bad, reached-line, reached-missing, reached-whole}
 use Rattle.sheet.proofs.read_sheet.Statement.{statement}
 use Rattle.sheet.proofs.read_sheet.Tie as tie
@@ -18,8 +18,8 @@ use Rattle.sheet.proofs.accept.Reads as accept-reads
 use Rattle.sheet.proofs.drafts.after.Reads as after-reads
 use Rattle.sheet.proofs.drafts.blank.Reads as blank-reads
 use Rattle.sheet.proofs.drafts.line_fault.Reads as line-fault-reads
-use Rattle.sheet.proofs.fields.until.Reads as until-reads
-use Rattle.sheet.proofs.forms.line_of.Reads as line-of-reads
+use Rattle.lines.proofs.until.Reads as until-reads
+use Rattle.lines.proofs.line_of.Reads as line-of-reads
 use Rattle.sheet.proofs.refuse.Reads as refuse-reads
 
 abbrev Inv-loop : tie.InvT-loop

@@ -1,32 +1,31 @@
 -- `drafts::part_times` meets its contract: the part at its place.
 -- Assumes nothing.
 use mathlib.Core.Path.{_≡_, sym, ap, _∙_}
-use Prim.Native.Nat.{_-_}
 use native.Mathlib.Omega.{arith}
 use lib.ListN.{length}
-use Rattle.task.specs.declared.Task.{Task}
 use Rattle.task.specs.Tasks.{past}
 use Rattle.task.proofs.TaskLaws.{length-mapped}
+use Rattle.lines.specs.declared.Line.{Line}
 use Rattle.sheet.proofs.FaultLaws.{times-absent, times-inside, times-there}
 use borrow.Author.Needs.{needs}
 use Rattle.sheet.proofs.drafts.part_times.Statement.{statement}
 use Rattle.sheet.proofs.drafts.part_times.Tie as tie
 use Rattle.sheet.proofs.drafts.part_times.Reads as reads
 use Rattle.sheet.proofs.drafts.part_times.Lts as lts
-use Rattle.sheet.proofs.forms.untimed.Reads as untimed-reads
+use Rattle.lines.proofs.no_line.Reads as no-line-reads
 use Rattle.task.proofs.place_of.Reads as place-of-reads
 
 place-of-requires : tie.Need-place-of-requires
 place-of-requires c κs = search needs
 
-untimed-requires : tie.Need-untimed-requires
-untimed-requires c κs = search needs
+no-line-requires : tie.Need-no-line-requires
+no-line-requires c κs = search needs
 
 returns : tie.Need-returns
 returns c =
-    let q = c .before .before .before .before .args .t2 in
+    let q = c .before .before .before .before .before .args .t2 in
     let long : length (q .list) ≡ 64 = search (needs, length-mapped) in
-    ap (λ (t : Task). t .times) (c .before .untimed .ensures) ∙ sym (times-absent (c .before .before .before .before .args .name) (q .count) (q .list) long (c .before .before .before .place-of .result) (c .before .before .before .place-of .ensures) (c .before .before .if1 .taken))
+    ap (λ (l : Line). l .task .times) (c .before .before .no-line .ensures) ∙ sym (times-absent (c .before .before .before .before .before .args .name) (q .count) (q .list) long (c .before .before .before .before .place-of .result) (c .before .before .before .before .place-of .ensures) (c .before .before .before .if1 .taken))
 
 sub-i : tie.Need-sub-i
 sub-i c = search needs
@@ -54,7 +53,7 @@ part-times-spec =
     tie.close
     (tie.spec
     place-of-requires
-    untimed-requires
+    no-line-requires
     returns
     sub-i
     mul-part

@@ -1,0 +1,31 @@
+-- `no_line` meets its contract: each field is what its function gives.
+-- Assumes nothing.
+use borrow.Author.Needs.{needs}
+use Rattle.lines.proofs.no_line.Statement.{statement}
+use Rattle.lines.proofs.no_line.Tie as tie
+use Rattle.lines.proofs.no_line.Reads as reads
+use Rattle.lines.proofs.no_line.Lts as lts
+use Rattle.lines.proofs.forms.no_costs.Reads as no-costs-reads
+use Rattle.lines.proofs.forms.no_machine.Reads as no-machine-reads
+use Rattle.lines.proofs.forms.no_name.Reads as no-name-reads
+use Rattle.lines.proofs.forms.untimed.Reads as untimed-reads
+
+no-machine-requires : tie.Need-no-machine-requires
+no-machine-requires c κs = search needs
+
+no-costs-requires : tie.Need-no-costs-requires
+no-costs-requires c κs = search needs
+
+no-name-requires : tie.Need-no-name-requires
+no-name-requires c κs = search needs
+
+untimed-requires : tie.Need-untimed-requires
+untimed-requires c κs = search needs
+
+returns : tie.Need-returns
+returns c = cc
+
+pub no-line-spec : {M : Type 1} → statement M
+no-line-spec =
+    tie.close
+    (tie.spec no-machine-requires no-costs-requires no-name-requires untimed-requires returns)
