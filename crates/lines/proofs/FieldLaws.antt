@@ -7,7 +7,6 @@
 --   number-short, -long, -led, -other, -yes     what the answer on a number is
 --   number-ok, number-value                     what the answer says
 --   name-more, name-cut, name-all               a name's bytes, one on
---   name-exact                                  two fields that are one name are equal in length and in all bytes
 use mathlib.Core.Path.{_≡_, refl, sym, ap, _∙_}
 use mathlib.Core.Bool.{Bool, true, false, cond, not, _&&_, and-false}
 use mathlib.Core.List.{List, [], _∷_, _++_}

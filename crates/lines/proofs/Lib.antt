@@ -3,3 +3,4 @@ pub mod LineLaws
 pub mod FieldLaws
 pub mod RunLaws
 pub mod FormLaws
+pub mod SaysLaws
