@@ -2,4 +2,6 @@
 pub mod FaultLaws
 pub mod DraftLaws
 pub mod ReadLaws
+pub mod WholeLaws
+pub mod ArrowLaws
 pub mod Examples
