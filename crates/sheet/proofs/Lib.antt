@@ -4,4 +4,5 @@ pub mod DraftLaws
 pub mod ReadLaws
 pub mod WholeLaws
 pub mod ArrowLaws
+pub mod RuleLaws
 pub mod Examples

@@ -4,6 +4,7 @@
 --   read-keeps    what each good line keeps holds of the whole sheet
 --   read-whole    number 0 is no refusal: the sheet is whole
 --   read-fits     what stands at the end has room in its arrays
+--   read-shown    what is given back is what stands at the end
 --   read-tasks    the tasks given back are those that stand at the end
 --   Found, found  the part that a name finds among parts, with what is known of each
 use mathlib.Core.Path.{_≡_, refl, sym, ap, _∙_}
@@ -113,9 +114,12 @@ read-fits bytes b e =
     read-keeps (λ (ls : List (List ℕ)) (a : Above). Fits a) (record { parts-fit = omega arith; tasks-fit = omega arith })
     (λ ls a l fits none. after-fits a (lineOf l) none fits) bytes b e .0
 
-pub read-tasks : (bytes : List ℕ) (b : Above) → outcomeOf bytes ≡ whole b → listOf (readOf bytes .sheet .tasks) ≡ b .tasks
+pub read-shown : (bytes : List ℕ) (b : Above) → outcomeOf bytes ≡ whole b → readOf bytes ≡ shown (whole b)
 unfolding readOf
-read-tasks bytes b e = rw e (padded-take noTask tasksMost (b .tasks) (read-fits bytes b e .tasks-fit))
+read-shown bytes b e = ap shown e
+
+pub read-tasks : (bytes : List ℕ) (b : Above) → outcomeOf bytes ≡ whole b → listOf (readOf bytes .sheet .tasks) ≡ b .tasks
+read-tasks bytes b e = rw (read-shown bytes b e) (padded-take noTask tasksMost (b .tasks) (read-fits bytes b e .tasks-fit))
 
 -- ---- a part that is known by its name
 
