@@ -7,23 +7,21 @@
 --   number-short, -long, -led, -other, -yes     what the answer on a number is
 --   number-ok, number-value                     what the answer says
 --   name-more, name-cut, name-all               a name's bytes, one on
-use mathlib.Core.Path.{_≡_, refl, sym, ap, _∙_}
+use mathlib.Core.Path.{_≡_, refl, _∙_}
 use mathlib.Core.Bool.{Bool, true, false, cond, not, _&&_, and-false}
-use mathlib.Core.List.{List, [], _∷_, _++_}
-use Prim.Native.Nat.{ℕ, zero, suc, _+_, _-_, _*_, _^_, _≤_, _<_}
+use mathlib.Core.List.{List, [], _∷_}
+use Prim.Native.Nat.{ℕ, suc, _+_, _-_, _*_, _^_, _≤_, _<_}
 use native.Mathlib.Nat.{pow-suc, pow-le-pow-right, le-of-lt}
 use native.Mathlib.Numerals.{add-one}
 use native.Mathlib.Omega.{arith}
-use borrow.Author.Tests.{le-leb, lt-leb, leb-true, eq-eqb, ne-eqb}
+use borrow.Author.Tests.{le-leb, lt-leb, leb-true}
 use lib.Dec.{leb, eqb, lit<}
 use lib.ListN.{length, take, drop, getD, set, drop-of-length-le}
 use lib.Seq.{drop-cons, take-suc, take-all, length-take-le}
-use Rattle.task.specs.declared.Name.{Name}
-use Rattle.task.specs.Names.{formed}
 use Rattle.lines.specs.declared.Number.{Number}
-use Rattle.lines.specs.Lines.{isDigit, every, unled, isNumber, valueFrom, valueOf, padded, nameMost, nameOf, isName}
+use Rattle.lines.specs.Lines.{isDigit, every, unled, isNumber, valueFrom, valueOf, padded, nameMost, nameOf}
 use Rattle.lines.specs.Answers.{noNumber, numberOf}
-use Rattle.lines.proofs.LineLaws.{padded-put, padded-cut, padded-take}
+use Rattle.lines.proofs.LineLaws.{padded-put, padded-cut}
 
 pub both-left : (a b : Bool) → (a && b) ≡ true → a ≡ true
 both-left true b e = refl

@@ -16,7 +16,6 @@ use lib.ListN.{length, take, getD}
 use Rattle.task.specs.declared.Name.{Name}
 use Rattle.task.specs.Names.{formed}
 use Rattle.lines.specs.declared.Word.{Word}
-use Rattle.lines.specs.declared.Line.{Line}
 use Rattle.lines.specs.declared.Numbers.{Numbers}
 use Rattle.lines.specs.Lines.{tab, upTo, beyond, fields, every, isNumber, padded, nameOf, isName}
 use Rattle.lines.specs.Forms.{noLine, machineLine, costLine, partLine, fitLine, machineOf, costsOf, timesOf, numbered, values, machineForm, costForm, partForm, fitForm, wordOf, formOf, lineOf}

@@ -7,11 +7,11 @@
 use mathlib.Core.Path.{_≡_, refl, sym, ap, _∙_}
 use mathlib.Core.Bool.{Bool, true, false, cond, _&&_}
 use mathlib.Core.List.{List, [], _∷_}
-use Prim.Native.Nat.{ℕ, suc, _+_, _≤_, _<_}
+use Prim.Native.Nat.{ℕ, _≤_}
 use native.Mathlib.Decide.{decLe}
 use native.Mathlib.Omega.{arith}
 use lib.Dec.{leb}
-use lib.ListN.{length, take}
+use lib.ListN.{length}
 use Rattle.task.specs.declared.Name.{Name}
 use Rattle.task.specs.Names.{sameBytes, spelt, formed}
 use Rattle.task.proofs.NameLaws.{bytes-exact, spelt-long}
@@ -82,7 +82,7 @@ says-part l word = by-word (wordOf (upTo tab l)) refl (beyond tab l) refl word
           numbers = fs;
           reads = cc (part-word (upTo tab l) w, more);
           named = both-left (isName f) (numbered 6 fs) good;
-          line = rw (w, more, good)
+          line = rw (w, more, good);
         }
     by-word Word.Fit w [] more e = absurd (some (sym e))
     by-word Word.Fit w (f ∷ []) more e = absurd (some (sym e))
@@ -124,7 +124,7 @@ says-fit l word = by-word (wordOf (upTo tab l)) refl (beyond tab l) refl word
           reads = cc (fit-word (upTo tab l) w, more);
           called = both-left (isName f) (isName g) good;
           named = both-right (isName f) (isName g) good;
-          line = rw (w, more, good)
+          line = rw (w, more, good);
         }
     by-word Word.Fit w (f ∷ g ∷ h ∷ fs) more e = absurd (some (sym e))
     by-word Word.Other w fs more e = absurd (some (sym e))

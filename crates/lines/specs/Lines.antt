@@ -8,7 +8,7 @@
 --   nameOf f                the name with the bytes f: their number, the bytes, and zeros to 24
 --   isName f                the rule of names, crate `task`'s `formed`, holds of it
 --   padded n z xs           xs in n places, with z in those that are left
-use mathlib.Core.Bool.{Bool, true, false, cond, not, _&&_}
+use mathlib.Core.Bool.{Bool, true, cond, not, _&&_}
 use mathlib.Core.List.{List, [], _∷_}
 use Prim.Native.Nat.{ℕ, zero, suc, _+_, _-_, _*_}
 use Prim.Native.Char.{code}

@@ -15,8 +15,8 @@ use Rattle.lines.specs.declared.Word.{Word}
 use Rattle.lines.specs.declared.Line.{Line}
 use Rattle.lines.specs.Lines.{bytesOf, fields, nameOf, isName}
 use Rattle.lines.specs.Forms.{timesOf, values, lineOf}
-use Rattle.lines.proofs.SaysLaws.{SaysPart, says-part, SaysFit, says-fit, name-exact}
-use Rattle.sheet.specs.Sheet.{Above, top, lineFault, partTimes, wordAfter, after, whole, outcomeOf, readOf}
+use Rattle.lines.proofs.SaysLaws.{says-part, says-fit, name-exact}
+use Rattle.sheet.specs.Sheet.{Above, lineFault, partTimes, wordAfter, after, whole, outcomeOf, readOf}
 use Rattle.sheet.specs.Held.{listOf}
 use Rattle.sheet.specs.Fitted.{linesOf, Fitted}
 use Rattle.sheet.proofs.FaultLaws.{line-fit}
@@ -49,7 +49,7 @@ module _ (ls : List (List ℕ)) (l : List ℕ) where
         reads = s .reads;
         good = s .good;
         named = s .named;
-        timed = s .timed
+        timed = s .timed;
       }
 
   fitted-on : (t : Task) → Fitted ls t → Fitted (ls ++ (l ∷ [])) t
@@ -71,7 +71,7 @@ module _ (ls : List (List ℕ)) (l : List ℕ) where
         part-reads = f .part-reads;
         fit-reads = f .fit-reads;
         named = f .named;
-        timed = f .timed
+        timed = f .timed;
       }
 
 each-on : {A : Type 0} (P Q : A → Type 0) → ((x : A) → P x → Q x) → (xs : List A) → Each P xs → Each Q xs
@@ -97,7 +97,7 @@ part-stands ls l word =
       reads = s .reads;
       good = s .named;
       named = ap (λ (k : Line). k .task .name) (s .line);
-      timed = ap (λ (k : Line). k .task .times) (s .line)
+      timed = ap (λ (k : Line). k .task .times) (s .line);
     }
 
 -- the part that a fit line names has its very bytes
@@ -121,7 +121,7 @@ task-fitted ls l parts word f =
       part-reads = p .reads;
       fit-reads = s .reads ∙ rw bytes;
       named = ap (λ (k : Line). k .task .name) (s .line);
-      timed = f .times ∙ p .timed
+      timed = f .times ∙ p .timed;
     }
 
 arrows-step : (ls : List (List ℕ)) (a : Above) (l : List ℕ) → Arrows ls a → lineFault a (lineOf l) ≡ 0 → Arrows (ls ++ (l ∷ [])) (after a (lineOf l))

@@ -5,11 +5,11 @@
 --   told-laid                         what a draft tells is what was laid in it
 --   kept-parts, kept-tasks, -count    the parts and tasks of a draft that has zeros past its counts
 --   after-machine, -cost, -part, -fit, -other
-use mathlib.Core.Path.{_≡_, refl, sym, ap, _∙_}
-use mathlib.Core.List.{List, [], _∷_, _++_}
+use mathlib.Core.Path.{_≡_, sym, ap, _∙_}
+use mathlib.Core.List.{[], _∷_, _++_}
 use Prim.Native.Nat.{ℕ, _+_, _≤_, _<_}
 use native.Mathlib.Omega.{arith}
-use lib.ListN.{length, take, set, replicate, length-append}
+use lib.ListN.{length, set, replicate, length-append}
 use Rattle.task.specs.declared.Task.{Task}
 use Rattle.task.specs.declared.Tasks.{Tasks}
 use Rattle.task.specs.declared.Times.{Times}

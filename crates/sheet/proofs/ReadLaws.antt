@@ -6,12 +6,11 @@
 --   read-long                over 16,384 bytes
 --   reached-top, -cut, -bad, -line, -missing, -whole
 use mathlib.Core.Path.{_≡_, refl, sym, ap, _∙_}
-use mathlib.Core.List.{List, [], _∷_, _++_}
-use Prim.Native.Nat.{ℕ, zero, suc, _+_, _-_, _≤_, _<_}
+use mathlib.Core.List.{List, [], _∷_}
+use Prim.Native.Nat.{ℕ, zero, suc, _+_, _≤_, _<_}
 use native.Mathlib.Omega.{arith}
 use borrow.Author.Tests.{le-leb, lt-leb}
-use lib.ListN.{length, take, drop, length-append, drop-of-length-le}
-use Rattle.task.specs.declared.Task.{Task}
+use lib.ListN.{length, take, length-append, drop-of-length-le}
 use Rattle.task.specs.Tasks.{tasksMost}
 use Rattle.lines.specs.declared.Word.{Word}
 use Rattle.lines.specs.declared.Line.{Line}

@@ -4,7 +4,7 @@
 --   first-snoc        one more good task below good tasks
 --   Sound a           what stands above breaks no rule
 --   breaks-no-rule    so does a sheet that is read
-use mathlib.Core.Path.{_≡_, refl, sym, ap, _∙_}
+use mathlib.Core.Path.{_≡_, refl, ap, _∙_}
 use mathlib.Core.Bool.{true}
 use mathlib.Core.List.{List, [], _∷_, _++_, append-assoc, append-nil}
 use Prim.Native.Nat.{ℕ, zero, suc, _≤_}
@@ -19,7 +19,7 @@ use Rattle.task.specs.Tasks.{tasksMost, sizedMachine, wholePiece, orElse, fault
 use Rattle.task.proofs.TaskLaws.{fault-free}
 use Rattle.lines.specs.declared.Word.{Word}
 use Rattle.lines.specs.declared.Line.{Line}
-use Rattle.lines.specs.Lines.{nameOf, isName}
+use Rattle.lines.specs.Lines.{isName}
 use Rattle.lines.specs.Forms.{noTask, lineOf}
 use Rattle.lines.proofs.LineLaws.{padded-take}
 use Rattle.lines.proofs.SaysLaws.{says-fit}
@@ -75,7 +75,7 @@ module _ (a : Above) (l : List ℕ) (so-far : Sound a) (none : lineFault a (line
             machine-sized = λ s. line-machine a (lineOf l) none word;
             costs-sized = λ s. absurd (omega arith);
             parts-sized = so-far .parts-sized;
-            tasks-good = so-far .tasks-good
+            tasks-good = so-far .tasks-good;
           }
       by-word Word.Cost word =
           let kept = line-cost a (lineOf l) none word in
@@ -83,7 +83,7 @@ module _ (a : Above) (l : List ℕ) (so-far : Sound a) (none : lineFault a (line
             machine-sized = λ s. so-far .machine-sized (omega (arith, kept .0));
             costs-sized = λ s. kept .1;
             parts-sized = so-far .parts-sized;
-            tasks-good = so-far .tasks-good
+            tasks-good = so-far .tasks-good;
           }
       by-word Word.Part word =
           let kept = line-part a (lineOf l) none word in
@@ -91,7 +91,7 @@ module _ (a : Above) (l : List ℕ) (so-far : Sound a) (none : lineFault a (line
             machine-sized = λ s. so-far .machine-sized (omega (arith, kept .order));
             costs-sized = λ s. so-far .costs-sized (omega (arith, kept .order));
             parts-sized = each-snoc SizedPart (a .parts) (lineOf l .task) (so-far .parts-sized) (kept .fits);
-            tasks-good = so-far .tasks-good
+            tasks-good = so-far .tasks-good;
           }
       by-word Word.Fit word =
           let kept = line-fit a (lineOf l) none word in
@@ -99,7 +99,7 @@ module _ (a : Above) (l : List ℕ) (so-far : Sound a) (none : lineFault a (line
             machine-sized = λ s. so-far .machine-sized (omega (arith, kept .order));
             costs-sized = λ s. so-far .costs-sized (omega (arith, kept .order));
             parts-sized = so-far .parts-sized;
-            tasks-good = task-good word
+            tasks-good = task-good word;
           }
       by-word Word.Other word = so-far
 
@@ -125,6 +125,6 @@ breaks-no-rule bytes none =
       sound .0 .machine-sized (omega (arith, sound .1)),
       sound .0 .costs-sized (sound .1),
       le-leb (length (w .0 .tasks)) tasksMost short,
-      padded-take noTask tasksMost (w .0 .tasks) short
+      padded-take noTask tasksMost (w .0 .tasks) short,
     )
     (sound .0 .tasks-good)

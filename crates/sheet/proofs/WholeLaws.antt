@@ -7,7 +7,7 @@
 --   read-shown    what is given back is what stands at the end
 --   read-tasks    the tasks given back are those that stand at the end
 --   Found, found  the part that a name finds among parts, with what is known of each
-use mathlib.Core.Path.{_≡_, refl, sym, ap, _∙_}
+use mathlib.Core.Path.{_≡_, refl, ap}
 use mathlib.Core.Bool.{Bool, true, false, cond}
 use mathlib.Core.List.{List, [], _∷_, _++_, append-assoc, append-nil}
 use Prim.Native.Nat.{ℕ, zero, suc, _+_, _≤_}
@@ -44,8 +44,8 @@ ending-good a n [] b e = by-test (leb amongParts (a .stage)) refl e
 ending-good a n (x ∷ l) b e = absurd (let z : _≡_ {A = ℕ} 0 1 = cc in omega arith)
 
 module _ (P : List (List ℕ) → Above → Type 0)
-  (start : P [] top)
-  (step : (ls : List (List ℕ)) (a : Above) (l : List ℕ) → P ls a → lineFault a (lineOf l) ≡ 0 → P (ls ++ (l ∷ [])) (after a (lineOf l))) where
+    (start : P [] top)
+    (step : (ls : List (List ℕ)) (a : Above) (l : List ℕ) → P ls a → lineFault a (lineOf l) ≡ 0 → P (ls ++ (l ∷ [])) (after a (lineOf l))) where
   keeps-from : (ms : List (List ℕ)) (ls : List (List ℕ)) (a : Above) (n : ℕ) (l : List ℕ) (b : Above) → P ls a → readFrom a n l ms ≡ whole b
       → P (ls ++ ended l ms) b × (amongParts ≤ b .stage)
   unfolding readFrom

@@ -3,7 +3,6 @@
 --   listOf q           the list that q holds
 --   told d, laid a     what a draft tells, and the draft that holds it
 use mathlib.Core.List.{List}
-use Prim.Native.Nat.{ℕ}
 use lib.ListN.{take}
 use Rattle.task.specs.declared.Task.{Task}
 use Rattle.task.specs.declared.Tasks.{Tasks}

@@ -6,7 +6,7 @@
 --   readFrom a n l ls   the lines from line n on: the first bad one's refusal, or all that stands at the end
 --   outcomeOf bytes     the whole sheet; 9 first
 --   readOf bytes        the same as the struct that is given back
-use mathlib.Core.Bool.{Bool, true, false, cond, not}
+use mathlib.Core.Bool.{Bool, cond, not}
 use mathlib.Core.List.{List, [], _∷_, _++_}
 use Prim.Native.Nat.{ℕ, zero, suc, _+_}
 use lib.Dec.{leb, ltb, eqb}

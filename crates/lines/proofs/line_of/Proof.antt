@@ -1,6 +1,6 @@
 -- `line_of` meets its contract: the word, and then its form of what stands beyond it.
 -- Assumes nothing.
-use mathlib.Core.Path.{_≡_, sym, _∙_}
+use mathlib.Core.Path.{sym, _∙_}
 use Prim.Native.Nat.{_<_}
 use native.Mathlib.Omega.{arith}
 use lib.ListN.{length}
@@ -12,15 +12,6 @@ use Rattle.lines.proofs.FormLaws.{line-short, line-some}
 use borrow.Author.Needs.{needs}
 use Rattle.lines.proofs.line_of.Statement.{statement}
 use Rattle.lines.proofs.line_of.Tie as tie
-use Rattle.lines.proofs.line_of.Reads as reads
-use Rattle.lines.proofs.line_of.Lts as lts
-use Rattle.lines.proofs.until.Reads as until-reads
-use Rattle.lines.proofs.forms.cost_form.Reads as cost-form-reads
-use Rattle.lines.proofs.forms.fit_form.Reads as fit-form-reads
-use Rattle.lines.proofs.forms.machine_form.Reads as machine-form-reads
-use Rattle.lines.proofs.no_line.Reads as no-line-reads
-use Rattle.lines.proofs.forms.part_form.Reads as part-form-reads
-use Rattle.lines.proofs.forms.word_of.Reads as word-of-reads
 
 until-requires : tie.Need-until-requires
 until-requires c κs = search needs

@@ -1,7 +1,7 @@
 -- `until` meets its contract: what is passed and the run that is left make up the run. The measure is what is left of the slice.
 -- Assumes nothing.
 use borrow.Author.Needs.{needs}
-use mathlib.Core.Path.{_≡_, sym, _∙_}
+use mathlib.Core.Path.{_≡_}
 use Prim.Native.Nat.{_+_, _-_, _≤_}
 use native.Mathlib.Omega.{arith}
 use lib.ListN.{length, drop}
@@ -9,8 +9,6 @@ use Rattle.lines.specs.Lines.{upTo}
 use Rattle.lines.proofs.LineLaws.{run-other, run-here, run-end}
 use Rattle.lines.proofs.until.Statement.{statement}
 use Rattle.lines.proofs.until.Tie as tie
-use Rattle.lines.proofs.until.Reads as reads
-use Rattle.lines.proofs.until.Lts as lts
 
 abbrev Inv-loop : tie.InvT-loop
 Inv-loop s b i₀ i = (i ≤ length s) × (length (upTo b s) ≡ i + length (upTo b (drop i s)))

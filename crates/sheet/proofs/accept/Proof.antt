@@ -4,8 +4,6 @@ use Rattle.sheet.specs.Held.{told}
 use Rattle.sheet.proofs.DraftLaws.{kept-tasks}
 use Rattle.sheet.proofs.accept.Statement.{statement}
 use Rattle.sheet.proofs.accept.Tie as tie
-use Rattle.sheet.proofs.accept.Reads as reads
-use Rattle.sheet.proofs.accept.Lts as lts
 
 returns : tie.Need-returns
 unfolding told

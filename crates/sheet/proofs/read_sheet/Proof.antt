@@ -2,7 +2,7 @@
 -- measure is what is left of the bytes.
 -- Assumes nothing.
 use borrow.Author.Needs.{needs}
-use mathlib.Core.Path.{_≡_, sym, _∙_}
+use mathlib.Core.Path.{sym, _∙_}
 use Prim.Native.Nat.{_-_, _≤_}
 use native.Mathlib.Omega.{arith}
 use lib.ListN.{length}
@@ -12,15 +12,6 @@ use Rattle.lines.proofs.LineLaws.{rest, rest-length, run-le}
 use Rattle.sheet.proofs.ReadLaws.{Reached, read-long, reached-top, reached-cut, reached-bad, reached-line, reached-missing, reached-whole}
 use Rattle.sheet.proofs.read_sheet.Statement.{statement}
 use Rattle.sheet.proofs.read_sheet.Tie as tie
-use Rattle.sheet.proofs.read_sheet.Reads as reads
-use Rattle.sheet.proofs.read_sheet.Lts as lts
-use Rattle.sheet.proofs.accept.Reads as accept-reads
-use Rattle.sheet.proofs.drafts.after.Reads as after-reads
-use Rattle.sheet.proofs.drafts.blank.Reads as blank-reads
-use Rattle.sheet.proofs.drafts.line_fault.Reads as line-fault-reads
-use Rattle.lines.proofs.until.Reads as until-reads
-use Rattle.lines.proofs.line_of.Reads as line-of-reads
-use Rattle.sheet.proofs.refuse.Reads as refuse-reads
 
 abbrev Inv-loop : tie.InvT-loop
 Inv-loop bytes draft₀ at₀ number₀ draft at number = (length bytes ≤ 16384) × Reached bytes draft at number

@@ -1,13 +1,9 @@
 -- `refuse` meets its contract: the empty sheet is the blank draft's.
 -- Assumes nothing.
-use mathlib.Core.Path.{ap}
 use Rattle.sheet.specs.Held.{laid}
 use borrow.Author.Needs.{needs}
 use Rattle.sheet.proofs.refuse.Statement.{statement}
 use Rattle.sheet.proofs.refuse.Tie as tie
-use Rattle.sheet.proofs.refuse.Reads as reads
-use Rattle.sheet.proofs.refuse.Lts as lts
-use Rattle.sheet.proofs.drafts.blank.Reads as blank-reads
 
 blank-requires : tie.Need-blank-requires
 blank-requires c κs = search needs

@@ -3,8 +3,6 @@
 use borrow.Author.Tests.{le-leb, lt-leb}
 use Rattle.lines.proofs.fields.is_digit.Statement.{statement}
 use Rattle.lines.proofs.fields.is_digit.Tie as tie
-use Rattle.lines.proofs.fields.is_digit.Reads as reads
-use Rattle.lines.proofs.fields.is_digit.Lts as lts
 
 returns : tie.Need-returns
 returns c = simp (lt-leb 48 (c .before .args .b) (c .if1 .taken))

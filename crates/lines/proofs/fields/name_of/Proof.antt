@@ -4,14 +4,11 @@ use borrow.Author.Needs.{needs}
 use mathlib.Core.Path.{_≡_}
 use Prim.Native.Nat.{_-_, _≤_}
 use native.Mathlib.Omega.{arith}
-use lib.ListN.{length, take}
+use lib.ListN.{take}
 use Rattle.lines.specs.Lines.{padded, nameMost}
-use Rattle.lines.proofs.LineLaws.{padded-none, padded-length}
 use Rattle.lines.proofs.FieldLaws.{name-more, name-all, name-cut}
 use Rattle.lines.proofs.fields.name_of.Statement.{statement}
 use Rattle.lines.proofs.fields.name_of.Tie as tie
-use Rattle.lines.proofs.fields.name_of.Reads as reads
-use Rattle.lines.proofs.fields.name_of.Lts as lts
 
 abbrev Inv-loop : tie.InvT-loop
 Inv-loop f bytes₀ len i₀ bytes i = (i ≤ len) × (i ≤ nameMost) × (bytes ≡ padded nameMost 0 (take i f))

@@ -12,12 +12,6 @@ use Rattle.lines.specs.Lines.{isDigit, every, valueFrom, valueOf}
 use Rattle.lines.proofs.FieldLaws.{every-at, every-end, value-at, value-end, digit-low, digit-high, digits-small, digits-more, number-short, number-long, number-led, number-other, number-yes}
 use Rattle.lines.proofs.fields.number_of.Statement.{statement}
 use Rattle.lines.proofs.fields.number_of.Tie as tie
-use Rattle.lines.proofs.fields.number_of.Reads as reads
-use Rattle.lines.proofs.fields.number_of.Lts as lts
-use Rattle.lines.proofs.fields.is_digit.Reads as is-digit-reads
-use Rattle.lines.proofs.fields.no_number.Reads as no-number-reads
-use Rattle.lines.proofs.fields.unled.Reads as unled-reads
-use Rattle.lines.proofs.fields.wide.Reads as wide-reads
 
 abbrev Inv-loop : tie.InvT-loop
 Inv-loop f n value₀ i₀ value i = (i ≤ n) × (value < 10 ^ i) × (every isDigit f ≡ every isDigit (drop i f)) × (valueOf f ≡ valueFrom value (drop i f))

@@ -2,7 +2,7 @@
 -- decide the answer as all of them do.
 -- Assumes nothing.
 use borrow.Author.Needs.{needs}
-use mathlib.Core.Path.{_≡_, sym, ap, _∙_}
+use mathlib.Core.Path.{sym, _∙_}
 use Prim.Native.Nat.{_-_}
 use native.Mathlib.Omega.{arith}
 use borrow.Author.Tests.{not-true, not-false}
@@ -12,11 +12,6 @@ use Rattle.lines.proofs.LineLaws.{rest, rest-length, run-le}
 use Rattle.lines.proofs.RunLaws.{Passed, passed-none, passed-many, passed-bad, passed-last, passed-more}
 use Rattle.lines.proofs.fields.numbers_of.Statement.{statement}
 use Rattle.lines.proofs.fields.numbers_of.Tie as tie
-use Rattle.lines.proofs.fields.numbers_of.Reads as reads
-use Rattle.lines.proofs.fields.numbers_of.Lts as lts
-use Rattle.lines.proofs.fields.no_numbers.Reads as no-numbers-reads
-use Rattle.lines.proofs.fields.number_of.Reads as number-of-reads
-use Rattle.lines.proofs.until.Reads as until-reads
 
 abbrev Inv-loop : tie.InvT-loop
 Inv-loop s values₀ at₀ i₀ values at i = Passed s values at i

@@ -10,8 +10,6 @@ use Rattle.task.proofs.NameLaws.{same-step, same-differ, same-end}
 use Rattle.lines.proofs.LineLaws.{same-lengths}
 use Rattle.lines.proofs.fields.same_run.Statement.{statement}
 use Rattle.lines.proofs.fields.same_run.Tie as tie
-use Rattle.lines.proofs.fields.same_run.Reads as reads
-use Rattle.lines.proofs.fields.same_run.Lts as lts
 
 abbrev Inv-loop : tie.InvT-loop
 Inv-loop a b i₀ i = (i ≤ length a) × (sameBytes a b ≡ sameBytes (drop i a) (drop i b))

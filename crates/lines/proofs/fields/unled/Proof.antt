@@ -5,8 +5,6 @@ use Rattle.lines.proofs.FieldLaws.{unled-short, unled-long}
 use borrow.Author.Needs.{needs}
 use Rattle.lines.proofs.fields.unled.Statement.{statement}
 use Rattle.lines.proofs.fields.unled.Tie as tie
-use Rattle.lines.proofs.fields.unled.Reads as reads
-use Rattle.lines.proofs.fields.unled.Lts as lts
 
 returns : tie.Need-returns
 returns c = sym (unled-short (c .before .args .f .now) (c .if1 .taken))

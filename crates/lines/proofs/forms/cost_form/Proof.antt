@@ -6,11 +6,6 @@ use Rattle.lines.proofs.FormLaws.{cost-none, cost-some}
 use borrow.Author.Needs.{needs}
 use Rattle.lines.proofs.forms.cost_form.Statement.{statement}
 use Rattle.lines.proofs.forms.cost_form.Tie as tie
-use Rattle.lines.proofs.forms.cost_form.Reads as reads
-use Rattle.lines.proofs.forms.cost_form.Lts as lts
-use Rattle.lines.proofs.fields.numbers_of.Reads as numbers-of-reads
-use Rattle.lines.proofs.forms.cost_line.Reads as cost-line-reads
-use Rattle.lines.proofs.no_line.Reads as no-line-reads
 
 numbers-of-requires : tie.Need-numbers-of-requires
 numbers-of-requires c κs = search needs

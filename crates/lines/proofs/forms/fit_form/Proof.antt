@@ -1,6 +1,6 @@
 -- `forms::fit_form` meets its contract: two names, or no line.
 -- Assumes nothing.
-use mathlib.Core.Path.{_≡_, sym, _∙_}
+use mathlib.Core.Path.{sym, _∙_}
 use Prim.Native.Nat.{_<_}
 use native.Mathlib.Omega.{arith}
 use borrow.Author.Tests.{not-true, not-false}
@@ -12,13 +12,6 @@ use Rattle.lines.proofs.FormLaws.{fit-short, fit-unnamed, fit-many, fit
 use borrow.Author.Needs.{needs}
 use Rattle.lines.proofs.forms.fit_form.Statement.{statement}
 use Rattle.lines.proofs.forms.fit_form.Tie as tie
-use Rattle.lines.proofs.forms.fit_form.Reads as reads
-use Rattle.lines.proofs.forms.fit_form.Lts as lts
-use Rattle.lines.proofs.fields.name_of.Reads as name-of-reads
-use Rattle.lines.proofs.until.Reads as until-reads
-use Rattle.lines.proofs.forms.fit_line.Reads as fit-line-reads
-use Rattle.lines.proofs.no_line.Reads as no-line-reads
-use Rattle.task.proofs.well_formed.Reads as well-formed-reads
 
 until-requires : tie.Need-until-requires
 until-requires c κs = search needs

@@ -3,11 +3,6 @@
 use borrow.Author.Needs.{needs}
 use Rattle.lines.proofs.forms.fit_line.Statement.{statement}
 use Rattle.lines.proofs.forms.fit_line.Tie as tie
-use Rattle.lines.proofs.forms.fit_line.Reads as reads
-use Rattle.lines.proofs.forms.fit_line.Lts as lts
-use Rattle.lines.proofs.forms.no_costs.Reads as no-costs-reads
-use Rattle.lines.proofs.forms.no_machine.Reads as no-machine-reads
-use Rattle.lines.proofs.forms.untimed.Reads as untimed-reads
 
 no-machine-requires : tie.Need-no-machine-requires
 no-machine-requires c κs = search needs

@@ -3,11 +3,6 @@
 use borrow.Author.Needs.{needs}
 use Rattle.lines.proofs.forms.machine_line.Statement.{statement}
 use Rattle.lines.proofs.forms.machine_line.Tie as tie
-use Rattle.lines.proofs.forms.machine_line.Reads as reads
-use Rattle.lines.proofs.forms.machine_line.Lts as lts
-use Rattle.lines.proofs.forms.no_costs.Reads as no-costs-reads
-use Rattle.lines.proofs.forms.no_name.Reads as no-name-reads
-use Rattle.lines.proofs.forms.untimed.Reads as untimed-reads
 
 no-costs-requires : tie.Need-no-costs-requires
 no-costs-requires c κs = search needs

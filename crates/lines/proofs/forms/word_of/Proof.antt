@@ -1,13 +1,10 @@
 -- `forms::word_of` meets its contract: each word in its turn.
 -- Assumes nothing.
-use mathlib.Core.Path.{_≡_, sym, _∙_}
+use mathlib.Core.Path.{sym, _∙_}
 use Rattle.lines.specs.Forms.{wordOf}
 use borrow.Author.Needs.{needs}
 use Rattle.lines.proofs.forms.word_of.Statement.{statement}
 use Rattle.lines.proofs.forms.word_of.Tie as tie
-use Rattle.lines.proofs.forms.word_of.Reads as reads
-use Rattle.lines.proofs.forms.word_of.Lts as lts
-use Rattle.lines.proofs.fields.same_run.Reads as same-run-reads
 
 slice-aggregate-same-run : tie.Need-slice-aggregate-same-run
 slice-aggregate-same-run c = search needs

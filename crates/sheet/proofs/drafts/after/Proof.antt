@@ -1,18 +1,12 @@
 -- `drafts::after` meets its contract: each word changes what it says, and the lists stay as they are held. A good line finds room.
 -- Assumes nothing.
-use mathlib.Core.Path.{_≡_, sym, ap, _∙_}
 use native.Mathlib.Omega.{arith}
-use Rattle.sheet.specs.Sheet.{lineFault}
 use Rattle.sheet.specs.Held.{told}
 use Rattle.sheet.proofs.FaultLaws.{line-part, line-fit}
 use Rattle.sheet.proofs.DraftLaws.{kept-parts, kept-tasks, parts-count, tasks-count, after-machine, after-cost, after-part, after-fit, after-other}
 use borrow.Author.Needs.{needs}
 use Rattle.sheet.proofs.drafts.after.Statement.{statement}
 use Rattle.sheet.proofs.drafts.after.Tie as tie
-use Rattle.sheet.proofs.drafts.after.Reads as reads
-use Rattle.sheet.proofs.drafts.after.Lts as lts
-use Rattle.sheet.proofs.drafts.part_times.Reads as part-times-reads
-use Rattle.sheet.proofs.drafts.put.Reads as put-reads
 
 enum-told : tie.Need-enum-told
 enum-told c = search needs

@@ -4,10 +4,6 @@ use Rattle.sheet.specs.Held.{laid}
 use borrow.Author.Needs.{needs}
 use Rattle.sheet.proofs.drafts.blank.Statement.{statement}
 use Rattle.sheet.proofs.drafts.blank.Tie as tie
-use Rattle.sheet.proofs.drafts.blank.Reads as reads
-use Rattle.sheet.proofs.drafts.blank.Lts as lts
-use Rattle.lines.proofs.no_line.Reads as no-line-reads
-use Rattle.sheet.proofs.drafts.no_tasks.Reads as no-tasks-reads
 
 no-line-requires : tie.Need-no-line-requires
 no-line-requires c κs = search needs

@@ -6,9 +6,6 @@ use Rattle.sheet.specs.Sheet.{costFault}
 use borrow.Author.Needs.{needs}
 use Rattle.sheet.proofs.drafts.cost_fault.Statement.{statement}
 use Rattle.sheet.proofs.drafts.cost_fault.Tie as tie
-use Rattle.sheet.proofs.drafts.cost_fault.Reads as reads
-use Rattle.sheet.proofs.drafts.cost_fault.Lts as lts
-use Rattle.demand.proofs.costs_within.Reads as costs-within-reads
 
 returns : tie.Need-returns
 unfolding costFault

@@ -1,6 +1,6 @@
 -- `drafts::fit_fault` meets its contract: the rules in their order.
 -- Assumes nothing.
-use mathlib.Core.Path.{_≡_, sym, ap, _∙_}
+use mathlib.Core.Path.{_≡_}
 use mathlib.Core.Bool.{true, false}
 use borrow.Author.Tests.{eq-eqb, ne-eqb, le-leb, lt-leb}
 use lib.ListN.{length}
@@ -11,9 +11,6 @@ use Rattle.sheet.proofs.FaultLaws.{room-none, room-some}
 use borrow.Author.Needs.{needs}
 use Rattle.sheet.proofs.drafts.fit_fault.Statement.{statement}
 use Rattle.sheet.proofs.drafts.fit_fault.Tie as tie
-use Rattle.sheet.proofs.drafts.fit_fault.Reads as reads
-use Rattle.sheet.proofs.drafts.fit_fault.Lts as lts
-use Rattle.task.proofs.place_of.Reads as place-of-reads
 
 returns : tie.Need-returns
 unfolding fitFault

@@ -1,17 +1,10 @@
 -- `drafts::line_fault` meets its contract: the rules of its word.
 -- Assumes nothing.
-use mathlib.Core.Path.{_∙_}
 use Rattle.sheet.specs.Sheet.{lineFault}
 use Rattle.sheet.specs.Held.{told}
 use borrow.Author.Needs.{needs}
 use Rattle.sheet.proofs.drafts.line_fault.Statement.{statement}
 use Rattle.sheet.proofs.drafts.line_fault.Tie as tie
-use Rattle.sheet.proofs.drafts.line_fault.Reads as reads
-use Rattle.sheet.proofs.drafts.line_fault.Lts as lts
-use Rattle.sheet.proofs.drafts.cost_fault.Reads as cost-fault-reads
-use Rattle.sheet.proofs.drafts.fit_fault.Reads as fit-fault-reads
-use Rattle.sheet.proofs.drafts.machine_fault.Reads as machine-fault-reads
-use Rattle.sheet.proofs.drafts.part_fault.Reads as part-fault-reads
 
 enum-told : tie.Need-enum-told
 enum-told c = search needs

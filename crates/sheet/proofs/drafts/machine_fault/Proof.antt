@@ -6,9 +6,6 @@ use Rattle.sheet.specs.Sheet.{machineFault}
 use borrow.Author.Needs.{needs}
 use Rattle.sheet.proofs.drafts.machine_fault.Statement.{statement}
 use Rattle.sheet.proofs.drafts.machine_fault.Tie as tie
-use Rattle.sheet.proofs.drafts.machine_fault.Reads as reads
-use Rattle.sheet.proofs.drafts.machine_fault.Lts as lts
-use Rattle.task.proofs.machine_within.Reads as machine-within-reads
 
 returns : tie.Need-returns
 unfolding machineFault

@@ -6,9 +6,6 @@ use Rattle.sheet.proofs.DraftLaws.{tasks-none}
 use borrow.Author.Needs.{needs}
 use Rattle.sheet.proofs.drafts.no_tasks.Statement.{statement}
 use Rattle.sheet.proofs.drafts.no_tasks.Tie as tie
-use Rattle.sheet.proofs.drafts.no_tasks.Reads as reads
-use Rattle.sheet.proofs.drafts.no_tasks.Lts as lts
-use Rattle.lines.proofs.no_line.Reads as no-line-reads
 
 no-line-requires : tie.Need-no-line-requires
 no-line-requires c κs = search needs

@@ -5,7 +5,7 @@ use mathlib.Core.Bool.{true, false}
 use borrow.Author.Tests.{eq-eqb, ne-eqb, not-true, not-false}
 use lib.ListN.{length}
 use Rattle.demand.specs.Sizes.{sized}
-use Rattle.task.specs.Tasks.{wholePiece, placeOf}
+use Rattle.task.specs.Tasks.{wholePiece}
 use Rattle.task.proofs.TaskLaws.{length-mapped}
 use Rattle.sheet.specs.Sheet.{partFault, free}
 use Rattle.sheet.specs.Held.{listOf}
@@ -13,11 +13,6 @@ use Rattle.sheet.proofs.FaultLaws.{room-none, room-some}
 use borrow.Author.Needs.{needs}
 use Rattle.sheet.proofs.drafts.part_fault.Statement.{statement}
 use Rattle.sheet.proofs.drafts.part_fault.Tie as tie
-use Rattle.sheet.proofs.drafts.part_fault.Reads as reads
-use Rattle.sheet.proofs.drafts.part_fault.Lts as lts
-use Rattle.demand.proofs.within_sizes.Reads as within-sizes-reads
-use Rattle.task.proofs.place_of.Reads as place-of-reads
-use Rattle.task.proofs.whole_piece.Reads as whole-piece-reads
 
 returns : tie.Need-returns
 unfolding partFault

@@ -10,10 +10,6 @@ use Rattle.sheet.proofs.FaultLaws.{times-absent, times-inside, times-th
 use borrow.Author.Needs.{needs}
 use Rattle.sheet.proofs.drafts.part_times.Statement.{statement}
 use Rattle.sheet.proofs.drafts.part_times.Tie as tie
-use Rattle.sheet.proofs.drafts.part_times.Reads as reads
-use Rattle.sheet.proofs.drafts.part_times.Lts as lts
-use Rattle.lines.proofs.no_line.Reads as no-line-reads
-use Rattle.task.proofs.place_of.Reads as place-of-reads
 
 place-of-requires : tie.Need-place-of-requires
 place-of-requires c κs = search needs

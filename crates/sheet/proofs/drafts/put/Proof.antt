@@ -4,8 +4,6 @@ use Rattle.sheet.proofs.DraftLaws.{tasks-put}
 use borrow.Author.Needs.{needs}
 use Rattle.sheet.proofs.drafts.put.Statement.{statement}
 use Rattle.sheet.proofs.drafts.put.Tie as tie
-use Rattle.sheet.proofs.drafts.put.Reads as reads
-use Rattle.sheet.proofs.drafts.put.Lts as lts
 
 mul-task : tie.Need-mul-task
 mul-task c = search needs
