@@ -16,7 +16,7 @@ use Rattle.lines.specs.declared.Line.{Line}
 use Rattle.lines.specs.Lines.{bytesOf, fields, nameOf, isName}
 use Rattle.lines.specs.Forms.{timesOf, values, lineOf}
 use Rattle.lines.proofs.SaysLaws.{says-part, says-fit, name-exact}
-use Rattle.sheet.specs.Sheet.{Above, lineFault, partTimes, wordAfter, after, whole, outcomeOf, readOf}
+use Rattle.sheet.specs.Sheet.{Above, lineFault, taskOf, wordAfter, after, whole, outcomeOf, readOf}
 use Rattle.sheet.specs.Held.{listOf}
 use Rattle.sheet.specs.Fitted.{linesOf, Fitted}
 use Rattle.sheet.proofs.FaultLaws.{line-fit}
@@ -102,7 +102,7 @@ part-stands ls l word =
 
 -- the part that a fit line names has its very bytes
 task-fitted : (ls : List (List ℕ)) (l : List ℕ) (parts : List Task) → lineOf l .word ≡ Word.Fit → Found (Stands ls) (lineOf l .part) parts
-    → Fitted (ls ++ (l ∷ [])) (record { name = lineOf l .task .name; times = partTimes (lineOf l .part) parts })
+    → Fitted (ls ++ (l ∷ [])) (taskOf (lineOf l .task .name) (lineOf l .part) parts)
 task-fitted ls l parts word f =
     let s = says-fit l word in
     let p = f .holds in
@@ -141,7 +141,7 @@ arrows-step ls a l so-far none = by-word (lineOf l .word) refl
     by-word Word.Fit word =
         let known = line-fit a (lineOf l) none word .known in
         let one = task-fitted ls l (a .parts) word (found (Stands ls) 1 (lineOf l .part) (a .parts) (so-far .parts-stand) known) in
-        record { parts-stand = parts; tasks-fitted = each-snoc (Fitted (ls ++ (l ∷ []))) (a .tasks) (record { name = lineOf l .task .name; times = partTimes (lineOf l .part) (a .parts) }) tasks one }
+        record { parts-stand = parts; tasks-fitted = each-snoc (Fitted (ls ++ (l ∷ []))) (a .tasks) (taskOf (lineOf l .task .name) (lineOf l .part) (a .parts)) tasks one }
     by-word Word.Other word = record { parts-stand = parts; tasks-fitted = tasks }
 
 -- ---- the whole sheet

@@ -4,22 +4,24 @@
 --   tasks-none, tasks-put             no task, and one more
 --   told-laid                         what a draft tells is what was laid in it
 --   kept-parts, kept-tasks, -count    the parts and tasks of a draft that has zeros past its counts
---   after-machine, -cost, -part, -fit, -other
+--   with-machine, -costs, -part, -task   a draft with what one line says
+--   after-word                        what stands after a line of that word
 use mathlib.Core.Path.{_≡_, sym, ap, _∙_}
 use mathlib.Core.List.{[], _∷_, _++_}
 use Prim.Native.Nat.{ℕ, _+_, _≤_, _<_}
 use native.Mathlib.Omega.{arith}
 use lib.ListN.{length, set, replicate, length-append}
+use Rattle.demand.specs.declared.Costs.{Costs}
 use Rattle.task.specs.declared.Task.{Task}
 use Rattle.task.specs.declared.Tasks.{Tasks}
-use Rattle.task.specs.declared.Times.{Times}
+use Rattle.task.specs.declared.Machine.{Machine}
 use Rattle.task.specs.Tasks.{tasksMost}
 use Rattle.lines.specs.declared.Word.{Word}
 use Rattle.lines.specs.declared.Line.{Line}
 use Rattle.sheet.specs.declared.Draft.{Draft}
 use Rattle.lines.specs.Lines.{padded}
 use Rattle.lines.specs.Forms.{noTask}
-use Rattle.sheet.specs.Sheet.{Above, belowMachine, amongParts, amongFits, partTimes, after, tasksOf}
+use Rattle.sheet.specs.Sheet.{Above, belowMachine, amongParts, amongFits, withMachine, withCosts, withPart, withTask, wordAfter, after, tasksOf}
 use Rattle.sheet.specs.Held.{listOf, told, laid}
 use Rattle.lines.proofs.LineLaws.{padded-none, padded-take, padded-put}
 
@@ -60,30 +62,26 @@ module _ (d : Draft) (kept : d ≡ laid (told d)) where
   unfolding told
   tasks-count = ap (λ (q : Tasks). q .count) kept-tasks
 
-  -- ---- after a line, by its word
+  -- ---- with what one line says
 
-  module _ (l : Line) where
-    pub after-machine : l .word ≡ Word.Machine
-        → record { stage = belowMachine; machine = l .machine; costs = d .costs; parts = d .parts; tasks = d .tasks } ≡ laid (after (told d) l)
-    unfolding after told laid
-    after-machine word = rw word (cc (kept-parts, kept-tasks))
+  pub with-machine : (m : Machine) → record { stage = belowMachine; machine = m; costs = d .costs; parts = d .parts; tasks = d .tasks } ≡ laid (withMachine (told d) m)
+  unfolding told laid
+  with-machine m = cc (kept-parts, kept-tasks)
 
-    pub after-cost : l .word ≡ Word.Cost
-        → record { stage = amongParts; machine = d .machine; costs = l .costs; parts = d .parts; tasks = d .tasks } ≡ laid (after (told d) l)
-    unfolding after told laid
-    after-cost word = rw word (cc (kept-parts, kept-tasks))
+  pub with-costs : (c : Costs) → record { stage = amongParts; machine = d .machine; costs = c; parts = d .parts; tasks = d .tasks } ≡ laid (withCosts (told d) c)
+  unfolding told laid
+  with-costs c = cc (kept-parts, kept-tasks)
 
-    pub after-part : l .word ≡ Word.Part → (q : Tasks) → q ≡ tasksOf (listOf (d .parts) ++ (l .task ∷ []))
-        → record { stage = amongParts; machine = d .machine; costs = d .costs; parts = q; tasks = d .tasks } ≡ laid (after (told d) l)
-    unfolding after told laid
-    after-part word q put = rw word (cc (put, kept-tasks))
+  pub with-part : (t : Task) (q : Tasks) → q ≡ tasksOf (listOf (d .parts) ++ (t ∷ []))
+      → record { stage = amongParts; machine = d .machine; costs = d .costs; parts = q; tasks = d .tasks } ≡ laid (withPart (told d) t)
+  unfolding told laid
+  with-part t q put = cc (put, kept-tasks)
 
-    pub after-fit : l .word ≡ Word.Fit → (ts : Times) → ts ≡ partTimes (l .part) (listOf (d .parts)) → (q : Tasks)
-        → q ≡ tasksOf (listOf (d .tasks) ++ (record { name = l .task .name; times = ts } ∷ []))
-        → record { stage = amongFits; machine = d .machine; costs = d .costs; parts = d .parts; tasks = q } ≡ laid (after (told d) l)
-    unfolding after told laid
-    after-fit word ts times q put = rw word (cc (times, put, kept-parts))
+  pub with-task : (t : Task) (q : Tasks) → q ≡ tasksOf (listOf (d .tasks) ++ (t ∷ []))
+      → record { stage = amongFits; machine = d .machine; costs = d .costs; parts = d .parts; tasks = q } ≡ laid (withTask (told d) t)
+  unfolding told laid
+  with-task t q put = cc (put, kept-parts)
 
-    pub after-other : l .word ≡ Word.Other → d ≡ laid (after (told d) l)
-    unfolding after
-    after-other word = rw word kept
+pub after-word : (a : Above) (l : Line) (w : Word) → l .word ≡ w → wordAfter w a l ≡ after a l
+unfolding after
+after-word a l w word = ap (λ (v : Word). wordAfter v a l) (sym word)

@@ -23,7 +23,7 @@ use Rattle.lines.specs.Lines.{isName}
 use Rattle.lines.specs.Forms.{noTask, lineOf}
 use Rattle.lines.proofs.LineLaws.{padded-take}
 use Rattle.lines.proofs.SaysLaws.{says-fit}
-use Rattle.sheet.specs.Sheet.{Above, belowMachine, amongParts, lineFault, partTimes, wordAfter, after, whole, outcomeOf, readOf}
+use Rattle.sheet.specs.Sheet.{Above, belowMachine, amongParts, lineFault, taskOf, partTimes, wordAfter, after, whole, outcomeOf, readOf}
 use Rattle.sheet.proofs.FaultLaws.{line-machine, line-cost, line-part, line-fit}
 use Rattle.sheet.proofs.WholeLaws.{read-keeps, read-whole, read-fits, read-shown, found}
 
@@ -56,14 +56,14 @@ unfolding isName
 formed-task l word = let s = says-fit l word in ap (λ (k : Line). formed (k .task .name)) (s .line) ∙ s .called
 
 module _ (a : Above) (l : List ℕ) (so-far : Sound a) (none : lineFault a (lineOf l) ≡ 0) where
-  task-good : lineOf l .word ≡ Word.Fit → firstFault [] (a .tasks ++ (record { name = lineOf l .task .name; times = partTimes (lineOf l .part) (a .parts) } ∷ [])) ≡ 0
+  task-good : lineOf l .word ≡ Word.Fit → firstFault [] (a .tasks ++ (taskOf (lineOf l .task .name) (lineOf l .part) (a .parts) ∷ [])) ≡ 0
   unfolding SizedPart
   task-good word =
       let kept = line-fit a (lineOf l) none word in
       let part = found SizedPart 1 (lineOf l .part) (a .parts) (so-far .parts-sized) (kept .known) in
       let fits : sized (wholePiece (partTimes (lineOf l .part) (a .parts))) ≡ true = rw (part .times) (part .holds) in
-      first-snoc (a .tasks) [] (record { name = lineOf l .task .name; times = partTimes (lineOf l .part) (a .parts) }) (so-far .tasks-good)
-      (fault-free (a .tasks) (record { name = lineOf l .task .name; times = partTimes (lineOf l .part) (a .parts) }) (formed-task l word) fits (kept .new))
+      first-snoc (a .tasks) [] (taskOf (lineOf l .task .name) (lineOf l .part) (a .parts)) (so-far .tasks-good)
+      (fault-free (a .tasks) (taskOf (lineOf l .task .name) (lineOf l .part) (a .parts)) (formed-task l word) fits (kept .new))
 
   sound-step : Sound (after a (lineOf l))
   unfolding after SizedPart

@@ -27,6 +27,7 @@ use Rattle.sheet.specs.declared.Read.{Read}
 use Rattle.lines.specs.Lines.{newline, upTo, beyond, padded}
 use Rattle.lines.specs.Forms.{noMachine, noCosts, noTimes, noTask, lineOf}
 
+-- what is known where a line begins; the stage says which lines may stand there
 pub record Above : Type 0 where
   pub stage : ℕ
   pub machine : Machine
@@ -106,18 +107,27 @@ abbrev pub partTimes : Name → List Task → Times
 partTimes n [] = noTimes
 partTimes n (t ∷ ts) = cond (sameName n (t .name)) (t .times) (partTimes n ts)
 
+-- the task n with the times of the part p
+abbrev pub taskOf : (task part : Name) → List Task → Task
+taskOf n p parts = record { name = n; times = partTimes p parts }
+
+abbrev pub withMachine : Above → Machine → Above
+withMachine a m = record { stage = belowMachine; machine = m; costs = a .costs; parts = a .parts; tasks = a .tasks }
+
+abbrev pub withCosts : Above → Costs → Above
+withCosts a c = record { stage = amongParts; machine = a .machine; costs = c; parts = a .parts; tasks = a .tasks }
+
+abbrev pub withPart : Above → Task → Above
+withPart a t = record { stage = amongParts; machine = a .machine; costs = a .costs; parts = a .parts ++ (t ∷ []); tasks = a .tasks }
+
+abbrev pub withTask : Above → Task → Above
+withTask a t = record { stage = amongFits; machine = a .machine; costs = a .costs; parts = a .parts; tasks = a .tasks ++ (t ∷ []) }
+
 abbrev pub wordAfter : Word → Above → Line → Above
-wordAfter Word.Machine a l = record { stage = belowMachine; machine = l .machine; costs = a .costs; parts = a .parts; tasks = a .tasks }
-wordAfter Word.Cost a l = record { stage = amongParts; machine = a .machine; costs = l .costs; parts = a .parts; tasks = a .tasks }
-wordAfter Word.Part a l = record { stage = amongParts; machine = a .machine; costs = a .costs; parts = a .parts ++ (l .task ∷ []); tasks = a .tasks }
-wordAfter Word.Fit a l =
-    record {
-      stage = amongFits;
-      machine = a .machine;
-      costs = a .costs;
-      parts = a .parts;
-      tasks = a .tasks ++ (record { name = l .task .name; times = partTimes (l .part) (a .parts) } ∷ []);
-    }
+wordAfter Word.Machine a l = withMachine a (l .machine)
+wordAfter Word.Cost a l = withCosts a (l .costs)
+wordAfter Word.Part a l = withPart a (l .task)
+wordAfter Word.Fit a l = withTask a (taskOf (l .task .name) (l .part) (a .parts))
 wordAfter Word.Other a l = a
 
 unfoldable pub after : Above → Line → Above
@@ -138,6 +148,7 @@ abbrev pub next : ℕ → ℕ → Outcome → Outcome
 next zero n rest = rest
 next (suc k) n rest = refused (suc k) n
 
+-- l and ls are the runs between newlines; the last of them stands behind the last newline, and is no line
 unfoldable pub readFrom : Above → ℕ → List ℕ → List (List ℕ) → Outcome
 readFrom a n l [] = ending a n l
 readFrom a n l (m ∷ ls) = next (lineFault a (lineOf l)) n (readFrom (after a (lineOf l)) (n + 1) m ls)

@@ -14,7 +14,7 @@ use task::whole_piece;
 ghost use mathlib.Core.Path.{_≡_};
 ghost use mathlib.Core.List.{[], _∷_, _++_};
 ghost use Prim.Native.Nat.{_<_};
-ghost use Rattle.sheet.specs.Sheet.{top, machineFault, costFault, partFault, fitFault, lineFault, partTimes, after, tasksOf};
+ghost use Rattle.sheet.specs.Sheet.{top, machineFault, costFault, partFault, fitFault, lineFault, partTimes, withMachine, withCosts, withPart, withTask, after, tasksOf};
 ghost use Rattle.sheet.specs.Held.{listOf, told, laid};
 
 // No task.
@@ -167,46 +167,78 @@ pub fn part_times(name: Name, parts: Tasks) -> Times
     part.times
 }
 
+// With this machine.
+pub fn with_machine(draft: Draft, machine: Machine) -> Draft
+    requires { ⌜ draft ≡ laid (told draft) ⌝ }
+    ensures { λ r. ⌜ r ≡ laid (withMachine (told draft) machine) ⌝ }
+{
+    let mut next = draft;
+    next.stage = 1;
+    next.machine = machine;
+    next
+}
+
+// With these costs.
+pub fn with_costs(draft: Draft, costs: Costs) -> Draft
+    requires { ⌜ draft ≡ laid (told draft) ⌝ }
+    ensures { λ r. ⌜ r ≡ laid (withCosts (told draft) costs) ⌝ }
+{
+    let mut next = draft;
+    next.stage = 2;
+    next.costs = costs;
+    next
+}
+
+// With one part more.
+pub fn with_part(draft: Draft, part: Task) -> Draft
+    requires { ⌜ (draft ≡ laid (told draft)) × (draft .parts .count < 64) ⌝ }
+    ensures { λ r. ⌜ r ≡ laid (withPart (told draft) part) ⌝ }
+{
+    let parts = draft.parts;
+    let more = put(parts, part);
+    let mut next = draft;
+    next.stage = 2;
+    next.parts = more;
+    next
+}
+
+// With one task more.
+pub fn with_task(draft: Draft, task: Task) -> Draft
+    requires { ⌜ (draft ≡ laid (told draft)) × (draft .tasks .count < 64) ⌝ }
+    ensures { λ r. ⌜ r ≡ laid (withTask (told draft) task) ⌝ }
+{
+    let tasks = draft.tasks;
+    let more = put(tasks, task);
+    let mut next = draft;
+    next.stage = 3;
+    next.tasks = more;
+    next
+}
+
 // What stands after a good line.
 pub fn after(draft: Draft, line: Line) -> Draft
     requires { ⌜ (draft ≡ laid (told draft)) × (lineFault (told draft) line ≡ 0) ⌝ }
     ensures { λ r. ⌜ r ≡ laid (after (told draft) line) ⌝ }
 {
     let word = line.word;
-    let mut next = draft;
+    let task = line.task;
     match word {
         Word::Machine => {
             let machine = line.machine;
-            next.stage = 1;
-            next.machine = machine;
-            next
+            with_machine(draft, machine)
         }
         Word::Cost => {
             let costs = line.costs;
-            next.stage = 2;
-            next.costs = costs;
-            next
+            with_costs(draft, costs)
         }
-        Word::Part => {
-            let parts = draft.parts;
-            let part = line.task;
-            let more = put(parts, part);
-            next.stage = 2;
-            next.parts = more;
-            next
-        }
+        Word::Part => with_part(draft, task),
         Word::Fit => {
-            let parts = draft.parts;
-            let tasks = draft.tasks;
-            let part = line.part;
-            let task = line.task;
             let name = task.name;
+            let part = line.part;
+            let parts = draft.parts;
             let times = part_times(part, parts);
-            let more = put(tasks, Task { name, times });
-            next.stage = 3;
-            next.tasks = more;
-            next
+            with_task(draft, Task { name, times })
         }
-        Word::Other => next,
+        Word::Other => draft,
     }
 }
