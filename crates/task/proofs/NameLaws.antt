@@ -58,7 +58,7 @@ both-right true b e = e
 both-right false true e = refl
 both-right false false e = e
 
-bytes-exact : (as′ bs : List ℕ) → sameBytes as′ bs ≡ true → as′ ≡ bs
+pub bytes-exact : (as′ bs : List ℕ) → sameBytes as′ bs ≡ true → as′ ≡ bs
 bytes-exact [] [] e = refl
 bytes-exact [] (b ∷ bs) e = let z : _≡_ {A = ℕ} 0 1 = cc in absurd (omega arith)
 bytes-exact (a ∷ as′) [] e = let z : _≡_ {A = ℕ} 0 1 = cc in absurd (omega arith)

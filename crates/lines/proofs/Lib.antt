@@ -1,0 +1,6 @@
+-- Laws that belong to no one function.
+pub mod LineLaws
+pub mod FieldLaws
+pub mod RunLaws
+pub mod FormLaws
+pub mod SaysLaws

@@ -1,0 +1,101 @@
+// One line of a timing sheet, by its form alone: document 01, "Sheet" and "Sizes".
+mod fields;
+mod forms;
+
+use demand::Costs;
+use forms::cost_form;
+use forms::fit_form;
+use forms::machine_form;
+use forms::no_costs;
+use forms::no_machine;
+use forms::no_name;
+use forms::part_form;
+use forms::untimed;
+use forms::word_of;
+use task::Machine;
+use task::Name;
+use task::Task;
+ghost use mathlib.Core.Path.{_≡_};
+ghost use lib.ListN.{length};
+ghost use Rattle.lines.specs.Lines.{upTo};
+ghost use Rattle.lines.specs.Forms.{noLine, lineOf};
+
+/// The kind of a line, by its first field.
+pub enum Word {
+    Machine,
+    Cost,
+    Part,
+    Fit,
+    Other,
+}
+
+/// What a line says by its form alone: a machine, costs, a part, or a task's name with its part's. What it does not say is zero.
+pub struct Line {
+    pub word: Word,
+    pub machine: Machine,
+    pub costs: Costs,
+    pub task: Task,
+    pub part: Name,
+}
+
+/// The answer on a field that is to be a number.
+pub struct Number {
+    pub ok: bool,
+    pub value: u64,
+}
+
+/// The answer on fields that are to be numbers: how many, or 0 where they are not, or are more than nine.
+pub struct Numbers {
+    pub count: usize,
+    pub values: [u64; 9],
+}
+
+/// How many bytes stand before the first b.
+pub fn until(s: &[u8], b: u8) -> usize
+    ensures exact { λ r. ⌜ r ≡ length (upTo b (now (s .entry))) ⌝ }
+{
+    let mut i = 0;
+    while i < s.len() {
+        if s[i] == b {
+            return i;
+        }
+        i += 1;
+    }
+    i
+}
+
+/// A line of no form.
+pub fn no_line() -> Line
+    ensures exact { λ r. ⌜ r ≡ noLine ⌝ }
+{
+    let machine = no_machine();
+    let costs = no_costs();
+    let part = no_name();
+    let task = untimed(part);
+    Line {
+        word: Word::Other,
+        machine,
+        costs,
+        task,
+        part,
+    }
+}
+
+/// What a line says.
+pub fn line_of(line: &[u8]) -> Line
+    ensures exact { λ r. ⌜ r ≡ lineOf (now (line .entry)) ⌝ }
+{
+    let e = until(line, 9);
+    if e == line.len() {
+        return no_line();
+    }
+    let word = word_of(&line[..e]);
+    let rest = &line[e + 1..];
+    match word {
+        Word::Machine => machine_form(rest),
+        Word::Cost => cost_form(rest),
+        Word::Part => part_form(rest),
+        Word::Fit => fit_form(rest),
+        Word::Other => no_line(),
+    }
+}

@@ -1,0 +1,161 @@
+-- Laws of a line's fault: what holds of a line that has none.
+-- Assumes nothing.
+--
+--   rule-kept                               a rule that is not broken
+--   line-machine, -cost, -part, -fit        every rule of a good line holds
+--   room-none, room-some                    whether one more has room, by the count
+--   times-absent, -inside, -there           the times of the part at a place
+use mathlib.Core.Path.{_≡_, refl, sym, ap, _∙_}
+use mathlib.Core.Bool.{Bool, true, false, cond, not}
+use mathlib.Core.List.{List, [], _∷_}
+use Prim.Native.Nat.{ℕ, suc, _+_, _-_, _≤_, _<_}
+use native.Mathlib.Omega.{arith}
+use borrow.Author.Tests.{eqb-true, eqb-false, ltb-true, leb-true, lt-ltb, le-ltb, not-true}
+use lib.Dec.{leb, eqb}
+use lib.ListN.{length, take, getD, length-take}
+use lib.Seq.{getD-take}
+use Rattle.demand.specs.declared.Costs.{Costs}
+use Rattle.demand.specs.Sizes.{sized, sizedCosts}
+use Rattle.task.specs.declared.Name.{Name}
+use Rattle.task.specs.declared.Task.{Task}
+use Rattle.task.specs.declared.Machine.{Machine}
+use Rattle.task.specs.Names.{sameName}
+use Rattle.task.specs.Tasks.{tasksMost, sizedMachine, wholePiece, placeOf, rule}
+use Rattle.lines.specs.declared.Word.{Word}
+use Rattle.lines.specs.declared.Line.{Line}
+use Rattle.lines.specs.Forms.{noTimes}
+use Rattle.sheet.specs.Sheet.{Above, atTop, belowMachine, amongParts, free, room, machineFault, costFault, partFault, fitFault, wordFault, lineFault, partTimes}
+
+-- ---- good lines
+
+rule-kept : (t : Bool) (n rest : ℕ) → rule t (suc n) rest ≡ 0 → (t ≡ true) × (rest ≡ 0)
+rule-kept true n rest e = (refl, e)
+rule-kept false n rest e = absurd (omega arith)
+
+machine-kept : (stage : ℕ) (m : Machine) → machineFault stage m ≡ 0 → sizedMachine m ≡ true
+unfolding machineFault
+machine-kept stage m none =
+    let order = rule-kept (eqb stage atTop) 7 (rule (sizedMachine m) 1 0) none in
+    rule-kept (sizedMachine m) 0 0 (order .1) .0
+
+cost-kept : (stage : ℕ) (c : Costs) → costFault stage c ≡ 0 → (stage ≡ belowMachine) × (sizedCosts c ≡ true)
+unfolding costFault
+cost-kept stage c none =
+    let order = rule-kept (eqb stage belowMachine) 7 (rule (sizedCosts c) 2 0) none in
+    (eqb-true stage belowMachine (order .0), rule-kept (sizedCosts c) 1 0 (order .1) .0)
+
+pub record PartKept (stage : ℕ) (t : Task) (parts : List Task) : Type 0 where
+  pub order : stage ≡ amongParts
+  pub fits : sized (wholePiece (t .times)) ≡ true
+  pub new : placeOf 1 (t .name) parts ≡ 0
+  pub space : length parts < tasksMost
+
+part-kept : (stage : ℕ) (t : Task) (parts : List Task) → partFault stage t parts ≡ 0 → PartKept stage t parts
+unfolding partFault
+part-kept stage t parts none =
+    let order = rule-kept (eqb stage amongParts) 7 (rule (sized (wholePiece (t .times))) 3 (rule (free (t .name) parts) 4 (rule (room parts) 6 0))) none in
+    let fits = rule-kept (sized (wholePiece (t .times))) 2 (rule (free (t .name) parts) 4 (rule (room parts) 6 0)) (order .1) in
+    let new = rule-kept (free (t .name) parts) 3 (rule (room parts) 6 0) (fits .1) in
+    let space = rule-kept (room parts) 5 0 (new .1) in
+    record {
+      order = eqb-true stage amongParts (order .0);
+      fits = fits .0;
+      new = eqb-true (placeOf 1 (t .name) parts) 0 (new .0);
+      space = ltb-true (length parts) tasksMost (space .0);
+    }
+
+pub record FitKept (stage : ℕ) (n p : Name) (parts tasks : List Task) : Type 0 where
+  pub order : amongParts ≤ stage
+  pub new : placeOf 1 n tasks ≡ 0
+  pub known : placeOf 1 p parts ≡ 0 → ⊥
+  pub space : length tasks < tasksMost
+
+fit-kept : (stage : ℕ) (n p : Name) (parts tasks : List Task) → fitFault stage n p parts tasks ≡ 0 → FitKept stage n p parts tasks
+unfolding fitFault
+fit-kept stage n p parts tasks none =
+    let order = rule-kept (leb amongParts stage) 7 (rule (free n tasks) 4 (rule (not (free p parts)) 5 (rule (room tasks) 6 0))) none in
+    let new = rule-kept (free n tasks) 3 (rule (not (free p parts)) 5 (rule (room tasks) 6 0)) (order .1) in
+    let known = rule-kept (not (free p parts)) 4 (rule (room tasks) 6 0) (new .1) in
+    let space = rule-kept (room tasks) 5 0 (known .1) in
+    record {
+      order = leb-true amongParts stage (order .0);
+      new = eqb-true (placeOf 1 n tasks) 0 (new .0);
+      known = eqb-false (placeOf 1 p parts) 0 (not-true (free p parts) (known .0));
+      space = ltb-true (length tasks) tasksMost (space .0);
+    }
+
+-- the same by the word of a line
+module _ (a : Above) (l : Line) (none : lineFault a l ≡ 0) where
+  by-word : (w : Word) → l .word ≡ w → wordFault w a l ≡ 0
+  unfolding lineFault
+  by-word w word = ap (λ (v : Word). wordFault v a l) (sym word) ∙ none
+
+  pub line-machine : l .word ≡ Word.Machine → sizedMachine (l .machine) ≡ true
+  line-machine word = machine-kept (a .stage) (l .machine) (by-word Word.Machine word)
+
+  pub line-cost : l .word ≡ Word.Cost → (a .stage ≡ belowMachine) × (sizedCosts (l .costs) ≡ true)
+  line-cost word = cost-kept (a .stage) (l .costs) (by-word Word.Cost word)
+
+  pub line-part : l .word ≡ Word.Part → PartKept (a .stage) (l .task) (a .parts)
+  line-part word = part-kept (a .stage) (l .task) (a .parts) (by-word Word.Part word)
+
+  pub line-fit : l .word ≡ Word.Fit → FitKept (a .stage) (l .task .name) (l .part) (a .parts) (a .tasks)
+  line-fit word = fit-kept (a .stage) (l .task .name) (l .part) (a .parts) (a .tasks) (by-word Word.Fit word)
+
+-- ---- room, by the count of an array that is full at 64
+
+module _ (count : ℕ) (list : List Task) (long : length list ≡ tasksMost) where
+  pub room-none : tasksMost ≤ count → room (take count list) ≡ false
+  room-none full = le-ltb (length (take count list)) tasksMost (omega (arith, length-take count list))
+
+  pub room-some : count < tasksMost → room (take count list) ≡ true
+  room-some less = lt-ltb (length (take count list)) tasksMost (omega (arith, length-take count list))
+
+-- ---- the times of a part
+
+times-none : (k : ℕ) (n : Name) (ts : List Task) → 1 ≤ k → placeOf k n ts ≡ 0 → partTimes n ts ≡ noTimes
+times-none k n [] pos none = refl
+times-none k n (t ∷ ts) pos none = by-test (sameName n (t .name)) (λ h. times-none (k + 1) n ts (omega arith) h) none
+  where
+    by-test : (b : Bool) → (placeOf (k + 1) n ts ≡ 0 → partTimes n ts ≡ noTimes) → cond b k (placeOf (k + 1) n ts) ≡ 0 → cond b (t .times) (partTimes n ts) ≡ noTimes
+    by-test true h e = absurd (omega arith)
+    by-test false h e = h e
+
+-- the place of a part, counted from k, and its times
+record At (k : ℕ) (n : Name) (ts : List Task) (p : ℕ) : Type 0 where
+  low : k ≤ p
+  high : p < k + length ts
+  times : (d : Task) → partTimes n ts ≡ getD ts (p - k) d .times
+
+times-some : (k : ℕ) (n : Name) (ts : List Task) → 1 ≤ k → (placeOf k n ts ≡ 0 → ⊥) → At k n ts (placeOf k n ts)
+times-some k n [] pos some = absurd (some refl)
+times-some k n (t ∷ ts) pos some = by-test (sameName n (t .name)) refl (λ h. times-some (k + 1) n ts (omega arith) h) some
+  where
+    by-test : (b : Bool) → sameName n (t .name) ≡ b → ((placeOf (k + 1) n ts ≡ 0 → ⊥) → At (k + 1) n ts (placeOf (k + 1) n ts))
+        → (cond b k (placeOf (k + 1) n ts) ≡ 0 → ⊥) → At k n (t ∷ ts) (cond b k (placeOf (k + 1) n ts))
+    by-test true e h s =
+        record { low = omega arith; high = omega arith; times = λ d. (let here : k - k ≡ 0 = omega arith in rw (here, e)) }
+    by-test false e h s =
+        let r = h s in
+        record {
+          low = omega (arith, r .low);
+          high = omega (arith, r .high);
+          times = λ d. (let on : placeOf (k + 1) n ts - k ≡ suc (placeOf (k + 1) n ts - (k + 1)) = omega (arith, r .low) in rw (on, e) (r .times d));
+        }
+
+-- the same in an array
+module _ (n : Name) (count : ℕ) (list : List Task) (long : length list ≡ tasksMost) (k : ℕ) (place : k ≡ placeOf 1 n (take count list)) where
+  pub times-absent : k ≡ 0 → partTimes n (take count list) ≡ noTimes
+  times-absent none = times-none 1 n (take count list) (omega arith) (sym place ∙ none)
+
+  module _ (some : k ≡ 0 → ⊥) where
+    found : At 1 n (take count list) k
+    found = rw place (times-some 1 n (take count list) (omega arith) (λ none. some (place ∙ none)))
+
+    pub times-inside : k - 1 < tasksMost
+    times-inside = omega (arith, found .low, found .high, length-take count list)
+
+    pub times-there : (d : Task) → partTimes n (take count list) ≡ getD list (k - 1) d .times
+    times-there d =
+        let low : k - 1 < count = omega (arith, found .low, found .high, length-take count list) in
+        found .times d ∙ ap (λ (t : Task). t .times) (getD-take count list (k - 1) d low)

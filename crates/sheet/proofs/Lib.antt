@@ -1,0 +1,8 @@
+-- Laws that belong to no one function.
+pub mod FaultLaws
+pub mod DraftLaws
+pub mod ReadLaws
+pub mod WholeLaws
+pub mod ArrowLaws
+pub mod RuleLaws
+pub mod Examples

@@ -1,0 +1,4 @@
+-- What the contracts of `sheet` cite.
+pub mod Sheet
+pub mod Held
+pub mod Fitted
