@@ -4,7 +4,7 @@ use mathlib.Core.Path.{_≡_}
 use mathlib.Core.Bool.{true, false}
 use borrow.Author.Tests.{eq-eqb, ne-eqb, le-leb, lt-leb}
 use lib.ListN.{length}
-use Rattle.task.proofs.TaskLaws.{length-mapped}
+use Rattle.demand.proofs.RunLaws.{length-mapped}
 use Rattle.sheet.specs.Sheet.{fitFault, free}
 use Rattle.sheet.specs.Held.{listOf}
 use Rattle.sheet.proofs.FaultLaws.{room-none, room-some}

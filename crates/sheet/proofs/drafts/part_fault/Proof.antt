@@ -6,7 +6,7 @@ use borrow.Author.Tests.{eq-eqb, ne-eqb, not-true, not-false}
 use lib.ListN.{length}
 use Rattle.demand.specs.Sizes.{sized}
 use Rattle.task.specs.Tasks.{wholePiece}
-use Rattle.task.proofs.TaskLaws.{length-mapped}
+use Rattle.demand.proofs.RunLaws.{length-mapped}
 use Rattle.sheet.specs.Sheet.{partFault, free}
 use Rattle.sheet.specs.Held.{listOf}
 use Rattle.sheet.proofs.FaultLaws.{room-none, room-some}

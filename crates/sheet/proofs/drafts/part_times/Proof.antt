@@ -4,7 +4,7 @@ use mathlib.Core.Path.{_≡_, sym, ap, _∙_}
 use native.Mathlib.Omega.{arith}
 use lib.ListN.{length}
 use Rattle.task.specs.Tasks.{past}
-use Rattle.task.proofs.TaskLaws.{length-mapped}
+use Rattle.demand.proofs.RunLaws.{length-mapped}
 use Rattle.lines.specs.declared.Line.{Line}
 use Rattle.sheet.proofs.FaultLaws.{times-absent, times-inside, times-there}
 use borrow.Author.Needs.{needs}
