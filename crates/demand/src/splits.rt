@@ -1,6 +1,6 @@
-// The greatest split of a task: from the greatest multiple of the grain below its budget down. A smaller budget can be refused where a greater
-// one is allowed, so nothing is bisected (document 01, "Errors that look right"). The core lies in one array, the last piece alone in
-// another; each candidate writes one lane of each.
+// The greatest split of a task: from a top that none is allowed above, down over the multiples of the grain, as far at a time as each tells. A smaller
+// budget can be refused where a greater one is allowed, so nothing is bisected (document 01, "Errors that look right"). The core lies in
+// one array, the last piece alone in another; each candidate writes one lane of each.
 use crate::Costs;
 use crate::Found;
 use crate::Kind;
