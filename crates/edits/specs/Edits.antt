@@ -1,0 +1,103 @@
+-- Edits on a held plan: document 01, "Edits on a held plan" and "Refusal numbers".
+--
+--   Edit                 a task to add, a name to withdraw, a name to retime
+--   tasksIn s            the tasks that the state s holds
+--   editFault e ts       what is wrong with the edit e of the tasks ts before any walk: 8, then 3, then 4 or 5, then 6; or 0
+--   edited e ts          the tasks after it: one more at the end, one less, or one with other times in its place
+--   editOf e s           the answer: the state's own faults first, then the edit's, then 7; each gives the state back; else the new plan
+--   Held s               a held plan: exactly what the walk over its own machine, costs and task list gives
+--   played es s          the state after the edits es, refusals among them
+use mathlib.Core.Path.{_≡_}
+use mathlib.Core.Bool.{Bool, cond, not}
+use mathlib.Core.List.{List, [], _∷_, _++_}
+use Prim.Native.Nat.{ℕ, zero, suc}
+use lib.Dec.{eqb, ltb}
+use lib.ListN.{take, length}
+use Rattle.demand.specs.Sizes.{sized}
+use Rattle.task.specs.declared.Name.{Name}
+use Rattle.task.specs.declared.Task.{Task}
+use Rattle.task.specs.Names.{formed, sameName}
+use Rattle.task.specs.Tasks.{tasksMost, wholePiece, placeOf, rule, stateFault}
+use Rattle.plan.specs.declared.Plan.{Plan}
+use Rattle.plan.specs.declared.Reply.{Reply}
+use Rattle.plan.specs.Plan.{planOf}
+
+pub data Edit : Type 0 where
+  add : Task → Edit
+  withdraw : Name → Edit
+  retime : Task → Edit
+
+abbrev pub tasksIn : Plan → List Task
+tasksIn s = take (s .tasks .count) (s .tasks .list)
+
+-- ---- what is wrong with an edit
+
+-- one of them has that name
+abbrev pub named : Name → List Task → Bool
+named n ts = not (eqb (placeOf 1 n ts) 0)
+
+unfoldable pub editFault : Edit → List Task → ℕ
+editFault (add t) ts =
+    rule (formed (t .name)) 8
+    (rule (sized (wholePiece (t .times))) 3
+    (rule (not (named (t .name) ts)) 4
+    (rule (ltb (length ts) tasksMost) 6
+    0)))
+editFault (withdraw n) ts =
+    rule (formed n) 8
+    (rule (named n ts) 5
+    0)
+editFault (retime t) ts =
+    rule (formed (t .name)) 8
+    (rule (sized (wholePiece (t .times))) 3
+    (rule (named (t .name) ts) 5
+    0))
+
+-- ---- the tasks after it
+
+abbrev pub without : Name → List Task → List Task
+without n [] = []
+without n (t ∷ ts) = cond (sameName n (t .name)) ts (t ∷ without n ts)
+
+abbrev pub replaced : Task → List Task → List Task
+replaced a [] = []
+replaced a (t ∷ ts) = cond (sameName (a .name) (t .name)) (a ∷ ts) (t ∷ replaced a ts)
+
+abbrev pub edited : Edit → List Task → List Task
+edited (add t) ts = ts ++ (t ∷ [])
+edited (withdraw n) ts = without n ts
+edited (retime t) ts = replaced t ts
+
+-- ---- the answer
+
+-- a refusal gives the state back
+abbrev pub givenBack : Plan → ℕ → ℕ → Reply
+givenBack s n k = record { number = n; carries = k; plan = s }
+
+abbrev pub unless : ℕ → Plan → Reply → Reply
+unless zero s r = r
+unless (suc n) s r = givenBack s (suc n) 0
+
+abbrev pub settled : Plan → Reply → Reply
+settled s r = cond (eqb (r .number) 0) r (givenBack s (r .number) (r .carries))
+
+abbrev pub replanned : Plan → List Task → Reply
+replanned s ts = settled s (planOf (s .machine) (s .costs) (length ts) ts)
+
+unfoldable pub editOf : Edit → Plan → Reply
+editOf e s =
+    unless (stateFault (s .machine) (s .costs) (s .tasks .count) (s .tasks .list)) s
+    (unless (editFault e (tasksIn s)) s
+    (replanned s (edited e (tasksIn s))))
+
+-- ---- held plans
+
+abbrev pub accepted : Plan → Reply
+accepted s = record { number = 0; carries = 0; plan = s }
+
+unfoldable pub Held : Plan → Type 0
+Held s = planOf (s .machine) (s .costs) (s .tasks .count) (s .tasks .list) ≡ accepted s
+
+abbrev pub played : List Edit → Plan → Plan
+played [] s = s
+played (e ∷ es) s = played es (editOf e s .plan)

@@ -1,0 +1,3 @@
+-- What the contracts of `edits` cite; then what demand 3 speaks of.
+pub mod Edits
+pub mod Kept
