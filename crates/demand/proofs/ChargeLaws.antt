@@ -4,6 +4,10 @@
 --   by-kind-le               a bound of the three is one of the kind's
 --   charged-recurs, -ranged  what the laws of demand and the code ask of a charged piece
 --   sized-countable          a record within the sizes can be charged
+--   charged-tells            its charged time, by what the two size tests tell
+--   charged-time-is          and within the sizes it is C'
+use mathlib.Core.Path.{_≡_, refl, sym, ap, _∙_}
+use mathlib.Core.Bool.{Bool, true, false, cond, _&&_}
 use mathlib.Core.List.{List}
 use Prim.Native.Nat.{ℕ, _+_, _≤_}
 use native.Mathlib.Omega.{arith}
@@ -12,9 +16,11 @@ use Rattle.demand.specs.declared.Kind.the-variants.{Whole, First, Last}
 use Rattle.demand.specs.declared.Piece.{Piece}
 use Rattle.demand.specs.declared.Costs.{Costs}
 use Rattle.demand.specs.declared.Charged.{Charged}
-use Rattle.demand.specs.Sizes.{SizedCosts, Sized, Countable, Ranged, Each}
+use Rattle.demand.specs.Sizes.{SizedCosts, Sized, Countable, Ranged, Tells, Each, sized}
 use Rattle.demand.specs.Charge.{byKind, charge, ipiCost, charged, coreOf}
+use Rattle.demand.specs.Answer.{chargedTime}
 use Rattle.demand.proofs.DemandLaws.{Recurs}
+use Rattle.demand.proofs.SizeLaws.{tells-sized, sized-is, sized-costs-is}
 use Rattle.demand.proofs.Sums.{each-map, each-imp}
 
 pub by-kind-le : (k : Kind) {w f l m : ℕ} → w ≤ m → f ≤ m → l ≤ m → byKind k w f l ≤ m
@@ -66,3 +72,16 @@ all-countable ps ok = each-imp Sized Countable sized-countable ps ok
 
 pub all-recurs : (qs : List Charged) → Each Ranged qs → Each Recurs qs
 all-recurs qs ok = each-imp Ranged Recurs ranged-recurs qs ok
+
+pub charged-tells : (c : Costs) (p : Piece) (a b : Bool) → Tells (SizedCosts c) a → Tells (Sized p) b → chargedTime c p ≡ cond (a && b) (charge c p) 0
+unfolding chargedTime
+charged-tells c p a b costs size = rw (sized-costs-is c a costs, sized-is p b size)
+
+pub charged-costs : (c : Costs) (p : Piece) → Tells (SizedCosts c) false → chargedTime c p ≡ 0
+charged-costs c p costs = by (sized p) (tells-sized p)
+  where
+    by : (b : Bool) → Tells (Sized p) b → chargedTime c p ≡ 0
+    by b size = charged-tells c p false b costs size
+
+pub charged-time-is : (c : Costs) (p : Piece) → SizedCosts c → Sized p → chargedTime c p ≡ charge c p
+charged-time-is c p costs size = charged-tells c p true true costs size

@@ -62,7 +62,7 @@ tells-bounds (b ∷ bs) = tells-both (Bounds bs) (b .0 ≤ b .1) (bounds bs) (le
 sized-bounds : Piece → List (ℕ × ℕ)
 sized-bounds p = (p .migrate, costMost) ∷ (p .preempt, costMost) ∷ (p .jitter, timeMost) ∷ (p .period, timeMost) ∷ (p .window, p .period) ∷ (p .budget, p .window) ∷ (1, p .budget) ∷ []
 
-tells-sized : (p : Piece) → Tells (Sized p) (sized p)
+pub tells-sized : (p : Piece) → Tells (Sized p) (sized p)
 unfolding sized sized-bounds
 tells-sized p =
     tells-as (Bounds (sized-bounds p)) (Sized p) (λ b. record { budget-some = omega arith; budget-fits = omega arith; window-fits = omega arith; period-fits = omega arith; jitter-fits = omega arith; preempt-fits = omega arith; migrate-fits = omega arith })

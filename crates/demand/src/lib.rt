@@ -11,6 +11,7 @@ mod spans;
 mod splits;
 mod starts;
 
+use charges::charge_of;
 use charges::stall_of;
 use demands::demand_at;
 use demands::largest_window;
@@ -25,7 +26,7 @@ use sizes::sized_piece;
 use spans::judge_core;
 use splits::greatest_split;
 ghost use mathlib.Core.Path.{_≡_};
-ghost use Rattle.demand.specs.Answer.{answerOf, busyFigure, demandFigure, tightFigure, splitOf};
+ghost use Rattle.demand.specs.Answer.{answerOf, chargedTime, busyFigure, demandFigure, tightFigure, splitOf};
 ghost use Rattle.demand.specs.Sizes.{sized, sizedCosts};
 ghost use Rattle.demand.specs.Split.{firstPiece, lastPiece};
 
@@ -146,6 +147,19 @@ pub fn costs_within(costs: Costs) -> bool
     ensures exact { λ r. ⌜ r ≡ sizedCosts costs ⌝ }
 {
     sized_costs(costs)
+}
+
+/// The charged time C' of a piece, or 0 where the costs or the piece are outside the sizes.
+pub fn charged_time(costs: Costs, piece: Piece) -> u64
+    ensures exact { λ r. ⌜ r ≡ chargedTime costs piece ⌝ }
+{
+    if !sized_costs(costs) {
+        return 0;
+    }
+    if !sized_piece(piece) {
+        return 0;
+    }
+    charge_of(costs, piece)
 }
 
 /// The first piece of a task that is given as its whole piece, with budget x and window w.

@@ -5,7 +5,9 @@ mod rows;
 mod walks;
 
 use demand::Costs;
+use demand::Piece;
 use layouts::empty;
+use layouts::piece_of;
 use orders::order_of;
 use rows::no_task;
 use rows::tidy;
@@ -14,7 +16,7 @@ use task::Tasks;
 use task::state_fault;
 use walks::walk_over;
 ghost use mathlib.Core.Path.{_≡_};
-ghost use Rattle.plan.specs.Layout.{tasksOn};
+ghost use Rattle.plan.specs.Layout.{tasksOn, pieceOf};
 ghost use Rattle.plan.specs.Plan.{planOf, refused};
 
 /// A piece as the plan keeps it: its task's place, from 0, its kind's number (0 whole, 1 first, 2 last), and its figures.
@@ -141,6 +143,13 @@ fn wide(n: u32) -> u64
     ensures { λ r. ⌜ r ≡ n ⌝ }
 {
     n as u64
+}
+
+/// A piece that the plan keeps, as the verdict sees it.
+pub fn stored_piece(stored: Stored) -> Piece
+    ensures exact { λ r. ⌜ r ≡ pieceOf stored ⌝ }
+{
+    piece_of(stored)
 }
 
 /// The number of tasks on a core, counted from 0: the ones of its word, and none past the sixteenth.

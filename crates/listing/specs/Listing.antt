@@ -1,0 +1,96 @@
+-- A plan's listing: document 01, "Sheet". It is said of any plan's struct, also of one that no walk gave: a number past an array's end finds
+-- the zeros that fill it, and a piece outside the sizes has no charged time. `proofs/Theorems.antt` has what it says of a plan that the walk gave.
+--
+--   Entry                 a piece's line: core, task, kind, budget, window, jitter, charged time
+--   spelling n            the bytes of a name
+--   rowPieces s q         the pieces on core q, from 0, in placement order
+--   entryOf p q s         the entry of the stored piece s on core q
+--   rowEntries p q        the entries of core q
+--   entriesOn p n         the entries of the first n cores: by core, then placement
+--   entries p             all entries
+--   entryLine e           the line of one
+--   entryLines es         the lines of all
+--   header p              the first line: tasks, pieces
+--   listingOf p           the listing
+use mathlib.Core.List.{List, [], _∷_, _++_, map}
+use Prim.Native.Nat.{ℕ, zero, suc, _+_, _*_}
+use lib.ListN.{take, drop, getD}
+use Rattle.demand.specs.declared.Kind.{Kind}
+use Rattle.demand.specs.declared.Kind.the-variants.{Whole, First, Last}
+use Rattle.demand.specs.Answer.{chargedTime}
+use Rattle.task.specs.declared.Name.{Name}
+use Rattle.task.specs.Tasks.{taskAt, tasksMost, coresMost}
+use Rattle.plan.specs.declared.Stored.{Stored}
+use Rattle.plan.specs.declared.Layout.{Layout}
+use Rattle.plan.specs.declared.Plan.{Plan}
+use Rattle.plan.specs.Layout.{kindOf, pieceOf, blank}
+use Rattle.lines.specs.Lines.{bytesOf, tab}
+use Rattle.listing.specs.Text.{ended, lineOf, decimal}
+
+pub record Entry : Type 0 where
+  pub core : ℕ
+  pub task : List ℕ
+  pub kind : Kind
+  pub budget : ℕ
+  pub window : ℕ
+  pub jitter : ℕ
+  pub charged : ℕ
+
+-- ---- what a plan has to list
+
+abbrev pub spelling : Name → List ℕ
+spelling n = take (n .len) (n .bytes)
+
+-- a core's row has 64 places
+unfoldable pub rowPieces : Layout → ℕ → List Stored
+rowPieces s q = map (λ i. getD (s .pieces) i blank) (take (getD (s .lens) q 0) (take tasksMost (drop (q * 64) (s .rows))))
+
+unfoldable pub entryOf : Plan → ℕ → Stored → Entry
+entryOf p q s = record {
+  core = q + 1;
+  task = spelling (taskAt (p .tasks .list) (s .task) .name);
+  kind = kindOf (s .kind);
+  budget = s .budget;
+  window = s .window;
+  jitter = s .jitter;
+  charged = chargedTime (p .costs) (pieceOf s);
+}
+
+abbrev pub rowEntries : Plan → ℕ → List Entry
+rowEntries p q = map (entryOf p q) (rowPieces (p .layout) q)
+
+abbrev pub entriesOn : Plan → ℕ → List Entry
+entriesOn p zero = []
+entriesOn p (suc q) = entriesOn p q ++ rowEntries p q
+
+abbrev pub entries : Plan → List Entry
+entries p = entriesOn p coresMost
+
+-- ---- how it is written
+
+abbrev pub kindWord : Kind → List ℕ
+kindWord Whole = bytesOf "whole"
+kindWord First = bytesOf "first"
+kindWord Last = bytesOf "last"
+
+-- the figures that end a piece's line
+abbrev pub figuresLine : (budget window jitter charged : ℕ) → List ℕ
+figuresLine b w j c = lineOf (decimal b ∷ decimal w ∷ decimal j ∷ decimal c ∷ [])
+
+unfoldable pub entryLine : Entry → List ℕ
+entryLine e =
+    ended tab (bytesOf "piece")
+    ++ (ended tab (decimal (e .core))
+    ++ (ended tab (e .task)
+    ++ (ended tab (kindWord (e .kind))
+    ++ figuresLine (e .budget) (e .window) (e .jitter) (e .charged))))
+
+abbrev pub entryLines : List Entry → List ℕ
+entryLines [] = []
+entryLines (e ∷ es) = entryLine e ++ entryLines es
+
+unfoldable pub header : Plan → List ℕ
+header p = lineOf (bytesOf "plan" ∷ decimal (p .tasks .count) ∷ decimal (p .layout .count) ∷ [])
+
+unfoldable pub listingOf : Plan → List ℕ
+listingOf p = header p ++ entryLines (entries p)
