@@ -5,7 +5,7 @@
 --   removed i ts       ts without the one at place i, from 0
 use mathlib.Core.Path.{_≡_}
 use mathlib.Core.List.{List, _++_}
-use Prim.Native.Nat.{ℕ, _+_}
+use Prim.Native.Nat.{ℕ, suc}
 use lib.ListN.{take, drop, length}
 use Rattle.task.specs.declared.Task.{Task}
 use Rattle.task.specs.declared.Tasks.{Tasks}
@@ -18,4 +18,4 @@ pub record Lists (q : Tasks) (ts : List Task) : Type 0 where
   pub items : listed q ≡ ts
 
 abbrev pub removed : ℕ → List Task → List Task
-removed i ts = take i ts ++ drop (i + 1) ts
+removed i ts = take i ts ++ drop (suc i) ts
