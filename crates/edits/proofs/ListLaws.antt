@@ -2,8 +2,8 @@
 -- Assumes nothing.
 --
 --   room-none, room-some           whether one more has room, by the count
---   Found, place-found             what is at the place of a name: which list has it no more, and which has another there
---   found-low, found-high          that place lies below the count
+--   Found, place-from              the place of a name: which list has it no more, and which has another there
+--   place-some, place-low          that place in an array, from 1, and below the count
 --   lists-more                     the list with one more at the end
 --   lists-put                      the list with a task in the place of the one of its name
 --   remove-none, remove-more       the list without its place i, one place further
@@ -37,10 +37,10 @@ module _ (q : Tasks) (long : length (q .list) ≡ tasksMost) where
 
 -- ---- the place of a name, from 0, in a list that has it
 
-pub record Found (n : Name) (ts : List Task) (i : ℕ) : Type 0 where
-  pub inside : i < length ts
-  pub less : without n ts ≡ removed i ts
-  pub put : (a : Task) → a .name ≡ n → replaced a ts ≡ set ts i a
+record Found (n : Name) (ts : List Task) (i : ℕ) : Type 0 where
+  inside : i < length ts
+  less : without n ts ≡ removed i ts
+  put : (a : Task) → a .name ≡ n → replaced a ts ≡ set ts i a
 
 -- counted from k
 record From (k : ℕ) (n : Name) (ts : List Task) (p : ℕ) : Type 0 where
@@ -71,9 +71,6 @@ place-from k n (t ∷ ts) pos some = by-test (sameName n (t .name)) refl (λ h. 
           });
         }
 
-pub place-found : (n : Name) (ts : List Task) (k : ℕ) → k ≡ placeOf 1 n ts → (k ≡ 0 → ⊥) → Found n ts (k - 1)
-place-found n ts k place some = rw place (place-from 1 n ts (omega arith) (λ none. some (place ∙ none)) .found)
-
 -- ---- one more, and one in the place of another
 
 module _ (q : Tasks) (long : length (q .list) ≡ tasksMost) (few : q .count ≤ tasksMost) where
@@ -86,9 +83,15 @@ module _ (q : Tasks) (long : length (q .list) ≡ tasksMost) (few : q .count ≤
     items = rw (add-one, take-suc-set (q .list) (q .count) t (omega arith));
   }
 
-  module _ (n : Name) (k : ℕ) (place : k ≡ placeOf 1 n (listed q)) (some : k ≡ 0 → ⊥) where
+  module _ (n : Name) (k : ℕ) (place : k ≡ placeOf 1 n (listed q)) (some : placeOf 1 n (listed q) ≡ 0 → ⊥) where
+    there : From 1 n (listed q) k
+    there = rw place (place-from 1 n (listed q) (omega arith) some)
+
     found : Found n (listed q) (k - 1)
-    found = place-found n (listed q) k place some
+    found = there .found
+
+    pub place-some : 1 ≤ k
+    place-some = there .low
 
     pub place-low : k - 1 < q .count
     place-low = omega (arith, found .inside, whole)

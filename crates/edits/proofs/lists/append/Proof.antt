@@ -1,24 +1,31 @@
+-- `lists::append` meets its contract: an edit without a fault finds room.
+-- Assumes nothing.
+use mathlib.Core.Path.{_≡_}
+use lib.ListN.{length}
+use Rattle.demand.proofs.RunLaws.{length-mapped}
+use Rattle.edits.proofs.ListLaws.{lists-more}
+use Rattle.edits.proofs.EditLaws.{add-less}
 use borrow.Author.Needs.{needs}
 use Rattle.edits.proofs.lists.append.Statement.{statement}
 use Rattle.edits.proofs.lists.append.Tie as tie
-use Rattle.edits.proofs.lists.append.Reads as reads
-use Rattle.edits.proofs.lists.append.Lts as lts
 
--- src/lists.rt:72:5
 mul-task : tie.Need-mul-task
 mul-task c = search needs
 
--- src/lists.rt:72:5
 element-set-from-task : tie.Need-element-set-from-task
-element-set-from-task c = ?
+element-set-from-task c =
+    let s = c .args in
+    let long : length (s .tasks .list) ≡ 64 = search (needs, length-mapped) in
+    add-less (s .tasks) long (c .pre .0) (s .task) (c .pre .1)
 
--- src/lists.rt:73:18
 add-next : tie.Need-add-next
 add-next c = search needs
 
--- src/lists.rt:66:1
 returns : tie.Need-returns
-returns c = ?
+returns c =
+    let s = c .args in
+    let long : length (s .tasks .list) ≡ 64 = search (needs, length-mapped) in
+    lists-more (s .tasks) long (c .pre .0) (s .task) (add-less (s .tasks) long (c .pre .0) (s .task) (c .pre .1))
 
 pub append-spec : {M : Type 1} → statement M
 append-spec = tie.close (tie.spec mul-task element-set-from-task add-next returns)

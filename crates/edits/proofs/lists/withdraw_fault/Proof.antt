@@ -1,30 +1,36 @@
+-- `lists::withdraw_fault` meets its contract: the rules in their order.
+-- Assumes nothing.
+use Rattle.task.specs.Names.{formed}
+use Rattle.edits.specs.Edits.{editFault}
+use Rattle.edits.specs.Listed.{listed}
+use Rattle.edits.proofs.EditLaws.{told-no, told-yes, found-no, found-yes}
 use borrow.Author.Needs.{needs}
 use Rattle.edits.proofs.lists.withdraw_fault.Statement.{statement}
 use Rattle.edits.proofs.lists.withdraw_fault.Tie as tie
-use Rattle.edits.proofs.lists.withdraw_fault.Reads as reads
-use Rattle.edits.proofs.lists.withdraw_fault.Lts as lts
-use Rattle.task.proofs.place_of.Reads as place-of-reads
-use Rattle.task.proofs.well_formed.Reads as well-formed-reads
 
--- src/lists.rt:38:9
 well-formed-requires : tie.Need-well-formed-requires
 well-formed-requires c κs = search needs
 
--- src/lists.rt:39:9
 returns : tie.Need-returns
-returns c = ?
+unfolding editFault
+returns c =
+    let s = c .before .before .args in
+    rw (told-no (c .before .well-formed .result) (formed (s .name)) (c .before .well-formed .ensures) (c .if1 .taken))
 
--- src/lists.rt:41:8
 place-of-requires : tie.Need-place-of-requires
 place-of-requires c κs = search needs
 
--- src/lists.rt:42:9
 returns-2 : tie.Need-returns-2
-returns-2 c = ?
+unfolding editFault
+returns-2 c =
+    let s = c .before .before .before .before .args in
+    rw (told-yes (c .before .before .before .well-formed .result) (formed (s .name)) (c .before .before .before .well-formed .ensures) (c .before .before .if1 .left), found-no (s .name) (listed (s .tasks)) (c .before .place-of .result) (c .before .place-of .ensures) (c .if2 .taken))
 
--- src/lists.rt:35:1
 returns-3 : tie.Need-returns-3
-returns-3 c = ?
+unfolding editFault
+returns-3 c =
+    let s = c .before .before .before .before .args in
+    rw (told-yes (c .before .before .before .well-formed .result) (formed (s .name)) (c .before .before .before .well-formed .ensures) (c .before .before .if1 .left), found-yes (s .name) (listed (s .tasks)) (c .before .place-of .result) (c .before .place-of .ensures) (c .if2 .left))
 
 pub withdraw-fault-spec : {M : Type 1} → statement M
 withdraw-fault-spec =
