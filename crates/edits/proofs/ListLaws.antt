@@ -126,11 +126,11 @@ module _ (l : List Task) (i : ℕ) where
           ∙ sym (append-assoc (take i front) (drop (suc i) front) (a ∷ [])) in
       ap (λ (m : ℕ). take m (set next j a)) (add-one j) ∙ take-suc-set next j a space ∙ ap (λ (x : List Task). x ++ (a ∷ [])) so ∙ sym goal ∙ ap (removed i) (sym one)
 
-pub lists-removed : (q : Tasks) (i last : ℕ) (next : List Task) → length (q .list) ≡ tasksMost → q .count ≤ tasksMost → i < q .count → last + 1 ≡ q .count → take last next ≡ removed i (take (last + 1) (q .list))
-    → Lists (record { count = last; list = next }) (removed i (listed q))
-lists-removed q i last next long few low end so =
-    let size : length (listed q) ≡ q .count = whole q long few in
+pub lists-removed : (q : Tasks) (i j last : ℕ) (next : List Task) → length (q .list) ≡ tasksMost → q .count ≤ tasksMost → i < q .count → j ≡ last → last + 1 ≡ q .count
+    → take j next ≡ removed i (take (j + 1) (q .list)) → Lists (record { count = last; list = next }) (removed i (listed q))
+lists-removed q i j last next long few low there end so =
+    let all : j + 1 ≡ q .count = omega arith in
     record {
-      count = omega (arith, length-append (take i (listed q)) (drop (suc i) (listed q)), length-take i (listed q), length-drop (suc i) (listed q));
-      items = so ∙ ap (λ (n : ℕ). removed i (take n (q .list))) end;
+      count = omega (arith, whole q long few, length-append (take i (listed q)) (drop (suc i) (listed q)), length-take i (listed q), length-drop (suc i) (listed q));
+      items = ap (λ (n : ℕ). take n next) (sym there) ∙ so ∙ ap (λ (n : ℕ). removed i (take n (q .list))) all;
     }

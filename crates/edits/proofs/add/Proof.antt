@@ -1,49 +1,47 @@
+-- `add` meets its contract: the state's fault, the edit's, or the plan of the new list.
+-- Assumes nothing.
+use mathlib.Core.Path.{sym, _∙_}
+use Rattle.task.proofs.TaskLaws.{state-sane}
+use Rattle.edits.specs.Edits.{add}
+use Rattle.edits.proofs.EditLaws.{edit-state, edit-own, edit-made}
 use borrow.Author.Needs.{needs}
 use Rattle.edits.proofs.add.Statement.{statement}
 use Rattle.edits.proofs.add.Tie as tie
-use Rattle.edits.proofs.add.Reads as reads
-use Rattle.edits.proofs.add.Lts as lts
-use Rattle.edits.proofs.give_back.Reads as give-back-reads
-use Rattle.edits.proofs.lists.add_fault.Reads as add-fault-reads
-use Rattle.edits.proofs.lists.append.Reads as append-reads
-use Rattle.edits.proofs.replan.Reads as replan-reads
-use Rattle.task.proofs.state_fault.Reads as state-fault-reads
 
--- src/lib.rt:56:9
 state-fault-requires : tie.Need-state-fault-requires
 state-fault-requires c κs = search needs
 
--- src/lib.rt:58:9
 give-back-requires : tie.Need-give-back-requires
 give-back-requires c κs = search needs
 
--- src/lib.rt:58:9
 returns : tie.Need-returns
-returns c = ?
+returns c =
+    let s = c .before .before .before .before .before .before .args in
+    c .give-back .ensures ∙ edit-state (add (record { name = s .name; times = s .times })) (s .state) (c .before .before .state-fault .result) (c .before .before .state-fault .ensures) (c .before .if1 .taken)
 
--- src/lib.rt:61:9
 add-fault-requires : tie.Need-add-fault-requires
 add-fault-requires c κs = search needs
 
--- src/lib.rt:63:9
 give-back-requires-2 : tie.Need-give-back-requires-2
 give-back-requires-2 c κs = search needs
 
--- src/lib.rt:63:9
 returns-2 : tie.Need-returns-2
-returns-2 c = ?
+returns-2 c =
+    let s = c .before .before .before .before .before .before .before .before .args in
+    c .give-back2 .ensures ∙ edit-own (add (record { name = s .name; times = s .times })) (s .state) (sym (c .before .before .before .before .state-fault .ensures) ∙ c .before .before .before .if1 .left) (c .before .before .add-fault .result) (c .before .before .add-fault .ensures) (c .before .if2 .taken)
 
--- src/lib.rt:65:9
 append-requires : tie.Need-append-requires
-append-requires c κs = ?
+append-requires c κs =
+    let s = c .before .before .before .before .before .before .before .args in
+    (state-sane (s .state .machine) (s .state .costs) (s .state .tasks .count) (s .state .tasks .list) (sym (c .before .before .before .state-fault .ensures) ∙ c .before .before .if1 .left) .few, sym (c .before .add-fault .ensures) ∙ c .if2 .left)
 
--- src/lib.rt:66:5
 replan-requires : tie.Need-replan-requires
 replan-requires c κs = search needs
 
--- src/lib.rt:50:1
 returns-3 : tie.Need-returns-3
-returns-3 c = ?
+returns-3 c =
+    let s = c .before .before .before .before .before .before .before .before .before .args in
+    c .replan .ensures ∙ edit-made (add (record { name = s .name; times = s .times })) (s .state) (sym (c .before .before .before .before .before .state-fault .ensures) ∙ c .before .before .before .before .if1 .left) (sym (c .before .before .before .add-fault .ensures) ∙ c .before .before .if2 .left) (c .before .append .result) (c .before .append .ensures)
 
 pub add-spec : {M : Type 1} → statement M
 add-spec =

@@ -1,48 +1,47 @@
+-- `withdraw` meets its contract: the state's fault, the edit's, or the plan of the new list.
+-- Assumes nothing.
+use mathlib.Core.Path.{sym, _∙_}
+use Rattle.task.proofs.TaskLaws.{state-sane}
+use Rattle.edits.specs.Edits.{withdraw}
+use Rattle.edits.proofs.EditLaws.{edit-state, edit-own, edit-made}
+use borrow.Author.Needs.{needs}
 use Rattle.edits.proofs.withdraw.Statement.{statement}
 use Rattle.edits.proofs.withdraw.Tie as tie
-use Rattle.edits.proofs.withdraw.Reads as reads
-use Rattle.edits.proofs.withdraw.Lts as lts
-use Rattle.edits.proofs.give_back.Reads as give-back-reads
-use Rattle.edits.proofs.lists.remove.Reads as remove-reads
-use Rattle.edits.proofs.lists.withdraw_fault.Reads as withdraw-fault-reads
-use Rattle.edits.proofs.replan.Reads as replan-reads
-use Rattle.task.proofs.state_fault.Reads as state-fault-reads
 
--- src/lib.rt:76:9
 state-fault-requires : tie.Need-state-fault-requires
-state-fault-requires c κs = ?
+state-fault-requires c κs = search needs
 
--- src/lib.rt:78:9
 give-back-requires : tie.Need-give-back-requires
-give-back-requires c κs = ?
+give-back-requires c κs = search needs
 
--- src/lib.rt:78:9
 returns : tie.Need-returns
-returns c = ?
+returns c =
+    let s = c .before .before .before .before .before .before .args in
+    c .give-back .ensures ∙ edit-state (withdraw (s .name)) (s .state) (c .before .before .state-fault .result) (c .before .before .state-fault .ensures) (c .before .if1 .taken)
 
--- src/lib.rt:80:9
 withdraw-fault-requires : tie.Need-withdraw-fault-requires
-withdraw-fault-requires c κs = ?
+withdraw-fault-requires c κs = search needs
 
--- src/lib.rt:82:9
 give-back-requires-2 : tie.Need-give-back-requires-2
-give-back-requires-2 c κs = ?
+give-back-requires-2 c κs = search needs
 
--- src/lib.rt:82:9
 returns-2 : tie.Need-returns-2
-returns-2 c = ?
+returns-2 c =
+    let s = c .before .before .before .before .before .before .before .before .args in
+    c .give-back2 .ensures ∙ edit-own (withdraw (s .name)) (s .state) (sym (c .before .before .before .before .state-fault .ensures) ∙ c .before .before .before .if1 .left) (c .before .before .withdraw-fault .result) (c .before .before .withdraw-fault .ensures) (c .before .if2 .taken)
 
--- src/lib.rt:84:9
 remove-requires : tie.Need-remove-requires
-remove-requires c κs = ?
+remove-requires c κs =
+    let s = c .before .before .before .before .before .before .before .args in
+    (state-sane (s .state .machine) (s .state .costs) (s .state .tasks .count) (s .state .tasks .list) (sym (c .before .before .before .state-fault .ensures) ∙ c .before .before .if1 .left) .few, sym (c .before .withdraw-fault .ensures) ∙ c .if2 .left)
 
--- src/lib.rt:85:5
 replan-requires : tie.Need-replan-requires
-replan-requires c κs = ?
+replan-requires c κs = search needs
 
--- src/lib.rt:70:1
 returns-3 : tie.Need-returns-3
-returns-3 c = ?
+returns-3 c =
+    let s = c .before .before .before .before .before .before .before .before .before .args in
+    c .replan .ensures ∙ edit-made (withdraw (s .name)) (s .state) (sym (c .before .before .before .before .before .state-fault .ensures) ∙ c .before .before .before .before .if1 .left) (sym (c .before .before .before .withdraw-fault .ensures) ∙ c .before .before .if2 .left) (c .before .remove .result) (c .before .remove .ensures)
 
 pub withdraw-spec : {M : Type 1} → statement M
 withdraw-spec =
