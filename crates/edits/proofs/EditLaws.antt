@@ -13,7 +13,7 @@ use Prim.Native.Nat.{ℕ, zero, suc, _<_, _≤_}
 use native.Mathlib.Omega.{arith}
 use borrow.Author.Tests.{eqb-false, ltb-true, eq-eqb, ne-eqb, not-true, not-false}
 use lib.Dec.{eqb, ltb}
-use lib.ListN.{length, take, length-take}
+use lib.ListN.{length, length-take}
 use lib.Seq.{take-length}
 use Rattle.demand.specs.declared.Costs.{Costs}
 use Rattle.demand.specs.Sizes.{sized}
@@ -27,8 +27,8 @@ use Rattle.task.specs.Names.{formed}
 use Rattle.task.specs.Tasks.{tasksMost, wholePiece, placeOf, rule, stateFault}
 use Rattle.plan.specs.declared.Plan.{Plan}
 use Rattle.plan.specs.declared.Reply.{Reply}
-use Rattle.plan.specs.Plan.{planOf, walked, finished}
-use Rattle.edits.specs.Edits.{Edit, add, withdraw, retime, tasksIn, named, editFault, edited, givenBack, settled, replanned, editOf}
+use Rattle.plan.specs.Plan.{planOf}
+use Rattle.edits.specs.Edits.{Edit, add, withdraw, retime, tasksIn, named, editFault, edited, givenBack, settled, editOf}
 use Rattle.edits.specs.Listed.{listed, Lists}
 
 -- ---- a rule, by the answer of the code

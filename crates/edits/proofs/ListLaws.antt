@@ -11,7 +11,7 @@
 use mathlib.Core.Path.{_≡_, refl, sym, ap, _∙_}
 use mathlib.Core.Bool.{Bool, true, false, cond}
 use mathlib.Core.List.{List, [], _∷_, _++_, append-assoc, append-nil}
-use Prim.Native.Nat.{ℕ, zero, suc, _+_, _-_, _≤_, _<_}
+use Prim.Native.Nat.{ℕ, suc, _+_, _-_, _≤_, _<_}
 use native.Mathlib.Numerals.{add-one}
 use native.Mathlib.Omega.{arith}
 use borrow.Author.Tests.{lt-ltb, le-ltb}
@@ -107,6 +107,12 @@ module _ (q : Tasks) (long : length (q .list) ≡ tasksMost) (few : q .count ≤
 
 -- ---- one less: what stands behind place i moves up, j of them so far
 
+removed-snoc : (i : ℕ) (l : List Task) (a : Task) → i < length l → removed i (l ++ (a ∷ [])) ≡ removed i l ++ (a ∷ [])
+removed-snoc i l a low =
+    ap (λ (x : List Task). x ++ drop (suc i) (l ++ (a ∷ []))) (take-append-le i l (a ∷ []) (omega arith))
+    ∙ ap (λ (x : List Task). take i l ++ x) (drop-append-le (suc i) l (a ∷ []) low)
+    ∙ sym (append-assoc (take i l) (drop (suc i) l) (a ∷ []))
+
 module _ (l : List Task) (i : ℕ) where
   pub remove-none : i < length l → take i l ≡ removed i (take (i + 1) l)
   remove-none room =
@@ -120,11 +126,7 @@ module _ (l : List Task) (i : ℕ) where
       let front = take (j + 1) l in
       let size : length front ≡ j + 1 = length-take-le (j + 1) l (omega arith) in
       let one : take (j + 1 + 1) l ≡ front ++ (a ∷ []) = rw add-one (take-suc l (j + 1) d room) in
-      let goal : removed i (front ++ (a ∷ [])) ≡ removed i front ++ (a ∷ []) =
-          ap (λ (x : List Task). x ++ drop (suc i) (front ++ (a ∷ []))) (take-append-le i front (a ∷ []) (omega arith))
-          ∙ ap (λ (x : List Task). take i front ++ x) (drop-append-le (suc i) front (a ∷ []) (omega arith))
-          ∙ sym (append-assoc (take i front) (drop (suc i) front) (a ∷ [])) in
-      ap (λ (m : ℕ). take m (set next j a)) (add-one j) ∙ take-suc-set next j a space ∙ ap (λ (x : List Task). x ++ (a ∷ [])) so ∙ sym goal ∙ ap (removed i) (sym one)
+      ap (λ (m : ℕ). take m (set next j a)) (add-one j) ∙ take-suc-set next j a space ∙ ap (λ (x : List Task). x ++ (a ∷ [])) so ∙ sym (removed-snoc i front a (omega arith)) ∙ ap (removed i) (sym one)
 
 pub lists-removed : (q : Tasks) (i j last : ℕ) (next : List Task) → length (q .list) ≡ tasksMost → q .count ≤ tasksMost → i < q .count → j ≡ last → last + 1 ≡ q .count
     → take j next ≡ removed i (take (j + 1) (q .list)) → Lists (record { count = last; list = next }) (removed i (listed q))
