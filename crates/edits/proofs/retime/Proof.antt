@@ -1,0 +1,60 @@
+-- `retime` meets its contract: the state's fault, the edit's, or the plan of the new list.
+-- Assumes nothing.
+use mathlib.Core.Path.{_≡_, sym, _∙_}
+use Rattle.task.specs.Tasks.{stateFault}
+use Rattle.task.proofs.TaskLaws.{state-sane}
+use Rattle.edits.specs.Edits.{retime, tasksIn, editFault}
+use Rattle.edits.proofs.EditLaws.{edit-state, edit-own, edit-made}
+use borrow.Author.Needs.{needs}
+use Rattle.edits.proofs.retime.Statement.{statement}
+use Rattle.edits.proofs.retime.Tie as tie
+
+-- no fault of the state, and none of the edit, told where they were tried
+sound : (c : tie.Else1) → stateFault (c .before .before .before .before .before .args .state .machine) (c .before .before .before .before .before .args .state .costs) (c .before .before .before .before .before .args .state .tasks .count) (c .before .before .before .before .before .args .state .tasks .list) ≡ 0
+sound c = sym (c .before .state-fault .ensures) ∙ c .if1 .left
+
+right : (c : tie.Else2) → editFault (retime (record { name = c .before .before .before .before .before .before .before .args .name; times = c .before .before .before .before .before .before .before .args .times })) (tasksIn (c .before .before .before .before .before .before .before .args .state)) ≡ 0
+right c = sym (c .before .retime-fault .ensures) ∙ c .if2 .left
+
+state-fault-requires : tie.Need-state-fault-requires
+state-fault-requires c κs = search needs
+
+give-back-requires : tie.Need-give-back-requires
+give-back-requires c κs = search needs
+
+returns : tie.Need-returns
+returns c = c .give-back .ensures ∙ edit-state (retime (record { name = c .before .before .before .before .before .before .args .name; times = c .before .before .before .before .before .before .args .times })) (c .before .before .before .before .before .before .args .state) (c .before .before .state-fault .result) (c .before .before .state-fault .ensures) (c .before .if1 .taken)
+
+retime-fault-requires : tie.Need-retime-fault-requires
+retime-fault-requires c κs = search needs
+
+give-back-requires-2 : tie.Need-give-back-requires-2
+give-back-requires-2 c κs = search needs
+
+returns-2 : tie.Need-returns-2
+returns-2 c = c .give-back2 .ensures ∙ edit-own (retime (record { name = c .before .before .before .before .before .before .before .before .args .name; times = c .before .before .before .before .before .before .before .before .args .times })) (c .before .before .before .before .before .before .before .before .args .state) (sound (c .before .before .before)) (c .before .before .retime-fault .result) (c .before .before .retime-fault .ensures) (c .before .if2 .taken)
+
+replace-requires : tie.Need-replace-requires
+replace-requires c κs =
+    let s = c .before .before .before .before .before .before .before .args .state in
+    (state-sane (s .machine) (s .costs) (s .tasks .count) (s .tasks .list) (sound (c .before .before)) .few, right c)
+
+replan-requires : tie.Need-replan-requires
+replan-requires c κs = search needs
+
+returns-3 : tie.Need-returns-3
+returns-3 c = c .replan .ensures ∙ edit-made (retime (record { name = c .before .before .before .before .before .before .before .before .before .args .name; times = c .before .before .before .before .before .before .before .before .before .args .times })) (c .before .before .before .before .before .before .before .before .before .args .state) (sound (c .before .before .before .before)) (right (c .before .before)) (c .before .replace .result) (c .before .replace .ensures)
+
+pub retime-spec : {M : Type 1} → statement M
+retime-spec =
+    tie.close
+    (tie.spec
+    state-fault-requires
+    give-back-requires
+    returns
+    retime-fault-requires
+    give-back-requires-2
+    returns-2
+    replace-requires
+    replan-requires
+    returns-3)

@@ -1,0 +1,60 @@
+-- `withdraw` meets its contract: the state's fault, the edit's, or the plan of the new list.
+-- Assumes nothing.
+use mathlib.Core.Path.{_≡_, sym, _∙_}
+use Rattle.task.specs.Tasks.{stateFault}
+use Rattle.task.proofs.TaskLaws.{state-sane}
+use Rattle.edits.specs.Edits.{withdraw, tasksIn, editFault}
+use Rattle.edits.proofs.EditLaws.{edit-state, edit-own, edit-made}
+use borrow.Author.Needs.{needs}
+use Rattle.edits.proofs.withdraw.Statement.{statement}
+use Rattle.edits.proofs.withdraw.Tie as tie
+
+-- no fault of the state, and none of the edit, told where they were tried
+sound : (c : tie.Else1) → stateFault (c .before .before .before .before .before .args .state .machine) (c .before .before .before .before .before .args .state .costs) (c .before .before .before .before .before .args .state .tasks .count) (c .before .before .before .before .before .args .state .tasks .list) ≡ 0
+sound c = sym (c .before .state-fault .ensures) ∙ c .if1 .left
+
+right : (c : tie.Else2) → editFault (withdraw (c .before .before .before .before .before .before .before .args .name)) (tasksIn (c .before .before .before .before .before .before .before .args .state)) ≡ 0
+right c = sym (c .before .withdraw-fault .ensures) ∙ c .if2 .left
+
+state-fault-requires : tie.Need-state-fault-requires
+state-fault-requires c κs = search needs
+
+give-back-requires : tie.Need-give-back-requires
+give-back-requires c κs = search needs
+
+returns : tie.Need-returns
+returns c = c .give-back .ensures ∙ edit-state (withdraw (c .before .before .before .before .before .before .args .name)) (c .before .before .before .before .before .before .args .state) (c .before .before .state-fault .result) (c .before .before .state-fault .ensures) (c .before .if1 .taken)
+
+withdraw-fault-requires : tie.Need-withdraw-fault-requires
+withdraw-fault-requires c κs = search needs
+
+give-back-requires-2 : tie.Need-give-back-requires-2
+give-back-requires-2 c κs = search needs
+
+returns-2 : tie.Need-returns-2
+returns-2 c = c .give-back2 .ensures ∙ edit-own (withdraw (c .before .before .before .before .before .before .before .before .args .name)) (c .before .before .before .before .before .before .before .before .args .state) (sound (c .before .before .before)) (c .before .before .withdraw-fault .result) (c .before .before .withdraw-fault .ensures) (c .before .if2 .taken)
+
+remove-requires : tie.Need-remove-requires
+remove-requires c κs =
+    let s = c .before .before .before .before .before .before .before .args .state in
+    (state-sane (s .machine) (s .costs) (s .tasks .count) (s .tasks .list) (sound (c .before .before)) .few, right c)
+
+replan-requires : tie.Need-replan-requires
+replan-requires c κs = search needs
+
+returns-3 : tie.Need-returns-3
+returns-3 c = c .replan .ensures ∙ edit-made (withdraw (c .before .before .before .before .before .before .before .before .before .args .name)) (c .before .before .before .before .before .before .before .before .before .args .state) (sound (c .before .before .before .before)) (right (c .before .before)) (c .before .remove .result) (c .before .remove .ensures)
+
+pub withdraw-spec : {M : Type 1} → statement M
+withdraw-spec =
+    tie.close
+    (tie.spec
+    state-fault-requires
+    give-back-requires
+    returns
+    withdraw-fault-requires
+    give-back-requires-2
+    returns-2
+    remove-requires
+    replan-requires
+    returns-3)
