@@ -2,4 +2,5 @@
 pub mod Bytes
 pub mod Runs
 pub mod Numbers
+pub mod Sheets
 pub mod Spelling

@@ -1,7 +1,7 @@
-// The verdict on lent memory: a slice of piece records, and a C function over bytes. Document 01, "Verdict on a core".
+// What is called on lent memory: a sheet's listing, and the verdict on a run of piece records, as a slice and as bytes. Document 01.
 //
-// Both functions take any input, and their contracts are equations with one definition of `specs/`. What they are lent they are lent
-// by `&`, so nothing of it is written.
+// The functions take any input, and their contracts are equations with one definition of `specs/`: one for the answer, and one for a buffer
+// that is lent by `&mut`. What is lent by `&` is not written.
 mod bytes;
 mod numbers;
 mod runs;
@@ -11,13 +11,17 @@ use bytes::read_run;
 use demand::Answer;
 use demand::Costs;
 use demand::Piece;
+use listing::write_listing;
 use numbers::number_of;
 use numbers::numbered;
+use plan::plan_tasks;
 use runs::gather;
+use sheet::read_sheet;
 ghost use mathlib.Core.Path.{_≡_};
 ghost use lib.ListN.{length};
 ghost use Rattle.demand.specs.Answer.{answerOf};
 ghost use Rattle.spardimple.specs.Numbers.{verdictNumber};
+ghost use Rattle.spardimple.specs.Sheets.{listingNumber, listingLeft};
 
 /// The verdict on a lent run of piece records: 6, then 2, then 3 with the record's place, else the verdict.
 pub fn judge_lent(costs: Costs, pieces: &[Piece]) -> Answer
@@ -41,4 +45,28 @@ pub extern "C" fn verdict(records: &[u8], costs: &[u8]) -> u64
     }
     let run = read_run(records);
     number_of(demand::judge(read_costs(costs), run))
+}
+
+/// A sheet's listing, written into a lent buffer. The answer is one number, 2^32 · which + carries: 0 and the listing's length, where it is
+/// written; 100 + N the refusal N: 9, then the first bad line's with its line, then 7 with the task, then 10 with the length needed. A refusal writes
+/// no byte, and the bytes beyond a listing stay.
+#[no_mangle]
+pub extern "C" fn plan_listing(sheet: &[u8], listing: &mut [u8]) -> u64
+    ensures exact { λ r. ⌜ (r ≡ listingNumber (now (sheet .entry)) (length (now (listing .entry)))) × (now (listing .exit) ≡ listingLeft (now (sheet .entry)) (now (listing .entry))) ⌝ }
+{
+    let read = read_sheet(sheet);
+    if read.number != 0 {
+        return numbered(100 + read.number, read.carries);
+    }
+    let told = read.sheet;
+    let reply = plan_tasks(told.machine, told.costs, told.tasks);
+    if reply.number != 0 {
+        return numbered(100 + reply.number, reply.carries as u64);
+    }
+    let plan = reply.plan;
+    let n = write_listing(plan, listing);
+    if listing.len() < n {
+        return numbered(110, n as u64);
+    }
+    numbered(0, n as u64)
 }

@@ -1,0 +1,63 @@
+-- From a sheet's bytes to its listing's bytes: document 01, "Sheet" and "Refusal numbers".
+--
+--   Paper                 what a sheet comes to: a refusal's number with what it carries, or a listing
+--   planned r             the paper of what was read: the sheet's own refusal; else 7 with the task; else the plan's listing
+--   paperOf sheet         the paper of a sheet's bytes
+--   toldPaper p n         document 01's number for it, where the lent buffer has n bytes: 10 with the length needed, where it is shorter
+--   listingNumber sheet n the one number that is given back
+--   listingLeft sheet old what the buffer then holds: all of the listing and the bytes beyond it, or what it held
+use mathlib.Core.Bool.{cond}
+use mathlib.Core.List.{List}
+use Prim.Native.Nat.{ℕ, zero, suc, _+_}
+use lib.Dec.{leb}
+use lib.ListN.{length}
+use Rattle.demand.specs.Answer.{Told}
+use Rattle.plan.specs.declared.Reply.{Reply}
+use Rattle.plan.specs.Plan.{planOf}
+use Rattle.sheet.specs.declared.Sheet.{Sheet}
+use Rattle.sheet.specs.declared.Read.{Read}
+use Rattle.sheet.specs.Sheet.{readOf}
+use Rattle.listing.specs.Text.{over}
+use Rattle.listing.specs.Listing.{listingOf}
+use Rattle.spardimple.specs.Numbers.{number}
+
+pub data Paper : Type 0 where
+  refused : (number carries : ℕ) → Paper
+  written : List ℕ → Paper
+
+-- ---- reading, then the walk, then the listing
+
+abbrev pub unless : (number carries : ℕ) → Paper → Paper
+unless zero k rest = rest
+unless (suc n) k rest = refused (suc n) k
+
+abbrev pub planSheet : Sheet → Reply
+planSheet s = planOf (s .machine) (s .costs) (s .tasks .count) (s .tasks .list)
+
+abbrev pub listed : Reply → Paper
+listed r = unless (r .number) (r .carries) (written (listingOf (r .plan)))
+
+abbrev pub planned : Read → Paper
+planned r = unless (r .number) (r .carries) (listed (planSheet (r .sheet)))
+
+unfoldable pub paperOf : List ℕ → Paper
+paperOf sheet = planned (readOf sheet)
+
+-- ---- what is given back, and what the buffer holds
+
+abbrev pub refusal : (number carries : ℕ) → Told
+refusal n k = record { which = 100 + n; carries = k }
+
+abbrev pub toldPaper : Paper → ℕ → Told
+toldPaper (refused n k) room = refusal n k
+toldPaper (written text) room = cond (leb (length text) room) (record { which = 0; carries = length text }) (refusal 10 (length text))
+
+unfoldable pub listingNumber : List ℕ → ℕ → ℕ
+listingNumber sheet room = number (toldPaper (paperOf sheet) room)
+
+abbrev pub left : Paper → List ℕ → List ℕ
+left (refused n k) old = old
+left (written text) old = over text old
+
+unfoldable pub listingLeft : List ℕ → List ℕ → List ℕ
+listingLeft sheet old = left (paperOf sheet) old
