@@ -1,3 +1,5 @@
 -- Laws that belong to no one function.
 pub mod NameSets
 pub mod TaskWalks
+pub mod KeptLaws
+pub mod TouchLaws
