@@ -3,3 +3,4 @@ pub mod NameSets
 pub mod TaskWalks
 pub mod KeptLaws
 pub mod TouchLaws
+pub mod AnswerLaws
