@@ -4,3 +4,4 @@ pub mod TaskWalks
 pub mod KeptLaws
 pub mod TouchLaws
 pub mod AnswerLaws
+pub mod EditLaws
