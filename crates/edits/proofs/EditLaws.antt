@@ -97,7 +97,7 @@ holds-apart xs ys apart (inr h) = apart-less xs (h .0) ys (subst Apart (h .2) ap
 
 module _ (m : Machine) (c : Costs) (some : 1 ≤ m .cores) {n : Name} {old new : List Task} (around : Around n old new) (sorts : Sorts old) (sorts′ : Sorts new)
     {end end′ : Stand} {log log′ : List (Placed Task)} (walks : standsAt m c (inOrder old) ≡ fine end log) (walks′ : standsAt m c (inOrder new) ≡ fine end′ log′) where
-  rules : Rules Task
+  abbrev rules : Rules Task
   rules = rulesFor c (m .grain) (λ t. wholePiece (t .times))
 
   touch : Touch n (inOrder old) (inOrder (around .xs ++ around .ys))
@@ -120,7 +120,7 @@ module _ (m : Machine) (c : Costs) (some : 1 ≤ m .cores) {n : Name} {old new :
 
       within : Fore b (inOrder old) (inOrder new) → sharesOn b q log ≡ sharesOn b q log′
       within f =
-          first-kept (rulesFor c (m .grain) (λ t. wholePiece (t .times))) b q (onFirst m) (f .front) (f .old-rest) (f .new-rest)
+          first-kept rules b q (onFirst m) (f .front) (f .old-rest) (f .new-rest)
           (subst Apart (f .old-is) (pack-apart old (sorts .apart))) (subst Apart (f .new-is) (pack-apart new (sorts′ .apart)))
           (subst (λ (z : List Task). Walks z end log) (f .old-is) walks) (subst (λ (z : List Task). Walks z end′ log′) (f .new-is) walks′) (f .among)
 
@@ -128,8 +128,8 @@ module _ (m : Machine) (c : Costs) (some : 1 ≤ m .cores) {n : Name} {old new :
   kept-behind {p} {r} {p′} {r′} {b} {b′} behind behind′ same meet d among q =
       let rest : b ∷ r ≡ b′ ∷ r′ = hind p p′ touch touch′ (pack-apart (around .xs ++ around .ys) (holds-apart (around .xs) (around .ys) (sorts .apart) (around .in-old))) (behind .order) (behind′ .order) (behind .later) (behind′ .later) same in
       let order′ : inOrder new ≡ p′ ++ (b ∷ r) = behind′ .order ∙ ap (λ (z : List Task). p′ ++ z) (sym rest) in
-      let stand : meet .old ≡ meet .new = stand-same (rulesFor c (m .grain) (λ t. wholePiece (t .times))) (m .cores) some p p′ (meet .old) (meet .new) (meet .old-log) (meet .new-log) (meet .old-walk) (meet .new-walk) (meet .same-core) (meet .same-row) in
-      last-kept (rulesFor c (m .grain) (λ t. wholePiece (t .times))) d q (onFirst m) p p′ (b ∷ r) (meet .old) (meet .old-log) (meet .new-log)
+      let stand : meet .old ≡ meet .new = stand-same rules (m .cores) some p p′ (meet .old) (meet .new) (meet .old-log) (meet .new-log) (meet .old-walk) (meet .new-walk) (meet .same-core) (meet .same-row) in
+      last-kept rules d q (onFirst m) p p′ (b ∷ r) (meet .old) (meet .old-log) (meet .new-log)
       (subst Apart (behind .order) (pack-apart old (sorts .apart))) (subst Apart order′ (pack-apart new (sorts′ .apart)))
       (subst (λ (z : List Task). Walks z end log) (behind .order) walks) (subst (λ (z : List Task). Walks z end′ log′) order′ walks′)
       (meet .old-walk) (meet .new-walk ∙ ap (λ (z : Stand). fine z (meet .new-log)) (sym stand)) among

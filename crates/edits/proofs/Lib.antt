@@ -5,3 +5,4 @@ pub mod KeptLaws
 pub mod TouchLaws
 pub mod AnswerLaws
 pub mod EditLaws
+pub mod Theorems
