@@ -5,4 +5,5 @@ pub mod KeptLaws
 pub mod TouchLaws
 pub mod AnswerLaws
 pub mod EditLaws
+pub mod FaultLaws
 pub mod Theorems

@@ -3,12 +3,17 @@
 --
 --   Unnamed n ts           no task of ts is named n
 --   Apart ts               no two of ts have one name
---   differ-name            names that differ, by the test
---   among-name, among-middle, unnamed-from, unnamed-middle      a name among tasks, or not
---   apart-first, apart-last, apart-end      a name of one part of a list is in no other
+--   same-differ, differ-name     names that differ, by the test
+--   each-parts             what holds of each, in two parts
+--   among-name, among-middle     a name that is among tasks
+--   apart-first, apart-last      a name of one part of a list is not in the other
+--   apart-end, apart-less  part of a list, and one task less
+--   Across done items      no task of items has a name of done
 --   pack-apart             packing keeps names distinct
 --   Clean t                a task of right form and sizes
---   faults-none, faults-known      no fault down a list, told by its tasks
+--   rule-kept              a rule that gives no number is kept
+--   place-none, place-unnamed    the place of a name that no task has
+--   faults-known, faults-none    no fault down a list, told by its tasks
 --   place-name             the place of a name is the place of the task that has it
 use mathlib.Core.Path.{_≡_, refl, sym, ap, _∙_, subst}
 use mathlib.Core.Bool.{Bool, true, false, cond}
@@ -41,7 +46,7 @@ Apart (t ∷ ts) = Unnamed (t .name) ts × Apart ts
 
 -- ---- two names
 
-same-differ : (a b : Name) → sameName a b ≡ false → a ≡ b → ⊥
+pub same-differ : (a b : Name) → sameName a b ≡ false → a ≡ b → ⊥
 same-differ a b never same =
     let twice : true ≡ false = sym (same-name-refl b) ∙ (ap (λ (x : Name). sameName x b) (sym same) ∙ never) in
     let z : _≡_ {A = ℕ} 0 1 = cc in
@@ -107,7 +112,7 @@ slot-apart a (b ∷ l) new apart =
     (λ yields. (slot-every denserTask (λ t. t .name ≡ b .name → ⊥) a (λ same. new .0 (sym same)) l (apart .0), slot-apart a l (new .1) (apart .1)))
 
 -- what is packed and what is still to be packed are apart from each other
-abbrev Across : List Task → List Task → Type 0
+abbrev pub Across : List Task → List Task → Type 0
 Across done items = Each (λ t. Unnamed (t .name) done) items
 
 pack-on-apart : (done items : List Task) → Apart done → Apart items → Across done items → Apart (packOn denserTask done items)
@@ -118,12 +123,12 @@ pack-on-apart done (a ∷ items) apart others across = pack-on-apart (slot dense
     more [] x y = tt
     more (t ∷ ts) x y = (slot-every denserTask (λ u. u .name ≡ t .name → ⊥) a (λ same. x .0 (sym same)) done (y .0), more ts (x .1) (y .1))
 
+pub across-none : (items : List Task) → Across [] items
+across-none [] = tt
+across-none (t ∷ items) = (tt, across-none items)
+
 pub pack-apart : (ts : List Task) → Apart ts → Apart (inOrder ts)
-pack-apart ts apart = pack-on-apart [] ts tt apart (none ts)
-  where
-    none : (items : List Task) → Across [] items
-    none [] = tt
-    none (t ∷ items) = (tt, none items)
+pack-apart ts apart = pack-on-apart [] ts tt apart (across-none ts)
 
 -- ---- no fault down a list
 
@@ -131,7 +136,7 @@ pub record Clean (t : Task) : Type 0 where
   pub named : formed (t .name) ≡ true
   pub timed : sized (wholePiece (t .times)) ≡ true
 
-rule-kept : (b : Bool) (n rest : ℕ) → rule b (suc n) rest ≡ 0 → (b ≡ true) × (rest ≡ 0)
+pub rule-kept : (b : Bool) (n rest : ℕ) → rule b (suc n) rest ≡ 0 → (b ≡ true) × (rest ≡ 0)
 rule-kept true n rest e = (refl, e)
 rule-kept false n rest e = absurd (omega arith)
 
@@ -140,7 +145,7 @@ or-else-none zero n e = (refl, e)
 or-else-none (suc k) n e = absurd (omega arith)
 
 -- the place of a name that no task has, and of one that a task has
-place-none : (k : ℕ) (n : Name) (ts : List Task) → 1 ≤ k → placeOf k n ts ≡ 0 → Unnamed n ts
+pub place-none : (k : ℕ) (n : Name) (ts : List Task) → 1 ≤ k → placeOf k n ts ≡ 0 → Unnamed n ts
 place-none k n [] some e = tt
 place-none k n (t ∷ ts) some e = by (sameName n (t .name)) refl e (λ h. place-none (k + 1) n ts (omega arith) h)
   where
