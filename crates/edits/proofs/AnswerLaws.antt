@@ -5,7 +5,10 @@
 --   Made m c ts s          s is a held plan of the machine m, the costs c and the tasks ts
 --   plan-made              a plan that comes is one
 --   Answered, edit-answered      the two ways that an edit ends
+--   Ends, replanned-ends   a list that breaks no rule is planned, or refused with 7 and the place of the task that has none
+--   edit-goes              an edit of a state that breaks no rule, and breaks none itself, is the walk over the tasks after it
 --   edit-made              an accepted edit makes a plan of the state's own machine and costs, and of the tasks after it
+--   edit-back, edit-keeps  a refused one gives the state back; so either keeps the machine, the costs, and that the plan is held
 use mathlib.Core.Path.{_≡_, refl, sym, ap, _∙_, subst}
 use mathlib.Core.Bool.{Bool, true, false, cond}
 use mathlib.Core.Logic.{_⊎_, inl, inr}
@@ -112,3 +115,28 @@ edit-keeps e s = by (edit-answered e s)
     by : Answered s (edited e (tasksIn s)) (editOf e s) → (editOf e s .plan .machine ≡ s .machine) × (editOf e s .plan .costs ≡ s .costs) × (Held s → Held (editOf e s .plan))
     by (inl r) = (r .1 .machine-is, r .1 .costs-is, λ h. r .1 .held)
     by (inr r) = (ap (λ (z : Plan). z .machine) (r .1), ap (λ (z : Plan). z .costs) (r .1), λ h. subst Held (sym (r .1)) h)
+
+-- ---- only 7 comes of the walk
+
+abbrev pub Ends : Plan → List Task → Reply → Type 0
+Ends s ts r = (r .number ≡ 0) ⊎ ((k : ℕ) × (walked (s .machine) (s .costs) ts ≡ stuck k) × (r ≡ givenBack s 7 (suc k)))
+
+pub replanned-ends : (s : Plan) (ts : List Task) → stateFault (s .machine) (s .costs) (length ts) ts ≡ 0 → Ends s ts (replanned s ts)
+replanned-ends s ts faultless = by (plan-or-stuck m c (length ts) ts faultless)
+  where
+    m : Machine
+    m = s .machine
+
+    c : Costs
+    c = s .costs
+
+    us : List Task
+    us = take (length ts) ts
+
+    by : ((st : Stand) × (l : List (Placed ℕ)) × (walked m c us ≡ fine st l) × (planOf m c (length ts) ts ≡ finished m c us (fine st l))) ⊎ ((k : ℕ) × (walked m c us ≡ stuck k) × (planOf m c (length ts) ts ≡ refused 7 (suc k))) → Ends s ts (settled s (planOf m c (length ts) ts))
+    by (inl r) = inl (ap (λ (z : Reply). settled s z .number) (r .3))
+    by (inr r) = inr (r .0, subst (λ (z : List Task). walked m c z ≡ stuck (r .0)) (take-length ts) (r .1), ap (settled s) (r .2))
+
+pub edit-goes : (e : Edit) (s : Plan) → stateFault (s .machine) (s .costs) (s .tasks .count) (s .tasks .list) ≡ 0 → editFault e (tasksIn s) ≡ 0 → editOf e s ≡ replanned s (edited e (tasksIn s))
+unfolding editOf
+edit-goes e s faultless right = rw (faultless, right)

@@ -6,7 +6,6 @@
 --   Lists m c ts           the tasks ts break no rule with the machine m and the costs c
 --   lists-known, lists-faultless       as a test tells
 --   edited-lists           so do the tasks after an edit
---   settled-number         a list that breaks no rule is planned, or refused with 7
 use mathlib.Core.Path.{_≡_, refl, sym, ap, _∙_, subst}
 use mathlib.Core.Bool.{Bool, true, false, cond, not}
 use mathlib.Core.Logic.{_⊎_, inl, inr}

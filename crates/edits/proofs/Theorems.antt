@@ -4,25 +4,31 @@
 --   edit-refused           a refusal gives the state back
 --   edit-does              an accepted edit holds the tasks after it: one more at the end, one less, or one with other times in its place
 --   edit-same              no edit changes the machine or the costs
+--   edit-faultless         where the state and the edit break no rule, the tasks after it break none
+--   edit-or-stuck          so the edit is accepted, or the walk over them sticks and the answer is 7 with the place of the task that it sticks at
 --   edit-held              an accepted edit yields a held plan, whatever the state's rows and words were
 --   after-edits            after any sequence of edits, refusals among them, a held plan is held, of the same machine and costs
 --   after-edits-afresh     so it equals the plan worked out afresh from the tasks then held
 --   edit-before            an accepted edit keeps the pieces of each task before the edited one in each packing order, old and new, that holds it
 --   edit-after             and where at a later task in each of those the walks stand at the same core with the same row, of that task and all later ones
 use mathlib.Core.Path.{_≡_, refl, sym, ap, _∙_, subst}
+use mathlib.Core.Logic.{_⊎_}
 use mathlib.Core.List.{List, [], _∷_}
-use Prim.Native.Nat.{ℕ}
+use Prim.Native.Nat.{ℕ, suc}
+use lib.ListN.{length}
 use Rattle.demand.specs.declared.Costs.{Costs}
 use Rattle.task.specs.declared.Name.{Name}
 use Rattle.task.specs.declared.Task.{Task}
 use Rattle.task.specs.declared.Machine.{Machine}
+use Rattle.task.specs.Tasks.{stateFault}
 use Rattle.plan.specs.declared.Plan.{Plan}
-use Rattle.plan.specs.Walk.{fine}
-use Rattle.plan.specs.Plan.{planOf}
-use Rattle.edits.specs.Edits.{Edit, tasksIn, edited, editOf, accepted, Held, played}
+use Rattle.plan.specs.Walk.{fine, stuck}
+use Rattle.plan.specs.Plan.{walked, planOf}
+use Rattle.edits.specs.Edits.{Edit, tasksIn, editFault, edited, givenBack, editOf, accepted, Held, played}
 use Rattle.edits.specs.Kept.{inOrder, standsAt, Keeps, editedName, Among, Ahead, Behind, Meet}
 use Rattle.edits.proofs.TaskWalks.{Told, held-told}
-use Rattle.edits.proofs.AnswerLaws.{Made, edit-made, edit-back, edit-keeps}
+use Rattle.edits.proofs.AnswerLaws.{edit-made, edit-back, edit-keeps, Ends, replanned-ends, edit-goes}
+use Rattle.edits.proofs.FaultLaws.{lists-known, lists-faultless, edited-lists}
 use Rattle.edits.proofs.EditLaws.{Around, edit-around, Sorts, kept-before, kept-behind}
 
 pub edit-refused : (e : Edit) (s : Plan) → (editOf e s .number ≡ 0 → ⊥) → editOf e s .plan ≡ s
@@ -36,6 +42,14 @@ edit-same e s = (edit-keeps e s .0, edit-keeps e s .1)
 
 pub edit-held : (e : Edit) (s : Plan) → editOf e s .number ≡ 0 → Held (editOf e s .plan)
 edit-held e s taken = edit-made e s taken .held
+
+-- ---- where no rule is broken
+
+pub edit-faultless : (e : Edit) (s : Plan) → stateFault (s .machine) (s .costs) (s .tasks .count) (s .tasks .list) ≡ 0 → editFault e (tasksIn s) ≡ 0 → stateFault (s .machine) (s .costs) (length (edited e (tasksIn s))) (edited e (tasksIn s)) ≡ 0
+edit-faultless e s faultless right = lists-faultless (s .machine) (s .costs) (edited e (tasksIn s)) (edited-lists (s .machine) (s .costs) e (tasksIn s) (lists-known (s .machine) (s .costs) (s .tasks .count) (s .tasks .list) faultless) right)
+
+pub edit-or-stuck : (e : Edit) (s : Plan) → stateFault (s .machine) (s .costs) (s .tasks .count) (s .tasks .list) ≡ 0 → editFault e (tasksIn s) ≡ 0 → (editOf e s .number ≡ 0) ⊎ ((k : ℕ) × (walked (s .machine) (s .costs) (edited e (tasksIn s)) ≡ stuck k) × (editOf e s ≡ givenBack s 7 (suc k)))
+edit-or-stuck e s faultless right = subst (Ends s (edited e (tasksIn s))) (sym (edit-goes e s faultless right)) (replanned-ends s (edited e (tasksIn s)) (edit-faultless e s faultless right))
 
 -- ---- any sequence of edits
 
