@@ -12,7 +12,7 @@
 use mathlib.Core.Path.{_≡_, refl, sym, ap, _∙_, subst}
 use mathlib.Core.Bool.{Bool, true, false, cond}
 use mathlib.Core.Logic.{_⊎_, inl, inr}
-use mathlib.Core.List.{List, [], _∷_, _++_}
+use mathlib.Core.List.{List, []}
 use Prim.Native.Nat.{ℕ, zero, suc, _-_}
 use native.Mathlib.Omega.{arith}
 use borrow.Author.Tests.{eqb-true, eqb-false}
@@ -27,7 +27,6 @@ use Rattle.task.specs.Tasks.{tasksMost, rule, firstFault, stateFault, sizedMach
 use Rattle.plan.specs.declared.Plan.{Plan}
 use Rattle.plan.specs.declared.Reply.{Reply}
 use Rattle.plan.specs.Walk.{Stand, Placed, fine, stuck}
-use Rattle.plan.specs.Layout.{layoutOn, none}
 use Rattle.plan.specs.Plan.{noTask, padded, walked, refused, finished, unlessFault, planOf}
 use Rattle.plan.proofs.Theorems.{plan-faultless, plan-or-stuck}
 use Rattle.edits.specs.Edits.{Edit, tasksIn, editFault, edited, givenBack, unless, settled, replanned, editOf, accepted, Held}

@@ -20,7 +20,7 @@ use Rattle.task.specs.Names.{sameName}
 use Rattle.task.specs.Tasks.{wholePiece}
 use Rattle.task.proofs.NameLaws.{same-name-exact}
 use Rattle.plan.specs.Order.{denserTask}
-use Rattle.plan.specs.Walk.{Rules, Stand, Placed, Outcome, fine, walk, rulesFor}
+use Rattle.plan.specs.Walk.{Rules, Stand, Placed, fine, rulesFor}
 use Rattle.plan.specs.Shares.{onFirst}
 use Rattle.plan.proofs.OrderLaws.{Gap, here, there, denser-lawful, pack-gap}
 use Rattle.edits.specs.Edits.{Edit, add, withdraw, retime, without, replaced, edited}

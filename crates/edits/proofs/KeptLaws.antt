@@ -8,12 +8,10 @@
 --   stand-same             equal core and row is an equal stand
 use mathlib.Core.Path.{_≡_, refl, sym, ap, _∙_, subst}
 use mathlib.Core.Bool.{Bool, true, false}
-use mathlib.Core.Logic.{_⊎_, inl, inr, ⊎-elim}
-use mathlib.Core.List.{List, [], _∷_, _++_, map, map-append, append-assoc, append-nil}
+use mathlib.Core.List.{List, [], _∷_, _++_, map-append, append-nil}
 use Prim.Native.Nat.{ℕ, _≤_}
 use native.Mathlib.Omega.{arith}
 use lib.ListN.{length}
-use Rattle.demand.specs.declared.Piece.{Piece}
 use Rattle.demand.specs.Sizes.{Each}
 use Rattle.task.specs.declared.Name.{Name}
 use Rattle.task.specs.declared.Task.{Task}
@@ -21,7 +19,7 @@ use Rattle.task.specs.Names.{sameName}
 use Rattle.plan.specs.Walk.{Rules, Stand, Placed, Outcome, fine, stuck, behind, walk, start, keep, onCore}
 use Rattle.plan.proofs.WalkLaws.{walk-append, walk-stuck, resume, IfFine, Sound, Fit, fit, on-append}
 use Rattle.edits.specs.Kept.{Among}
-use Rattle.edits.proofs.NameSets.{Unnamed, Apart, differ-name, among-middle, among-name, apart-first, apart-last, apart-end}
+use Rattle.edits.proofs.NameSets.{Apart, differ-name, apart-first, apart-last}
 use Rattle.edits.proofs.TaskWalks.{walk-items, on-each, ofName, sharesOn}
 
 -- ---- a name's pieces in two parts
@@ -91,7 +89,7 @@ module _ (R : Rules Task) where
         share-first b q apart x m ∙ (ap (sharesOn b q) same ∙ sym (share-first b q apart′ y m))
 
     pub last-kept : (xs ys zs : List Task) (t : Stand) (k l : List (Placed Task)) → Apart (xs ++ zs) → Apart (ys ++ zs) → walk R (fine s []) (xs ++ zs) ≡ fine end log → walk R (fine s []) (ys ++ zs) ≡ fine end′ log′ →
-      walk R (fine s []) xs ≡ fine t k → walk R (fine s []) ys ≡ fine t l → Among b zs → sharesOn b q log ≡ sharesOn b q log′
+        walk R (fine s []) xs ≡ fine t k → walk R (fine s []) ys ≡ fine t l → Among b zs → sharesOn b q log ≡ sharesOn b q log′
     last-kept xs ys zs t k l apart apart′ w v there there′ m =
         let x = in-parts s xs zs end log w in
         let y = in-parts s ys zs end′ log′ v in

@@ -33,7 +33,7 @@ use Rattle.task.specs.Names.{formed, sameName}
 use Rattle.task.specs.Tasks.{wholePiece, placeOf, past, taskAt, rule, orElse, faultOf, firstFault}
 use Rattle.task.proofs.NameLaws.{same-name-exact, same-name-refl}
 use Rattle.task.proofs.TaskLaws.{fault-free}
-use Rattle.plan.specs.Order.{slot, packOn, pack, denserTask}
+use Rattle.plan.specs.Order.{slot, packOn, denserTask}
 use Rattle.plan.proofs.OrderLaws.{slot-cases, slot-every}
 use Rattle.edits.specs.Kept.{Among, inOrder}
 
@@ -171,10 +171,11 @@ faults-known above [] e = (tt, tt, tt)
 faults-known above (t ∷ ts) e =
     let both = or-else-none (faultOf above t) (firstFault (above ++ (t ∷ [])) ts) e in
     let one = fault-clean above t (both .0) in
-    let rest = faults-known (above ++ (t ∷ [])) ts (both .1) in
-    ((one .0, rest .0),
-     (one .1, each-imp (λ u. Unnamed (u .name) (above ++ (t ∷ []))) (λ u. Unnamed (u .name) above) (λ u never. each-front (λ v. v .name ≡ u .name → ⊥) above t never) ts (rest .1)),
-     (each-imp (λ u. Unnamed (u .name) (above ++ (t ∷ []))) (λ u. u .name ≡ t .name → ⊥) (λ u never same. each-last (λ v. v .name ≡ u .name → ⊥) above t never (sym same)) ts (rest .1), rest .2))
+    let rest = faults-known (above ++ (t ∷ [])) ts (both .1) in (
+      (one .0, rest .0),
+      (one .1, each-imp (λ u. Unnamed (u .name) (above ++ (t ∷ []))) (λ u. Unnamed (u .name) above) (λ u never. each-front (λ v. v .name ≡ u .name → ⊥) above t never) ts (rest .1)),
+      (each-imp (λ u. Unnamed (u .name) (above ++ (t ∷ []))) (λ u. u .name ≡ t .name → ⊥) (λ u never same. each-last (λ v. v .name ≡ u .name → ⊥) above t never (sym same)) ts (rest .1), rest .2),
+    )
 
 pub faults-none : (above ts : List Task) → Each Clean ts → Across above ts → Apart ts → firstFault above ts ≡ 0
 faults-none above [] clean across apart = refl

@@ -25,22 +25,22 @@ use Rattle.task.specs.declared.Task.{Task}
 use Rattle.task.specs.declared.Machine.{Machine}
 use Rattle.task.specs.Names.{sameName}
 use Rattle.task.specs.Tasks.{wholePiece, placeOf, past, taskAt}
-use Rattle.task.proofs.TaskLaws.{Sane, state-sane}
+use Rattle.task.proofs.TaskLaws.{state-sane}
 use Rattle.plan.specs.declared.Stored.{Stored}
 use Rattle.plan.specs.declared.Plan.{Plan}
 use Rattle.plan.specs.declared.Reply.{Reply}
 use Rattle.plan.specs.declared.Layout.{Layout}
-use Rattle.plan.specs.Order.{slot, packOn, pack, denserTask, denserAt, upto}
+use Rattle.plan.specs.Order.{slot, packOn, pack, denserTask, upto}
 use Rattle.plan.specs.Walk.{Halves, halves, unsplit, Rules, Stand, Placed, Outcome, fine, stuck, inOne, inTwo, behind, place, step, walk, start, keep, onCore, placedOf, outcomeOf, rulesFor}
-use Rattle.plan.specs.Layout.{pieceOf, stored}
-use Rattle.plan.specs.Plan.{wholeAt, walked, planOf}
+use Rattle.plan.specs.Layout.{pieceOf}
+use Rattle.plan.specs.Plan.{wholeAt, walked}
 use Rattle.plan.specs.Shows.{storedOf, Shows}
 use Rattle.plan.specs.Shares.{packed, onFirst}
 use Rattle.plan.proofs.WalkLaws.{Lands, one, sticks, two, on, lands, IfFine, walk-keeps, each-join}
 use Rattle.plan.proofs.GoingLaws.{piece-stored}
 use Rattle.plan.proofs.Theorems.{packing-order, plan-faultless, plan-comes, plan-shows}
-use Rattle.edits.specs.Edits.{tasksIn, accepted, Held}
-use Rattle.edits.specs.Kept.{inOrder, standsAt, rowIn, ofPlace, piecesOn}
+use Rattle.edits.specs.Edits.{tasksIn, Held}
+use Rattle.edits.specs.Kept.{inOrder, standsAt, ofPlace, piecesOn}
 use Rattle.edits.proofs.NameSets.{Apart, place-name, faults-known}
 
 -- ---- items that stand for others
@@ -74,8 +74,8 @@ module _ {A B : Type 0} (f : A → B) (R : Rules B) where
   place-map a (suc n) p row = by (R .fits (row ++ (R .whole (f a) ∷ []))) (R .cut row (f a)) (place-map a n (suc p) [])
     where
       by : (t : Bool) (u : Halves) → outcomeOf f (place (under f R) a n (suc p) []) ≡ place R (f a) n (suc p) [] →
-        outcomeOf f (elim t [ true ↦ inOne a (suc n) p row (R .whole (f a)) | false ↦ (elim u [ halves g l ↦ inTwo a n p g l | unsplit ↦ place (under f R) a n (suc p) [] ]) ])
-        ≡ elim t [ true ↦ inOne (f a) (suc n) p row (R .whole (f a)) | false ↦ (elim u [ halves g l ↦ inTwo (f a) n p g l | unsplit ↦ place R (f a) n (suc p) [] ]) ]
+          outcomeOf f (elim t [ true ↦ inOne a (suc n) p row (R .whole (f a)) | false ↦ (elim u [ halves g l ↦ inTwo a n p g l | unsplit ↦ place (under f R) a n (suc p) [] ]) ])
+          ≡ elim t [ true ↦ inOne (f a) (suc n) p row (R .whole (f a)) | false ↦ (elim u [ halves g l ↦ inTwo (f a) n p g l | unsplit ↦ place R (f a) n (suc p) [] ]) ]
       by true u e = refl
       by false (halves g l) e = refl
       by false unsplit e = e
@@ -162,7 +162,7 @@ shown n ts apart (e ∷ x) low =
     ∙ by (sameName n (taskAt ts (e .item) .name)) (shown n ts apart x (low .1))
   where
     by : (t : Bool) → map pieceOf (ofPlace (placeOf 1 n ts) (map storedOf x)) ≡ map (λ y. y .piece) (ofName n (map (placedOf (taskAt ts)) x)) →
-      map pieceOf (keep t (storedOf e) (ofPlace (placeOf 1 n ts) (map storedOf x))) ≡ map (λ y. y .piece) (keep t (placedOf (taskAt ts) e) (ofName n (map (placedOf (taskAt ts)) x)))
+        map pieceOf (keep t (storedOf e) (ofPlace (placeOf 1 n ts) (map storedOf x))) ≡ map (λ y. y .piece) (keep t (placedOf (taskAt ts) e) (ofName n (map (placedOf (taskAt ts)) x)))
     by true h = cc (h, piece-stored (e .item) (e .piece))
     by false h = h
 

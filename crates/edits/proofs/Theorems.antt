@@ -96,7 +96,7 @@ module _ (e : Edit) (s : Plan) (held : Held s) (taken : editOf e s .number ≡ 0
       ∙ sym (is .shows b q low))
 
   pub edit-after : {p r p′ r′ : List Task} {b b′ : Task} → Behind (editedName e) (tasksIn s) p b r → Behind (editedName e) (tasksIn (editOf e s .plan)) p′ b′ r′ → b .name ≡ b′ .name → Meet (s .machine) (s .costs) p p′ →
-    (d : Name) → Among d (b ∷ r) → Keeps s (editOf e s .plan) d
+      (d : Name) → Among d (b ∷ r) → Keeps s (editOf e s .plan) d
   unfolding Keeps
   edit-after old new same meet d among q low =
       was .shows d q low

@@ -96,6 +96,6 @@ hind {n} p p′ {r} {r′} {a} {c} u v apart e f never never′ same =
     let x = touch-end n n p (a ∷ r) u e never in
     let y = touch-end n n p′ (c ∷ r′) v f never′ in
     ⊎-elim
-      (λ z. once a c r r′ (z .0) same (apart-end (x .0) (a ∷ r) (subst Apart (x .1) apart)) (z .2))
-      (λ z. sym (once c a r′ r (z .0) (sym same) (apart-end (y .0) (c ∷ r′) (subst Apart (y .1) apart)) (z .2)))
-      (meet (x .0) (a ∷ r) (y .0) (c ∷ r′) (sym (x .1) ∙ y .1))
+    (λ z. once a c r r′ (z .0) same (apart-end (x .0) (a ∷ r) (subst Apart (x .1) apart)) (z .2))
+    (λ z. sym (once c a r′ r (z .0) (sym same) (apart-end (y .0) (c ∷ r′) (subst Apart (y .1) apart)) (z .2)))
+    (meet (x .0) (a ∷ r) (y .0) (c ∷ r′) (sym (x .1) ∙ y .1))
