@@ -4,6 +4,7 @@
 --   plan-same              a plan is made of the first n of a list
 --   Made m c ts s          s is a held plan of the machine m, the costs c and the tasks ts
 --   plan-made              a plan that comes is one
+--   plan-holds             so a plan that comes is held, of whatever list it is made
 --   Answered, edit-answered      the two ways that an edit ends
 --   Ends, replanned-ends   a list that breaks no rule is planned, or refused with 7 and the place of the task that has none
 --   edit-goes              an edit of a state that breaks no rule, and breaks none itself, is the walk over the tasks after it
@@ -29,6 +30,7 @@ use Rattle.plan.specs.declared.Reply.{Reply}
 use Rattle.plan.specs.Walk.{Stand, Placed, fine, stuck}
 use Rattle.plan.specs.Plan.{noTask, padded, walked, refused, finished, unlessFault, planOf}
 use Rattle.plan.proofs.Theorems.{plan-faultless, plan-or-stuck}
+use Rattle.edits.proofs.FaultLaws.{lists-known, lists-faultless}
 use Rattle.edits.specs.Edits.{Edit, tasksIn, editFault, edited, givenBack, unless, settled, replanned, editOf, accepted, Held}
 
 pub plan-same : (m : Machine) (c : Costs) (n : ℕ) (xs ys : List Task) → take n xs ≡ take n ys → planOf m c n xs ≡ planOf m c n ys
@@ -64,6 +66,17 @@ module _ (m : Machine) (c : Costs) (ts : List Task) where
       by : ((st : Stand) × (l : List (Placed ℕ)) × (walked m c us ≡ fine st l) × (planOf m c (length ts) ts ≡ finished m c us (fine st l))) ⊎ ((k : ℕ) × (walked m c us ≡ stuck k) × (planOf m c (length ts) ts ≡ refused 7 (suc k))) → (s : Plan) × (planOf m c (length ts) ts ≡ accepted s) × Made m c ts s
       by (inl r) = (let e : planOf m c (length ts) ts ≡ finished m c ts (fine (r .0) (r .1)) = r .3 ∙ ap (λ (z : List Task). finished m c z (fine (r .0) (r .1))) (take-length ts) in (finished m c ts (fine (r .0) (r .1)) .plan, e, made-of (r .0) (r .1) e))
       by (inr r) = absurd (omega (arith, sym number ∙ ap (λ (z : Reply). z .number) (r .2)))
+
+-- the plan of the first n of a list is the plan of those
+plan-cut : (m : Machine) (c : Costs) (n : ℕ) (ts : List Task) → stateFault m c n ts ≡ 0 → planOf m c (length (take n ts)) (take n ts) ≡ planOf m c n ts
+unfolding planOf
+plan-cut m c n ts faultless = rw (lists-faultless m c (take n ts) (lists-known m c n ts faultless), faultless, take-length (take n ts))
+
+pub plan-holds : (m : Machine) (c : Costs) (n : ℕ) (ts : List Task) → planOf m c n ts .number ≡ 0 → Held (planOf m c n ts .plan)
+plan-holds m c n ts number =
+    let same = plan-cut m c n ts (plan-faultless m c n ts number) in
+    let made = plan-made m c (take n ts) (ap (λ (r : Reply). r .number) same ∙ number) in
+    subst (λ (r : Reply). Held (r .plan)) (sym (made .1) ∙ same) (made .2 .held)
 
 -- ---- the two ways that an edit ends
 

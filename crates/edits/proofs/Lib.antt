@@ -3,7 +3,7 @@ pub mod NameSets
 pub mod TaskWalks
 pub mod KeptLaws
 pub mod TouchLaws
+pub mod FaultLaws
 pub mod AnswerLaws
 pub mod EditLaws
-pub mod FaultLaws
 pub mod Theorems

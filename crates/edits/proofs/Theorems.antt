@@ -1,6 +1,7 @@
 -- The theorems about edits, for any edit and any state: document 01, "Edits on a held plan", and demand 3.
 -- Assumes nothing.
 --
+--   plan-held              a plan that comes of a machine, costs and a task list is a held plan
 --   edit-refused           a refusal gives the state back
 --   edit-does              an accepted edit holds the tasks after it: one more at the end, one less, or one with other times in its place
 --   edit-same              no edit changes the machine or the costs
@@ -27,9 +28,14 @@ use Rattle.plan.specs.Plan.{walked, planOf}
 use Rattle.edits.specs.Edits.{Edit, tasksIn, editFault, edited, givenBack, editOf, accepted, Held, played}
 use Rattle.edits.specs.Kept.{inOrder, standsAt, Keeps, editedName, Among, Ahead, Behind, Meet}
 use Rattle.edits.proofs.TaskWalks.{Told, held-told}
-use Rattle.edits.proofs.AnswerLaws.{edit-made, edit-back, edit-keeps, Ends, replanned-ends, edit-goes}
+use Rattle.edits.proofs.AnswerLaws.{plan-holds, edit-made, edit-back, edit-keeps, Ends, replanned-ends, edit-goes}
 use Rattle.edits.proofs.FaultLaws.{lists-known, lists-faultless, edited-lists}
 use Rattle.edits.proofs.EditLaws.{Around, edit-around, Sorts, kept-before, kept-behind}
+
+pub plan-held : (m : Machine) (c : Costs) (n : ℕ) (ts : List Task) → planOf m c n ts .number ≡ 0 → Held (planOf m c n ts .plan)
+plan-held m c n ts made = plan-holds m c n ts made
+
+-- ---- one edit
 
 pub edit-refused : (e : Edit) (s : Plan) → (editOf e s .number ≡ 0 → ⊥) → editOf e s .plan ≡ s
 edit-refused e s refusal = edit-back e s refusal

@@ -72,17 +72,17 @@ module _ (n b : Name) where
   fore (inr u) (inr v) x y =
       inr (⊎-elim (λ z. fore-two u v x (z .0) (z .1)) (λ z. fore-flip (fore-two v u y (z .0) (z .1))) (meet (u .front) (u .back) (v .front) (v .back) (sym (u .less) ∙ v .less)))
 
-  -- what stands behind the task put in is in both
-  touch-end : {l k : List Task} (p z : List Task) → Touch n l k → l ≡ p ++ z → (Among n z → ⊥) → (y : List Task) × (k ≡ y ++ z)
-  touch-end p z (inl e) whole never = (p, sym e ∙ whole)
-  touch-end {l} {k} p z (inr u) whole never = ⊎-elim (λ w. inside (w .0) (w .2)) (λ w. absurd (never (has (w .0) (w .2)))) (meet (u .front) (u .task ∷ u .back) p z (sym (u .more) ∙ whole))
-    where
-      has : (r : List Task) → z ≡ r ++ (u .task ∷ u .back) → Among n z
-      has r e = subst (Among n) (sym e) (subst (λ (x : Name). Among x (r ++ (u .task ∷ u .back))) (u .own) (among-middle r (u .task) (u .back)))
+-- what stands behind the task put in is in both
+touch-end : (n : Name) {l k : List Task} (p z : List Task) → Touch n l k → l ≡ p ++ z → (Among n z → ⊥) → (y : List Task) × (k ≡ y ++ z)
+touch-end n p z (inl e) whole never = (p, sym e ∙ whole)
+touch-end n {l} {k} p z (inr u) whole never = ⊎-elim (λ w. inside (w .0) (w .2)) (λ w. absurd (never (has (w .0) (w .2)))) (meet (u .front) (u .task ∷ u .back) p z (sym (u .more) ∙ whole))
+  where
+    has : (r : List Task) → z ≡ r ++ (u .task ∷ u .back) → Among n z
+    has r e = subst (Among n) (sym e) (subst (λ (x : Name). Among x (r ++ (u .task ∷ u .back))) (u .own) (among-middle r (u .task) (u .back)))
 
-      inside : (r : List Task) → u .task ∷ u .back ≡ r ++ z → (y : List Task) × (k ≡ y ++ z)
-      inside [] e = absurd (never (has [] (sym e)))
-      inside (c ∷ r) e = (let tail : u .back ≡ r ++ z = cc in (u .front ++ r, u .less ∙ (ap (λ (x : List Task). u .front ++ x) tail ∙ sym (append-assoc (u .front) r z))))
+    inside : (r : List Task) → u .task ∷ u .back ≡ r ++ z → (y : List Task) × (k ≡ y ++ z)
+    inside [] e = absurd (never (has [] (sym e)))
+    inside (c ∷ r) e = (let tail : u .back ≡ r ++ z = cc in (u .front ++ r, u .less ∙ (ap (λ (x : List Task). u .front ++ x) tail ∙ sym (append-assoc (u .front) r z))))
 
 -- a name stands at one place
 once : (a c : Task) (y z r : List Task) → a .name ≡ c .name → Apart (a ∷ y) → a ∷ y ≡ r ++ (c ∷ z) → a ∷ y ≡ c ∷ z
@@ -93,8 +93,8 @@ once a c y z (d ∷ r) same apart e =
 
 pub hind : {n : Name} {old new rest : List Task} (p p′ : List Task) {r r′ : List Task} {a c : Task} → Touch n old rest → Touch n new rest → Apart rest → old ≡ p ++ (a ∷ r) → new ≡ p′ ++ (c ∷ r′) → (Among n (a ∷ r) → ⊥) → (Among n (c ∷ r′) → ⊥) → a .name ≡ c .name → a ∷ r ≡ c ∷ r′
 hind {n} p p′ {r} {r′} {a} {c} u v apart e f never never′ same =
-    let x = touch-end n n p (a ∷ r) u e never in
-    let y = touch-end n n p′ (c ∷ r′) v f never′ in
+    let x = touch-end n p (a ∷ r) u e never in
+    let y = touch-end n p′ (c ∷ r′) v f never′ in
     ⊎-elim
     (λ z. once a c r r′ (z .0) same (apart-end (x .0) (a ∷ r) (subst Apart (x .1) apart)) (z .2))
     (λ z. sym (once c a r′ r (z .0) (sym same) (apart-end (y .0) (c ∷ r′) (subst Apart (y .1) apart)) (z .2)))
