@@ -5,9 +5,9 @@
 --   edit-refused           a refusal gives the state back
 --   edit-does              an accepted edit holds the tasks after it: one more at the end, one less, or one with other times in its place
 --   edit-same              no edit changes the machine or the costs
+--   edit-held              an accepted edit yields a held plan, whatever the state's rows and words were
 --   edit-faultless         where the state and the edit break no rule, the tasks after it break none
 --   edit-or-stuck          so the edit is accepted, or the walk over them sticks and the answer is 7 with the place of the task that it sticks at
---   edit-held              an accepted edit yields a held plan, whatever the state's rows and words were
 --   after-edits            after any sequence of edits, refusals among them, a held plan is held, of the same machine and costs
 --   after-edits-afresh     so it equals the plan worked out afresh from the tasks then held
 --   edit-before            an accepted edit keeps the pieces of each task before the edited one in each packing order, old and new, that holds it
