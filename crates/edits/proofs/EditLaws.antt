@@ -4,8 +4,9 @@
 --   Holds n xs ys ts       ts is xs and ys, or has one task named n between them
 --   Around n old new       old and new are so of the same xs and ys
 --   edit-around            as the tasks before and after any edit are
---   Touching, around-touch     so their packing orders are one order, with the edited task in it or without it
---   kept-before, kept-behind   demand 3's second and third sentences, of what the two walks placed
+--   Sorts ts               names are distinct, and no D is 0
+--   holds-touch            so their packing orders are one order, with the edited task in it or without it
+--   kept-before, kept-behind     demand 3's second and third sentences, of what the two walks placed
 use mathlib.Core.Path.{_≡_, refl, sym, ap, _∙_, subst}
 use mathlib.Core.Bool.{Bool, true, false, cond}
 use mathlib.Core.Logic.{_⊎_, inl, inr, ⊎-elim}
@@ -71,7 +72,7 @@ edit-around (retime t) ts = replaced-around t ts
 
 -- ---- the packing orders
 
--- what is known of a task list that breaks no rule
+-- what the packing order needs of a task list
 pub record Sorts (ts : List Task) : Type 0 where
   pub apart : Apart ts
   pub timed : Each (λ t. 1 ≤ t .times .deadline) ts

@@ -7,6 +7,7 @@
 --   walk-items             what holds of each item holds of each that is placed
 --   ofName n l             what is placed of the task named n
 --   sharesOn n q l         its pieces on core q
+--   on-each                what holds of each that is placed holds of each on a core
 --   Told s, held-told      a held plan's walk over its tasks, and what it shows of each name
 use mathlib.Core.Path.{_≡_, refl, sym, ap, _∙_, subst}
 use mathlib.Core.Bool.{Bool, true, false}
