@@ -5,6 +5,6 @@ pub mod KeptLaws
 pub mod TouchLaws
 pub mod FaultLaws
 pub mod AnswerLaws
-pub mod EditLaws
+pub mod AroundLaws
 pub mod Theorems
 pub mod Examples

@@ -30,7 +30,7 @@ use Rattle.edits.specs.Kept.{inOrder, standsAt, Keeps, editedName, Among
 use Rattle.edits.proofs.TaskWalks.{Told, held-told}
 use Rattle.edits.proofs.AnswerLaws.{plan-holds, edit-made, edit-back, edit-keeps, Ends, replanned-ends, edit-goes}
 use Rattle.edits.proofs.FaultLaws.{lists-known, lists-faultless, edited-lists}
-use Rattle.edits.proofs.EditLaws.{Around, edit-around, Sorts, kept-before, kept-behind}
+use Rattle.edits.proofs.AroundLaws.{Around, edit-around, Sorts, kept-before, kept-behind}
 
 pub plan-held : (m : Machine) (c : Costs) (n : ℕ) (ts : List Task) → planOf m c n ts .number ≡ 0 → Held (planOf m c n ts .plan)
 plan-held m c n ts made = plan-holds m c n ts made
