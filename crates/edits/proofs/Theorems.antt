@@ -1,0 +1,110 @@
+-- The theorems about edits, for any edit and any state: document 01, "Edits on a held plan", and demand 3.
+-- Assumes nothing.
+--
+--   plan-held              a plan that comes of a machine, costs and a task list is a held plan
+--   edit-refused           a refusal gives the state back
+--   edit-does              an accepted edit holds the tasks after it: one more at the end, one less, or one with other times in its place
+--   edit-same              no edit changes the machine or the costs
+--   edit-held              an accepted edit yields a held plan, whatever the state's rows and words were
+--   edit-faultless         where the state and the edit break no rule, the tasks after it break none
+--   edit-or-stuck          so the edit is accepted, or the walk over them sticks and the answer is 7 with the place of the task that it sticks at
+--   after-edits            after any sequence of edits, refusals among them, a held plan is held, of the same machine and costs
+--   after-edits-afresh     so it equals the plan worked out afresh from the tasks then held
+--   edit-before            an accepted edit keeps the pieces of each task before the edited one in each packing order, old and new, that holds it
+--   edit-after             and where at a later task in each of those the walks stand at the same core with the same row, of that task and all later ones
+use mathlib.Core.Path.{_≡_, refl, sym, ap, _∙_, subst}
+use mathlib.Core.Logic.{_⊎_}
+use mathlib.Core.List.{List, [], _∷_}
+use Prim.Native.Nat.{ℕ, suc}
+use lib.ListN.{length}
+use Rattle.demand.specs.declared.Costs.{Costs}
+use Rattle.task.specs.declared.Name.{Name}
+use Rattle.task.specs.declared.Task.{Task}
+use Rattle.task.specs.declared.Machine.{Machine}
+use Rattle.task.specs.Tasks.{stateFault}
+use Rattle.plan.specs.declared.Plan.{Plan}
+use Rattle.plan.specs.Walk.{fine, stuck}
+use Rattle.plan.specs.Plan.{walked, planOf}
+use Rattle.edits.specs.Edits.{Edit, tasksIn, editFault, edited, givenBack, editOf, accepted, Held, played}
+use Rattle.edits.specs.Kept.{inOrder, standsAt, Keeps, editedName, Among, Ahead, Behind, Meet}
+use Rattle.edits.proofs.TaskWalks.{Told, held-told}
+use Rattle.edits.proofs.AnswerLaws.{plan-holds, edit-made, edit-back, edit-keeps, Ends, replanned-ends, edit-goes}
+use Rattle.edits.proofs.FaultLaws.{lists-known, lists-faultless, edited-lists}
+use Rattle.edits.proofs.AroundLaws.{Around, edit-around, Sorts, kept-before, kept-behind}
+
+pub plan-held : (m : Machine) (c : Costs) (n : ℕ) (ts : List Task) → planOf m c n ts .number ≡ 0 → Held (planOf m c n ts .plan)
+plan-held m c n ts made = plan-holds m c n ts made
+
+-- ---- one edit
+
+pub edit-refused : (e : Edit) (s : Plan) → (editOf e s .number ≡ 0 → ⊥) → editOf e s .plan ≡ s
+edit-refused e s refusal = edit-back e s refusal
+
+pub edit-does : (e : Edit) (s : Plan) → editOf e s .number ≡ 0 → tasksIn (editOf e s .plan) ≡ edited e (tasksIn s)
+edit-does e s taken = edit-made e s taken .tasks-are
+
+pub edit-same : (e : Edit) (s : Plan) → (editOf e s .plan .machine ≡ s .machine) × (editOf e s .plan .costs ≡ s .costs)
+edit-same e s = (edit-keeps e s .0, edit-keeps e s .1)
+
+pub edit-held : (e : Edit) (s : Plan) → editOf e s .number ≡ 0 → Held (editOf e s .plan)
+edit-held e s taken = edit-made e s taken .held
+
+-- ---- where no rule is broken
+
+pub edit-faultless : (e : Edit) (s : Plan) → stateFault (s .machine) (s .costs) (s .tasks .count) (s .tasks .list) ≡ 0 → editFault e (tasksIn s) ≡ 0 → stateFault (s .machine) (s .costs) (length (edited e (tasksIn s))) (edited e (tasksIn s)) ≡ 0
+edit-faultless e s faultless right = lists-faultless (s .machine) (s .costs) (edited e (tasksIn s)) (edited-lists (s .machine) (s .costs) e (tasksIn s) (lists-known (s .machine) (s .costs) (s .tasks .count) (s .tasks .list) faultless) right)
+
+pub edit-or-stuck : (e : Edit) (s : Plan) → stateFault (s .machine) (s .costs) (s .tasks .count) (s .tasks .list) ≡ 0 → editFault e (tasksIn s) ≡ 0 → (editOf e s .number ≡ 0) ⊎ ((k : ℕ) × (walked (s .machine) (s .costs) (edited e (tasksIn s)) ≡ stuck k) × (editOf e s ≡ givenBack s 7 (suc k)))
+edit-or-stuck e s faultless right = subst (Ends s (edited e (tasksIn s))) (sym (edit-goes e s faultless right)) (replanned-ends s (edited e (tasksIn s)) (edit-faultless e s faultless right))
+
+-- ---- any sequence of edits
+
+pub after-edits : (es : List Edit) (s : Plan) → Held s → Held (played es s) × (played es s .machine ≡ s .machine) × (played es s .costs ≡ s .costs)
+after-edits [] s held = (held, refl, refl)
+after-edits (e ∷ es) s held =
+    let next = after-edits es (editOf e s .plan) (edit-keeps e s .2 held) in
+    (next .0, next .1 ∙ edit-same e s .0, next .2 ∙ edit-same e s .1)
+
+pub after-edits-afresh : (es : List Edit) (s : Plan) → Held s → planOf (s .machine) (s .costs) (played es s .tasks .count) (played es s .tasks .list) ≡ accepted (played es s)
+unfolding Held
+after-edits-afresh es s held =
+    let now = after-edits es s held in
+    let n = played es s .tasks .count in
+    let ts = played es s .tasks .list in
+    ap (λ (m : Machine). planOf m (s .costs) n ts) (sym (now .1)) ∙ (ap (λ (c : Costs). planOf (played es s .machine) c n ts) (sym (now .2)) ∙ now .0)
+
+-- ---- what an accepted edit keeps
+
+module _ (e : Edit) (s : Plan) (held : Held s) (taken : editOf e s .number ≡ 0) where
+  was : Told s
+  was = held-told s held
+
+  is : Told (editOf e s .plan)
+  is = held-told (editOf e s .plan) (edit-held e s taken)
+
+  around : Around (editedName e) (tasksIn s) (tasksIn (editOf e s .plan))
+  around = subst (Around (editedName e) (tasksIn s)) (sym (edit-does e s taken)) (edit-around e (tasksIn s))
+
+  -- the walk after the edit, on the machine and at the costs of before
+  walks : standsAt (s .machine) (s .costs) (inOrder (tasksIn (editOf e s .plan))) ≡ fine (is .stand) (is .log)
+  walks =
+      let order = inOrder (tasksIn (editOf e s .plan)) in
+      ap (λ (m : Machine). standsAt m (s .costs) order) (sym (edit-same e s .0)) ∙ (ap (λ (c : Costs). standsAt (editOf e s .plan .machine) c order) (sym (edit-same e s .1)) ∙ is .walks)
+
+  sorts : {p : Plan} → Told p → Sorts (tasksIn p)
+  sorts t = record { apart = t .apart; timed = t .timed }
+
+  pub edit-before : (b : Name) → Ahead (editedName e) b (tasksIn s) → Ahead (editedName e) b (tasksIn (editOf e s .plan)) → Keeps s (editOf e s .plan) b
+  unfolding Keeps
+  edit-before b old new q low =
+      was .shows b q low
+      ∙ (kept-before (s .machine) (s .costs) (was .some) around (sorts was) (sorts is) (was .walks) walks b (old .ahead) (new .ahead) q
+      ∙ sym (is .shows b q low))
+
+  pub edit-after : {p r p′ r′ : List Task} {b b′ : Task} → Behind (editedName e) (tasksIn s) p b r → Behind (editedName e) (tasksIn (editOf e s .plan)) p′ b′ r′ → b .name ≡ b′ .name → Meet (s .machine) (s .costs) p p′ →
+      (d : Name) → Among d (b ∷ r) → Keeps s (editOf e s .plan) d
+  unfolding Keeps
+  edit-after old new same meet d among q low =
+      was .shows d q low
+      ∙ (kept-behind (s .machine) (s .costs) (was .some) around (sorts was) (sorts is) (was .walks) walks old new same meet d among q
+      ∙ sym (is .shows d q low))
