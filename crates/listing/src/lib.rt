@@ -140,7 +140,7 @@ fn put_header(buf: &mut [u8], plan: Plan) -> usize
 // The lines of all cores.
 fn put_rows(buf: &mut [u8], at: usize, plan: Plan) -> usize
     requires { ⌜ at ≤ 47 ⌝ }
-    ensures { λ r. ⌜ Wrote (now (buf .entry)) at (entryLines (entries plan)) r (now (buf .exit)) ⌝ }
+    ensures { λ r. ⌜ (Wrote (now (buf .entry)) at (entryLines (entries plan)) r (now (buf .exit))) × (r ≤ 160047) ⌝ }
 {
     let mut k = at;
     let mut core: usize = 0;
@@ -153,15 +153,15 @@ fn put_rows(buf: &mut [u8], at: usize, plan: Plan) -> usize
 
 // All lines; the place behind them.
 fn put_plan(buf: &mut [u8], plan: Plan) -> usize
-    ensures { λ r. ⌜ Wrote (now (buf .entry)) 0 (listingOf plan) r (now (buf .exit)) ⌝ }
+    ensures { λ r. ⌜ (Wrote (now (buf .entry)) 0 (listingOf plan) r (now (buf .exit))) × (r ≤ 160047) ⌝ }
 {
     let k = put_header(buf, plan);
     put_rows(buf, k, plan)
 }
 
-/// The listing's length. It is written where the buffer is that long, and the bytes beyond it stay; else no byte is written.
+/// The listing's length, at most 160,047. It is written where the buffer is that long, and the bytes beyond it stay; else no byte is written.
 pub fn write_listing(plan: Plan, buf: &mut [u8]) -> usize
-    ensures exact { λ r. ⌜ (r ≡ length (listingOf plan)) × (now (buf .exit) ≡ over (listingOf plan) (now (buf .entry))) ⌝ }
+    ensures exact { λ r. ⌜ (r ≡ length (listingOf plan)) × (now (buf .exit) ≡ over (listingOf plan) (now (buf .entry))) × (r ≤ 160047) ⌝ }
 {
     let n = put_plan(&mut buf[..0], plan);
     if buf.len() < n {

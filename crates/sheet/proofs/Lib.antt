@@ -6,3 +6,4 @@ pub mod WholeLaws
 pub mod ArrowLaws
 pub mod RuleLaws
 pub mod Examples
+pub mod SmallLaws

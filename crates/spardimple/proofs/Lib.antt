@@ -2,4 +2,5 @@
 pub mod HoldingLaws
 pub mod ByteLaws
 pub mod NumberLaws
+pub mod SheetLaws
 pub mod Agreement

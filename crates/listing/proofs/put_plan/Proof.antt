@@ -22,7 +22,7 @@ same-length c = search needs
 returns : tie.Need-returns
 unfolding listingOf
 returns c =
-    wrote-both (c .before .before .before .before .before .before .put-header .ensures .0) (c .before .before .put-rows .ensures)
+    (wrote-both (c .before .before .before .before .before .before .put-header .ensures .0) (c .before .before .put-rows .ensures .0), c .before .before .put-rows .ensures .1)
 
 pub put-plan-spec : {M : Type 1} → statement M
 put-plan-spec = tie.close (tie.spec put-header-requires put-rows-requires same-length returns)

@@ -54,7 +54,7 @@ returns c =
     let l = c .before .loop in
     let s = c .before .before .before .args in
     let all : l .core ≡ 16 = omega arith in
-    subst (λ (n : ℕ). Wrote (s .buf .now) (s .at) (entryLines (entriesOn (s .plan) n)) (l .k) (l .buf)) all (l .inv .2)
+    (subst (λ (n : ℕ). Wrote (s .buf .now) (s .at) (entryLines (entriesOn (s .plan) n)) (l .k) (l .buf)) all (l .inv .2), omega (arith, l .inv .1))
 
 pub put-rows-spec : {M : Type 1} → statement M
 put-rows-spec =

@@ -30,10 +30,10 @@ returns c =
     let t = listingOf (c .before .before .before .before .before .before .args .plan) in
     let y = c .before .before .before .before .before .before .args .buf .now in
     let p = c .before .before .before .put-plan in
-    let j : p .result ≡ length t = p .ensures .place ∙ rw zero-add in
-    let e = first-pass t (p .last .0) y (p .result) (p .ensures) in
+    let j : p .result ≡ length t = p .ensures .0 .place ∙ rw zero-add in
+    let e = first-pass t (p .last .0) y (p .result) (p .ensures .0) in
     let h : length y < length t = omega (arith, c .if1 .taken, ap length e) in
-    (j, e ∙ sym (over-short t y h))
+    (j, e ∙ sym (over-short t y h), p .ensures .1)
 
 put-plan-requires-2 : tie.Need-put-plan-requires-2
 put-plan-requires-2 c κs = search needs
@@ -46,9 +46,9 @@ returns-2 c =
     let t = listingOf (c .before .before .before .before .before .before .before .before .before .before .args .plan) in
     let y = c .before .before .before .before .before .before .before .before .before .before .args .buf .now in
     let p = c .before .before .before .before .before .before .before .put-plan in
-    let j : p .result ≡ length t = p .ensures .place ∙ rw zero-add in
+    let j : p .result ≡ length t = p .ensures .0 .place ∙ rw zero-add in
     let q = c .before .before .put-plan2 in
-    (q .ensures .place ∙ rw zero-add, second-pass t (p .last .0) y (q .last .0) (p .result) (q .result) (p .ensures) (q .ensures) (omega (arith, c .before .before .before .before .if1 .left)))
+    (q .ensures .0 .place ∙ rw zero-add, second-pass t (p .last .0) y (q .last .0) (p .result) (q .result) (p .ensures .0) (q .ensures .0) (omega (arith, c .before .before .before .before .if1 .left)), q .ensures .1)
 
 pub write-listing-spec : {M : Type 1} → statement M
 write-listing-spec =

@@ -1,0 +1,113 @@
+-- How great the numbers of a sheet's refusal are: what they need to be told in one number.
+-- Assumes nothing.
+--
+--   read-small           a refusal has a number up to 9, and carries a line up to 16,385
+use mathlib.Core.Path.{_≡_, refl}
+use mathlib.Core.Bool.{Bool, true, false, cond, not}
+use mathlib.Core.List.{List, [], _∷_}
+use Prim.Native.Nat.{ℕ, zero, suc, _+_, _≤_}
+use native.Mathlib.Omega.{arith}
+use borrow.Author.Tests.{leb-true}
+use lib.Dec.{leb, eqb}
+use lib.ListN.{length}
+use Rattle.demand.specs.declared.Costs.{Costs}
+use Rattle.demand.specs.Sizes.{sized, sizedCosts}
+use Rattle.task.specs.declared.Name.{Name}
+use Rattle.task.specs.declared.Task.{Task}
+use Rattle.task.specs.declared.Machine.{Machine}
+use Rattle.task.specs.Tasks.{rule, sizedMachine, wholePiece}
+use Rattle.lines.specs.declared.Word.{Word}
+use Rattle.lines.specs.declared.Line.{Line}
+use Rattle.lines.specs.Lines.{newline, upTo, beyond}
+use Rattle.lines.specs.Forms.{lineOf}
+use Rattle.sheet.specs.Sheet.{Above, atTop, belowMachine, amongParts, top, free, room, machineFault, costFault, partFault, fitFault, wordFault, lineFault, after, Outcome, refused, whole, ending, next, readFrom, sheetMost, outcomeOf, shown, readOf}
+
+-- ---- one line
+
+rule-small : (b : Bool) (n rest : ℕ) → n ≤ 8 → rest ≤ 8 → rule b n rest ≤ 8
+rule-small true n rest here below = below
+rule-small false n rest here below = here
+
+machine-small : (stage : ℕ) (m : Machine) → machineFault stage m ≤ 8
+unfolding machineFault
+machine-small stage m = rule-small (eqb stage atTop) 8 (rule (sizedMachine m) 1 0) (omega arith) (rule-small (sizedMachine m) 1 0 (omega arith) (omega arith))
+
+cost-small : (stage : ℕ) (c : Costs) → costFault stage c ≤ 8
+unfolding costFault
+cost-small stage c = rule-small (eqb stage belowMachine) 8 (rule (sizedCosts c) 2 0) (omega arith) (rule-small (sizedCosts c) 2 0 (omega arith) (omega arith))
+
+part-small : (stage : ℕ) (t : Task) (parts : List Task) → partFault stage t parts ≤ 8
+unfolding partFault
+part-small stage t parts =
+    let fits : Bool = sized (wholePiece (t .times)) in
+    let last : rule (room parts) 6 0 ≤ 8 = rule-small (room parts) 6 0 (omega arith) (omega arith) in
+    let new : rule (free (t .name) parts) 4 (rule (room parts) 6 0) ≤ 8 = rule-small (free (t .name) parts) 4 (rule (room parts) 6 0) (omega arith) last in
+    rule-small (eqb stage amongParts) 8 (rule fits 3 (rule (free (t .name) parts) 4 (rule (room parts) 6 0))) (omega arith) (rule-small fits 3 (rule (free (t .name) parts) 4 (rule (room parts) 6 0)) (omega arith) new)
+
+fit-small : (stage : ℕ) (n p : Name) (parts tasks : List Task) → fitFault stage n p parts tasks ≤ 8
+unfolding fitFault
+fit-small stage n p parts tasks =
+    let known : Bool = not (free p parts) in
+    let last : rule (room tasks) 6 0 ≤ 8 = rule-small (room tasks) 6 0 (omega arith) (omega arith) in
+    let five : rule known 5 (rule (room tasks) 6 0) ≤ 8 = rule-small known 5 (rule (room tasks) 6 0) (omega arith) last in
+    rule-small (leb amongParts stage) 8 (rule (free n tasks) 4 (rule known 5 (rule (room tasks) 6 0))) (omega arith) (rule-small (free n tasks) 4 (rule known 5 (rule (room tasks) 6 0)) (omega arith) five)
+
+word-small : (w : Word) (a : Above) (l : Line) → wordFault w a l ≤ 8
+word-small Word.Machine a l = machine-small (a .stage) (l .machine)
+word-small Word.Cost a l = cost-small (a .stage) (l .costs)
+word-small Word.Part a l = part-small (a .stage) (l .task) (a .parts)
+word-small Word.Fit a l = fit-small (a .stage) (l .task .name) (l .part) (a .parts) (a .tasks)
+word-small Word.Other a l = omega arith
+
+line-small : (a : Above) (l : Line) → lineFault a l ≤ 8
+unfolding lineFault
+line-small a l = word-small (l .word) a l
+
+-- ---- all lines
+
+-- a refusal by its number and its line
+abbrev Small : ℕ → Outcome → Type 0
+Small most (refused n k) = (n ≤ 9) × (k ≤ most)
+Small most (whole a) = Unit {0}
+
+next-small : (most k n : ℕ) (rest : Outcome) → k ≤ 8 → n ≤ most → Small most rest → Small most (next k n rest)
+next-small most zero n rest few low small = small
+next-small most (suc k) n rest few low small = (omega arith, low)
+
+ending-small : (most : ℕ) (a : Above) (n : ℕ) (l : List ℕ) → n ≤ most → Small most (ending a n l)
+ending-small most a n (b ∷ l) low = (omega arith, low)
+ending-small most a n [] low = by (leb amongParts (a .stage))
+  where
+    by : (b : Bool) → Small most (cond b (whole a) (refused 8 n))
+    by true = tt
+    by false = (omega arith, low)
+
+from-small : (most : ℕ) (a : Above) (n : ℕ) (l : List ℕ) (ls : List (List ℕ)) → n + length ls ≤ most → Small most (readFrom a n l ls)
+unfolding readFrom
+from-small most a n l [] low = ending-small most a n l (omega arith)
+from-small most a n l (m ∷ ls) low = next-small most (lineFault a (lineOf l)) n (readFrom (after a (lineOf l)) (n + 1) m ls) (line-small a (lineOf l)) (omega arith) (from-small most (after a (lineOf l)) (n + 1) m ls (omega arith))
+
+beyond-few : (b : ℕ) (s : List ℕ) → length (beyond b s) ≤ length s
+unfolding beyond
+beyond-few b [] = omega arith
+beyond-few b (x ∷ s) = by (eqb x b) (beyond-few b s)
+  where
+    by : (t : Bool) → length (beyond b s) ≤ length s → length (cond t (upTo b s ∷ beyond b s) (beyond b s)) ≤ suc (length s)
+    by true h = omega arith
+    by false h = omega arith
+
+sheet-small : (bytes : List ℕ) → Small 16385 (outcomeOf bytes)
+unfolding outcomeOf
+sheet-small bytes = by (leb (length bytes) sheetMost) refl
+  where
+    by : (b : Bool) → leb (length bytes) sheetMost ≡ b → Small 16385 (cond b (readFrom top 1 (upTo newline bytes) (beyond newline bytes)) (refused 9 0))
+    by true e = from-small 16385 top 1 (upTo newline bytes) (beyond newline bytes) (omega (arith, beyond-few newline bytes, leb-true (length bytes) sheetMost e))
+    by false e = (omega arith, omega arith)
+
+pub read-small : (bytes : List ℕ) → (readOf bytes .number ≤ 9) × (readOf bytes .carries ≤ 16385)
+unfolding readOf
+read-small bytes = by (outcomeOf bytes) (sheet-small bytes)
+  where
+    by : (o : Outcome) → Small 16385 o → (shown o .number ≤ 9) × (shown o .carries ≤ 16385)
+    by (refused n k) small = small
+    by (whole a) small = (omega arith, omega arith)
