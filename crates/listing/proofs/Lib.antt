@@ -1,3 +1,5 @@
 -- Laws that belong to no one function.
 pub mod TextLaws
 pub mod EntryLaws
+pub mod DigitLaws
+pub mod Theorems
