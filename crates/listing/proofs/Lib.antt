@@ -2,4 +2,5 @@
 pub mod TextLaws
 pub mod EntryLaws
 pub mod DigitLaws
+pub mod ReadLaws
 pub mod Theorems
