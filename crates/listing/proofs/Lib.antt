@@ -3,4 +3,5 @@ pub mod TextLaws
 pub mod EntryLaws
 pub mod DigitLaws
 pub mod ReadLaws
+pub mod PlacedLaws
 pub mod Theorems
