@@ -6,14 +6,15 @@
 --   each-on                what holds of each that is placed holds of each on a core, and that is on it
 --   plan-is                the plan, from what was placed
 --   row-placed             the entries of a core are those of what was placed there
---   entries-count          there are as many entries as pieces placed
+--   seats-low              all is placed on one of 16 cores
+--   entries-count, pieces-count, tasks-count      there are as many entries as pieces placed, and the plan counts them and its tasks
 use mathlib.Core.Path.{_≡_, refl, sym, ap, _∙_, subst}
 use mathlib.Core.Bool.{Bool, true, false}
 use mathlib.Core.List.{List, [], _∷_, _++_, map, map-map}
 use Prim.Native.Nat.{ℕ, zero, suc, _+_, _*_, _≤_, _<_}
 use native.Mathlib.Decide.{decLt}
 use native.Mathlib.Omega.{arith}
-use borrow.Author.Tests.{eqb-true, eqb-false}
+use borrow.Author.Tests.{ne-eqb, eqb-true, eqb-false}
 use lib.Dec.{eqb}
 use lib.ListN.{length, take, drop, getD, length-append, length-map, List·getD-append}
 use lib.Seq.{take-take}
@@ -110,6 +111,39 @@ row-pieces y l q shows low short =
     let few : getD (y .lens) q 0 ≤ 64 = omega (arith, shows .lens q low) in
     ap (map (λ i. getD (y .pieces) i blank)) (take-take (getD (y .lens) q 0) 64 (drop (q * 64) (y .rows)) few) ∙ shows .numbers q low
 
+-- ---- how many there are
+
+-- the number of pieces on the first k cores
+abbrev onFirstCores : ℕ → List (Placed ℕ) → ℕ
+onFirstCores zero l = 0
+onFirstCores (suc q) l = onFirstCores q l + length (onCore q l)
+
+count-above : (k : ℕ) (e : Placed ℕ) (l : List (Placed ℕ)) → k ≤ e .on → onFirstCores k (e ∷ l) ≡ onFirstCores k l
+count-above zero e l high = refl
+count-above (suc q) e l high = rw (count-above q e l (omega arith), ne-eqb (e .on) q (λ h. omega arith))
+
+count-below : (k : ℕ) (e : Placed ℕ) (l : List (Placed ℕ)) → e .on < k → onFirstCores k (e ∷ l) ≡ suc (onFirstCores k l)
+count-below zero e l low = absurd (omega arith)
+count-below (suc q) e l low = by (eqb (e .on) q) refl (λ h. count-below q e l h)
+  where
+    by : (t : Bool) → eqb (e .on) q ≡ t → (e .on < q → onFirstCores q (e ∷ l) ≡ suc (onFirstCores q l)) → onFirstCores q (e ∷ l) + length (keep t e (onCore q l)) ≡ suc (onFirstCores q l + length (onCore q l))
+    by true h below = omega (arith, count-above q e l (omega (arith, eqb-true (e .on) q h)))
+    by false h below = omega (arith, below (less (decLt (e .on) q)))
+      where
+        less : Dec (e .on < q) → e .on < q
+        less (yes g) = g
+        less (no g) = absurd (eqb-false (e .on) q h (omega arith))
+
+count-none : (k : ℕ) → onFirstCores k [] ≡ 0
+count-none zero = refl
+count-none (suc q) = omega (arith, count-none q)
+
+count-all : (k : ℕ) (l : List (Placed ℕ)) → Each (λ e. e .on < k) l → onFirstCores k l ≡ length l
+count-all k [] ok = count-none k
+count-all k (e ∷ l) ok = count-below k e l (ok .0) ∙ ap suc (count-all k l (ok .1))
+
+-- ---- a plan that the walk gave
+
 module _ (m : Machine) (c : Costs) (n : ℕ) (ts : List Task) (faultless : stateFault m c n ts ≡ 0) (s : Stand) (l : List (Placed ℕ)) (planned : walked m c (take n ts) ≡ fine s l) where
   pub plan-is : planOf m c n ts ≡ finished m c (take n ts) (fine s l)
   unfolding planOf
@@ -124,3 +158,21 @@ module _ (m : Machine) (c : Costs) (n : ℕ) (ts : List Task) (faultless : state
       ap (map (entryOf p q)) (row-pieces (p .layout) l q (plan-shows m c n ts faultless s l planned) low (plan-counts m c n ts faultless s l planned .row-fits q))
       ∙ (map-map (entryOf p q) storedOf (onCore q l)
       ∙ map-same (λ e. Seated k e × (e .on ≡ q)) (λ e. entryOf p q (storedOf e)) (placedEntry c (take n ts)) (λ e seat. entry-placed p c (take n ts) q e costs list (state-sane m c n ts faultless .costs) (seat .0) (seat .1)) (onCore q l) (each-on (Seated k) q l (all-seated m c n ts faultless s l planned)))
+
+  rows-count : (k : ℕ) → k ≤ 16 → length (entriesOn (planOf m c n ts .plan) k) ≡ onFirstCores k l
+  rows-count zero few = refl
+  rows-count (suc q) few =
+      let p : Plan = planOf m c n ts .plan in
+      omega (arith, length-append (entriesOn p q) (rowEntries p q), rows-count q (omega arith), ap length (row-placed q (omega arith)), length-map (onCore q l) (placedEntry c (take n ts)))
+
+  pub seats-low : Each (λ e. e .on < 16) l
+  seats-low = each-imp (λ (e : Placed ℕ). e .on < m .cores) (λ (e : Placed ℕ). e .on < 16) (λ e h. omega (arith, state-sane m c n ts faultless .cores-fit)) l (plan-counts m c n ts faultless s l planned .cores)
+
+  pub entries-count : length (entries (planOf m c n ts .plan)) ≡ length l
+  entries-count = rows-count 16 (omega arith) ∙ count-all 16 l seats-low
+
+  pub pieces-count : planOf m c n ts .plan .layout .count ≡ length l
+  pieces-count = plan-shows m c n ts faultless s l planned .count
+
+  pub tasks-count : planOf m c n ts .plan .tasks .count ≡ length (take n ts)
+  tasks-count = ap (λ (r : Reply). r .plan .tasks .count) plan-is
