@@ -4,4 +4,5 @@ pub mod EntryLaws
 pub mod DigitLaws
 pub mod ReadLaws
 pub mod PlacedLaws
+pub mod PlainLaws
 pub mod Theorems
