@@ -8,14 +8,14 @@
 --   decimal-value, decimal-number, decimal-digits       the same of all digits of a number
 --   decimal-one            so two numbers with the same digits are one
 use mathlib.Core.Path.{_≡_, refl, sym, ap, _∙_}
-use mathlib.Core.Bool.{Bool, true, false, not, _&&_}
+use mathlib.Core.Bool.{true}
 use mathlib.Core.List.{List, [], _∷_}
 use Prim.Native.Nat.{ℕ, zero, suc, _+_, _-_, _*_, _/_, _%_, _^_, _≤_, _<_}
-use native.Mathlib.Nat.{pow-suc, div-lt-iff-lt-mul, le-div-iff-mul-le}
+use native.Mathlib.Nat.{pow-suc, div-lt-iff-lt-mul}
 use native.Mathlib.Decide.{decLt}
 use native.Mathlib.Omega.{arith}
 use borrow.Author.Tests.{le-leb, ne-eqb}
-use lib.Dec.{eqb, lit<}
+use lib.Dec.{lit<}
 use lib.ListN.{length, getD}
 use Rattle.lines.specs.Lines.{isDigit, every, unled, isNumber, valueFrom, valueOf}
 use Rattle.lines.proofs.FieldLaws.{unled-short, unled-long}

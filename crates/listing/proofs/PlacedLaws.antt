@@ -6,11 +6,10 @@
 --   each-on                what holds of each that is placed holds of each on a core, and that is on it
 --   plan-is                the plan, from what was placed
 --   row-placed             the entries of a core are those of what was placed there
---   seats-low              all is placed on one of 16 cores
 --   entries-count, pieces-count, tasks-count      there are as many entries as pieces placed, and the plan counts them and its tasks
-use mathlib.Core.Path.{_≡_, refl, sym, ap, _∙_, subst}
+use mathlib.Core.Path.{_≡_, refl, ap, _∙_, subst}
 use mathlib.Core.Bool.{Bool, true, false}
-use mathlib.Core.List.{List, [], _∷_, _++_, map, map-map}
+use mathlib.Core.List.{List, [], _∷_, map, map-map}
 use Prim.Native.Nat.{ℕ, zero, suc, _+_, _*_, _≤_, _<_}
 use native.Mathlib.Decide.{decLt}
 use native.Mathlib.Omega.{arith}
@@ -28,17 +27,16 @@ use Rattle.demand.proofs.Sums.{each-imp}
 use Rattle.task.specs.declared.Task.{Task}
 use Rattle.task.specs.declared.Machine.{Machine}
 use Rattle.task.specs.Tasks.{taskAt, past, stateFault}
-use Rattle.task.proofs.TaskLaws.{Sane, state-sane}
-use Rattle.plan.specs.declared.Stored.{Stored}
+use Rattle.task.proofs.TaskLaws.{state-sane}
 use Rattle.plan.specs.declared.Layout.{Layout}
 use Rattle.plan.specs.declared.Plan.{Plan}
 use Rattle.plan.specs.declared.Reply.{Reply}
 use Rattle.plan.specs.Order.{denserAt, upto}
 use Rattle.plan.specs.Walk.{Stand, Placed, fine, keep, onCore, rowOf, rulesFor}
-use Rattle.plan.specs.Layout.{pieceOf, stored, blank, layoutOn, none}
+use Rattle.plan.specs.Layout.{pieceOf, blank}
 use Rattle.plan.specs.Plan.{wholeAt, padded, walked, finished, planOf}
 use Rattle.plan.specs.Shares.{packed, rulesOf, onFirst}
-use Rattle.plan.specs.Shows.{storedOf, numbersOn, Shows}
+use Rattle.plan.specs.Shows.{storedOf, Shows}
 use Rattle.plan.proofs.WalkLaws.{IfFine, Share, Shares, nil, more, shares, each-join}
 use Rattle.plan.proofs.WalkLaws as walks
 use Rattle.plan.proofs.OrderLaws.{pack-every}
@@ -46,7 +44,7 @@ use Rattle.plan.proofs.RuleLaws.{Fine, cut-parts, cd-sound}
 use Rattle.plan.proofs.PlanLaws.{sized-at, upto-each}
 use Rattle.plan.proofs.GoingLaws.{piece-stored}
 use Rattle.plan.proofs.Theorems.{packing-order, plan-counts, plan-shows}
-use Rattle.listing.specs.Listing.{Entry, spelling, rowPieces, entryOf, rowEntries, entriesOn, entries}
+use Rattle.listing.specs.Listing.{rowPieces, entryOf, rowEntries, entriesOn, entries}
 use Rattle.listing.specs.Placed.{placedEntry}
 
 -- ---- what the walk placed
@@ -77,7 +75,7 @@ module _ (m : Machine) (c : Costs) (n : ℕ) (ts : List Task) (faultless : state
       let sizes : Each (λ a. Sized (w a)) (packed (take n ts)) = pack-every (denserAt (take n ts)) (λ a. Sized (w a)) (upto k) (upto-each (λ a. Sized (w a)) k (sized-at (take n ts) (sane .timed))) in
       let sound = cd-sound c (m .grain) w (sane .costs) in
       let all : Shares (rulesOf m c (take n ts)) (Fine c) (packed (take n ts)) l = subst (IfFine (λ t k. Shares (rulesOf m c (take n ts)) (Fine c) (packed (take n ts)) k)) planned
-          (shares (rulesOf m c (take n ts)) (λ a. Sized (w a)) (Fine c) sound (packed (take n ts)) sizes (onFirst m) (sound .empty)) in
+      (shares (rulesOf m c (take n ts)) (λ a. Sized (w a)) (Fine c) sound (packed (take n ts)) sizes (onFirst m) (sound .empty)) in
       shares-seated c (m .grain) w k (sane .costs) all (packing-order (take n ts) .below) sizes
 
 -- ---- what is on a core
@@ -165,7 +163,7 @@ module _ (m : Machine) (c : Costs) (n : ℕ) (ts : List Task) (faultless : state
       let p : Plan = planOf m c n ts .plan in
       omega (arith, length-append (entriesOn p q) (rowEntries p q), rows-count q (omega arith), ap length (row-placed q (omega arith)), length-map (onCore q l) (placedEntry c (take n ts)))
 
-  pub seats-low : Each (λ e. e .on < 16) l
+  seats-low : Each (λ e. e .on < 16) l
   seats-low = each-imp (λ (e : Placed ℕ). e .on < m .cores) (λ (e : Placed ℕ). e .on < 16) (λ e h. omega (arith, state-sane m c n ts faultless .cores-fit)) l (plan-counts m c n ts faultless s l planned .cores)
 
   pub entries-count : length (entries (planOf m c n ts .plan)) ≡ length l

@@ -5,20 +5,20 @@
 --   names-formed           tasks that break no rule have such names
 --   placed-readable        the entry of what was placed can be read back
 --   entries-readable       so can all entries of a plan
-use mathlib.Core.Path.{_≡_, refl, sym, ap, _∙_}
-use mathlib.Core.Bool.{Bool, true, false, cond, _&&_}
-use mathlib.Core.List.{List, [], _∷_, _++_, map}
+use mathlib.Core.Path.{_≡_, refl}
+use mathlib.Core.Bool.{Bool, true, false}
+use mathlib.Core.List.{List, [], _∷_, _++_}
 use Prim.Native.Nat.{ℕ, zero, suc, _+_, _≤_, _<_}
 use native.Mathlib.Nat.{not-suc-le-zero, le-of-suc-le-suc}
 use native.Mathlib.Omega.{arith}
 use borrow.Author.Tests.{lt-ltb}
-use lib.Dec.{leb, ltb}
+use lib.Dec.{leb}
 use lib.ListN.{length, take}
 use Rattle.demand.specs.declared.Costs.{Costs}
 use Rattle.demand.specs.Sizes.{SizedCosts, Each}
 use Rattle.demand.specs.Charge.{charge, charged}
 use Rattle.demand.proofs.ChargeLaws.{charged-ranged, sized-countable}
-use Rattle.demand.proofs.Sums.{each-imp, each-map}
+use Rattle.demand.proofs.Sums.{each-map}
 use Rattle.task.specs.declared.Name.{Name}
 use Rattle.task.specs.declared.Task.{Task}
 use Rattle.task.specs.declared.Machine.{Machine}
@@ -27,14 +27,13 @@ use Rattle.task.specs.Tasks.{taskAt, faultOf, firstFault, orElse, stateFault}
 use Rattle.task.proofs.TaskLaws.{state-sane, fault-form}
 use Rattle.lines.specs.Lines.{tab}
 use Rattle.lines.proofs.FieldLaws.{both-left, both-right}
-use Rattle.plan.specs.declared.Plan.{Plan}
 use Rattle.plan.specs.Walk.{Stand, Placed, fine, onCore}
 use Rattle.plan.specs.Plan.{walked, planOf}
 use Rattle.plan.proofs.WalkLaws.{each-join}
-use Rattle.listing.specs.Listing.{Entry, spelling, rowEntries, entriesOn, entries}
+use Rattle.listing.specs.Listing.{spelling, rowEntries, entriesOn, entries}
 use Rattle.listing.specs.Placed.{placedEntry}
 use Rattle.listing.proofs.ReadLaws.{Lacks, Readable}
-use Rattle.listing.proofs.PlacedLaws.{Seated, all-seated, each-on, row-placed, seats-low}
+use Rattle.listing.proofs.PlacedLaws.{Seated, all-seated, each-on, row-placed}
 
 -- ---- names
 

@@ -5,16 +5,16 @@
 --   cut-alike              two texts that are equal are so up to the first byte b, and behind it
 --   fieldsOn fs r          the fields fs, each ended by a tab, and then r
 --   fields-alike           two such runs with as many fields are equal in each of them
---   decimal-lacks          digits are neither tabs nor newlines
---   word-lacks, word-one   nor are the kinds' words, and no two of them are the same
+--   decimal-lacks          digits are no bytes below 48, so no tabs and no newlines
+--   word-lacks, word-one   the kinds' words have no tab, and no two of them are the same
 --   line-cut               a line of fields of which the last is a number
 --   Readable e             what an entry needs to be read back
 --   lines-alike            the lines of such entries determine them
 --   listing-alike          and two listings that are equal are so in their first lines' numbers and in the lines below
-use mathlib.Core.Path.{_≡_, refl, sym, ap, _∙_}
-use mathlib.Core.Bool.{Bool, true, false, not, _&&_}
+use mathlib.Core.Path.{_≡_, refl, sym, _∙_}
+use mathlib.Core.Bool.{true, false, not}
 use mathlib.Core.List.{List, [], _∷_, _++_, append-assoc}
-use Prim.Native.Nat.{ℕ, zero, suc, _+_, _^_, _≤_, _<_}
+use Prim.Native.Nat.{ℕ, _^_, _<_}
 use native.Mathlib.Omega.{arith}
 use borrow.Author.Tests.{eq-eqb}
 use lib.Dec.{eqb}
@@ -25,7 +25,7 @@ use Rattle.demand.specs.Sizes.{Each}
 use Rattle.plan.specs.declared.Plan.{Plan}
 use Rattle.lines.specs.Lines.{bytesOf, tab, newline, isDigit, every}
 use Rattle.lines.proofs.FieldLaws.{both-left, both-right, digit-low}
-use Rattle.listing.specs.Text.{ended, decimal}
+use Rattle.listing.specs.Text.{decimal}
 use Rattle.listing.specs.Listing.{Entry, kindWord, entryLine, entryLines, entries, header, listingOf}
 use Rattle.listing.proofs.DigitLaws.{decimal-digits, decimal-one}
 
@@ -57,9 +57,10 @@ fields-alike (f ∷ fs) (g ∷ gs) r s l h k e =
 
 lacks-by : (b : ℕ) (f : List ℕ) → every (λ a. not (eqb a b)) f ≡ true → Lacks b f
 lacks-by b [] ok = tt
-lacks-by b (a ∷ f) ok =
-    ((λ e. let z : false ≡ true = (let h = both-left (not (eqb a b)) (every (λ a. not (eqb a b)) f) ok in rw (eq-eqb a b e) at h) in let y : _≡_ {A = ℕ} 0 1 = cc in omega arith),
-    lacks-by b f (both-right (not (eqb a b)) (every (λ a. not (eqb a b)) f) ok))
+lacks-by b (a ∷ f) ok = (
+  (λ e. let z : false ≡ true = (let h = both-left (not (eqb a b)) (every (λ a. not (eqb a b)) f) ok in rw (eq-eqb a b e) at h) in let y : _≡_ {A = ℕ} 0 1 = cc in omega arith),
+  lacks-by b f (both-right (not (eqb a b)) (every (λ a. not (eqb a b)) f) ok),
+)
 
 digits-lack : (b : ℕ) → b < 48 → (f : List ℕ) → every isDigit f ≡ true → Lacks b f
 digits-lack b low [] ok = tt
@@ -126,7 +127,7 @@ line-alike e f r s ok good same =
     let jitter = decimal-one (e .jitter) (f .jitter) (ok .jitter-fits) (good .jitter-fits) (cc (cut .0)) in
     let charged = decimal-one (e .charged) (f .charged) (ok .charged-fits) (good .charged-fits) (cut .1) in
     let all : _≡_ {A = Entry} (record { core = e .core; task = e .task; kind = e .kind; budget = e .budget; window = e .window; jitter = e .jitter; charged = e .charged })
-        (record { core = f .core; task = f .task; kind = f .kind; budget = f .budget; window = f .window; jitter = f .jitter; charged = f .charged }) = cc in
+    (record { core = f .core; task = f .task; kind = f .kind; budget = f .budget; window = f .window; jitter = f .jitter; charged = f .charged }) = cc in
     (all, cut .2)
 
 -- a line has bytes

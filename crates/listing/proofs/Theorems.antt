@@ -15,12 +15,12 @@ use mathlib.Core.List.{List, map}
 use Prim.Native.Nat.{ℕ, _^_, _<_}
 use lib.ListN.{length, take}
 use Rattle.demand.specs.declared.Costs.{Costs}
+use Rattle.demand.specs.Sizes.{Each}
 use Rattle.task.specs.declared.Task.{Task}
 use Rattle.task.specs.declared.Machine.{Machine}
 use Rattle.task.specs.Tasks.{stateFault}
 use Rattle.plan.specs.Walk.{Stand, Placed, fine, onCore}
 use Rattle.plan.specs.Plan.{walked, planOf}
-use Rattle.demand.specs.Sizes.{Each}
 use Rattle.plan.proofs.Theorems.{plan-faultless, plan-comes}
 use Rattle.lines.specs.Lines.{isNumber, valueOf}
 use Rattle.listing.specs.Text.{decimal}
