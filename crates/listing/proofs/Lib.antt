@@ -1,3 +1,8 @@
 -- Laws that belong to no one function.
 pub mod TextLaws
 pub mod EntryLaws
+pub mod DigitLaws
+pub mod ReadLaws
+pub mod PlacedLaws
+pub mod PlainLaws
+pub mod Theorems

@@ -4,6 +4,7 @@
 --   wrote-none, wrote-both, wrote-more     nothing written; one run behind another; one byte more of a run
 --   wrote-whole, wrote-length              what a buffer that is long enough then holds; and it keeps its length
 --   ended-length                           a run and its end
+--   digits-last, digits-step               the first digit of a number, and any other
 --   Left n d i m                           the digits of n that are left: m, for the i places in front of those in d
 --   left-start, left-step, digits-whole    from the number to all its digits
 --   decimal-few                            at most twenty digits
@@ -60,11 +61,11 @@ ended-length b f = length-append f (b ∷ [])
 
 -- ---- digits
 
-digits-last : (k n : ℕ) (ds : List ℕ) → n < 10 → digitsOnto (suc k) n ds ≡ (48 + n) ∷ ds
+pub digits-last : (k n : ℕ) (ds : List ℕ) → n < 10 → digitsOnto (suc k) n ds ≡ (48 + n) ∷ ds
 unfolding digitsOnto
 digits-last k n ds h = simp (lt-ltb n 10 h)
 
-digits-step : (k n : ℕ) (ds : List ℕ) → 10 ≤ n → digitsOnto (suc k) n ds ≡ digitsOnto k (n / 10) ((48 + n % 10) ∷ ds)
+pub digits-step : (k n : ℕ) (ds : List ℕ) → 10 ≤ n → digitsOnto (suc k) n ds ≡ digitsOnto k (n / 10) ((48 + n % 10) ∷ ds)
 unfolding digitsOnto
 digits-step k n ds h = simp (le-ltb n 10 h)
 

@@ -1,3 +1,4 @@
--- What the contracts of `listing` cite.
+-- What the contracts of `listing` cite; then what the theorems speak of.
 pub mod Text
 pub mod Listing
+pub mod Placed

@@ -1,0 +1,176 @@
+-- Laws of the entries of a plan that the walk gave: they are those of what was placed.
+-- Assumes nothing.
+--
+--   Seated k e             what was placed, e, is of one of the first k tasks, and its piece is within the sizes
+--   all-seated             so is all that the walk placed
+--   each-on                what holds of each that is placed holds of each on a core, and that is on it
+--   plan-is                the plan, from what was placed
+--   row-placed             the entries of a core are those of what was placed there
+--   entries-count, pieces-count, tasks-count      there are as many entries as pieces placed, and the plan counts them and its tasks
+use mathlib.Core.Path.{_≡_, refl, ap, _∙_, subst}
+use mathlib.Core.Bool.{Bool, true, false}
+use mathlib.Core.List.{List, [], _∷_, map, map-map}
+use Prim.Native.Nat.{ℕ, zero, suc, _+_, _*_, _≤_, _<_}
+use native.Mathlib.Decide.{decLt}
+use native.Mathlib.Omega.{arith}
+use borrow.Author.Tests.{ne-eqb, eqb-true, eqb-false}
+use lib.Dec.{eqb}
+use lib.ListN.{length, take, drop, getD, length-append, length-map, List·getD-append}
+use lib.Seq.{take-take}
+use Rattle.demand.specs.declared.Piece.{Piece}
+use Rattle.demand.specs.declared.Costs.{Costs}
+use Rattle.demand.specs.Sizes.{Sized, SizedCosts, Each}
+use Rattle.demand.specs.Charge.{charge}
+use Rattle.demand.specs.Answer.{chargedTime}
+use Rattle.demand.proofs.ChargeLaws.{charged-time-is}
+use Rattle.demand.proofs.Sums.{each-imp}
+use Rattle.task.specs.declared.Task.{Task}
+use Rattle.task.specs.declared.Machine.{Machine}
+use Rattle.task.specs.Tasks.{taskAt, past, stateFault}
+use Rattle.task.proofs.TaskLaws.{state-sane}
+use Rattle.plan.specs.declared.Layout.{Layout}
+use Rattle.plan.specs.declared.Plan.{Plan}
+use Rattle.plan.specs.declared.Reply.{Reply}
+use Rattle.plan.specs.Order.{denserAt, upto}
+use Rattle.plan.specs.Walk.{Stand, Placed, fine, keep, onCore, rowOf, rulesFor}
+use Rattle.plan.specs.Layout.{pieceOf, blank}
+use Rattle.plan.specs.Plan.{wholeAt, padded, walked, finished, planOf}
+use Rattle.plan.specs.Shares.{packed, rulesOf, onFirst}
+use Rattle.plan.specs.Shows.{storedOf, Shows}
+use Rattle.plan.proofs.WalkLaws.{IfFine, Share, Shares, nil, more, shares, each-join}
+use Rattle.plan.proofs.WalkLaws as walks
+use Rattle.plan.proofs.OrderLaws.{pack-every}
+use Rattle.plan.proofs.RuleLaws.{Fine, cut-parts, cd-sound}
+use Rattle.plan.proofs.PlanLaws.{sized-at, upto-each}
+use Rattle.plan.proofs.GoingLaws.{piece-stored}
+use Rattle.plan.proofs.Theorems.{packing-order, plan-counts, plan-shows}
+use Rattle.listing.specs.Listing.{rowPieces, entryOf, rowEntries, entriesOn, entries}
+use Rattle.listing.specs.Placed.{placedEntry}
+
+-- ---- what the walk placed
+
+pub record Seated (k : ℕ) (e : Placed ℕ) : Type 0 where
+  pub low : e .item < k
+  pub size : Sized (e .piece)
+
+module _ (c : Costs) (g : ℕ) (w : ℕ → Piece) (k : ℕ) (costs : SizedCosts c) where
+  share-seated : {a : ℕ} {x : List (Placed ℕ)} → Share (rulesFor c g w) (Fine c) a x → a < k → Sized (w a) → Each (Seated k) x
+  unfolding rulesFor
+  share-seated walks.whole low size = (record { low = low; size = size }, tt)
+  share-seated {a} (walks.split {f = f} {l = l} {row = row} has e) low size =
+      let cut = cut-parts c g costs row (w a) (has .sizes) size f l e in
+      (record { low = low; size = rw (cut .first-is) (cut .parts .first-sized) }, (record { low = low; size = rw (cut .last-is) (cut .parts .last-sized) }, tt))
+
+  shares-seated : {xs : List ℕ} {l : List (Placed ℕ)} → Shares (rulesFor c g w) (Fine c) xs l → Each (λ a. a < k) xs → Each (λ a. Sized (w a)) xs → Each (Seated k) l
+  shares-seated nil low size = tt
+  shares-seated (more {k = x} {l = l} s r) low size = each-join (Seated k) x l (share-seated s (low .0) (size .0)) (shares-seated r (low .1) (size .1))
+
+module _ (m : Machine) (c : Costs) (n : ℕ) (ts : List Task) (faultless : stateFault m c n ts ≡ 0) (s : Stand) (l : List (Placed ℕ)) (planned : walked m c (take n ts) ≡ fine s l) where
+  pub all-seated : Each (Seated (length (take n ts))) l
+  unfolding walked
+  all-seated =
+      let sane = state-sane m c n ts faultless in
+      let k : ℕ = length (take n ts) in
+      let w : ℕ → Piece = wholeAt (take n ts) in
+      let sizes : Each (λ a. Sized (w a)) (packed (take n ts)) = pack-every (denserAt (take n ts)) (λ a. Sized (w a)) (upto k) (upto-each (λ a. Sized (w a)) k (sized-at (take n ts) (sane .timed))) in
+      let sound = cd-sound c (m .grain) w (sane .costs) in
+      let all : Shares (rulesOf m c (take n ts)) (Fine c) (packed (take n ts)) l = subst (IfFine (λ t k. Shares (rulesOf m c (take n ts)) (Fine c) (packed (take n ts)) k)) planned
+      (shares (rulesOf m c (take n ts)) (λ a. Sized (w a)) (Fine c) sound (packed (take n ts)) sizes (onFirst m) (sound .empty)) in
+      shares-seated c (m .grain) w k (sane .costs) all (packing-order (take n ts) .below) sizes
+
+-- ---- what is on a core
+
+pub each-on : (P : Placed ℕ → Type 0) (q : ℕ) (l : List (Placed ℕ)) → Each P l → Each (λ e. P e × (e .on ≡ q)) (onCore q l)
+each-on P q [] ok = tt
+each-on P q (e ∷ l) ok = by (eqb (e .on) q) refl (each-on P q l (ok .1))
+  where
+    by : (t : Bool) → eqb (e .on) q ≡ t → Each (λ e. P e × (e .on ≡ q)) (onCore q l) → Each (λ e. P e × (e .on ≡ q)) (keep t e (onCore q l))
+    by true h others = ((ok .0, eqb-true (e .on) q h), others)
+    by false h others = others
+
+map-same : {A B : Type 0} (P : A → Type 0) (f g : A → B) → ((a : A) → P a → f a ≡ g a) → (x : List A) → Each P x → map f x ≡ map g x
+map-same P f g same [] ok = refl
+map-same P f g same (a ∷ x) ok = cc (same a (ok .0), map-same P f g same x (ok .1))
+
+-- the entry of what was placed, from the plan's struct
+entry-placed : (p : Plan) (c : Costs) (ts : List Task) (q : ℕ) (e : Placed ℕ) → p .costs ≡ c → p .tasks .list ≡ padded ts → SizedCosts c → Seated (length ts) e → e .on ≡ q → entryOf p q (storedOf e) ≡ placedEntry c ts e
+unfolding entryOf placedEntry padded
+entry-placed p c ts q e costs list sizes seat on =
+    let piece : pieceOf (storedOf e) ≡ e .piece = piece-stored (e .item) (e .piece) in
+    let task : taskAt (p .tasks .list) (e .item) ≡ taskAt ts (e .item) = ap (λ (l : List Task). taskAt l (e .item)) list ∙ List·getD-append ts _ past (e .item) (seat .low) in
+    let time : chargedTime (p .costs) (pieceOf (storedOf e)) ≡ charge c (e .piece) = rw (piece, costs) (charged-time-is c (e .piece) sizes (seat .size)) in
+    let kind : pieceOf (storedOf e) .kind ≡ e .piece .kind = ap (λ (z : Piece). z .kind) piece in
+    cc (on, task, time, kind)
+
+-- a row of at most 64 is listed whole
+row-pieces : (y : Layout) (l : List (Placed ℕ)) (q : ℕ) → Shows y l → q < 16 → length (rowOf q l) ≤ 64 → rowPieces y q ≡ map storedOf (onCore q l)
+unfolding rowPieces
+row-pieces y l q shows low short =
+    let few : getD (y .lens) q 0 ≤ 64 = omega (arith, shows .lens q low) in
+    ap (map (λ i. getD (y .pieces) i blank)) (take-take (getD (y .lens) q 0) 64 (drop (q * 64) (y .rows)) few) ∙ shows .numbers q low
+
+-- ---- how many there are
+
+-- the number of pieces on the first k cores
+abbrev onFirstCores : ℕ → List (Placed ℕ) → ℕ
+onFirstCores zero l = 0
+onFirstCores (suc q) l = onFirstCores q l + length (onCore q l)
+
+count-above : (k : ℕ) (e : Placed ℕ) (l : List (Placed ℕ)) → k ≤ e .on → onFirstCores k (e ∷ l) ≡ onFirstCores k l
+count-above zero e l high = refl
+count-above (suc q) e l high = rw (count-above q e l (omega arith), ne-eqb (e .on) q (λ h. omega arith))
+
+count-below : (k : ℕ) (e : Placed ℕ) (l : List (Placed ℕ)) → e .on < k → onFirstCores k (e ∷ l) ≡ suc (onFirstCores k l)
+count-below zero e l low = absurd (omega arith)
+count-below (suc q) e l low = by (eqb (e .on) q) refl (λ h. count-below q e l h)
+  where
+    by : (t : Bool) → eqb (e .on) q ≡ t → (e .on < q → onFirstCores q (e ∷ l) ≡ suc (onFirstCores q l)) → onFirstCores q (e ∷ l) + length (keep t e (onCore q l)) ≡ suc (onFirstCores q l + length (onCore q l))
+    by true h below = omega (arith, count-above q e l (omega (arith, eqb-true (e .on) q h)))
+    by false h below = omega (arith, below (less (decLt (e .on) q)))
+      where
+        less : Dec (e .on < q) → e .on < q
+        less (yes g) = g
+        less (no g) = absurd (eqb-false (e .on) q h (omega arith))
+
+count-none : (k : ℕ) → onFirstCores k [] ≡ 0
+count-none zero = refl
+count-none (suc q) = omega (arith, count-none q)
+
+count-all : (k : ℕ) (l : List (Placed ℕ)) → Each (λ e. e .on < k) l → onFirstCores k l ≡ length l
+count-all k [] ok = count-none k
+count-all k (e ∷ l) ok = count-below k e l (ok .0) ∙ ap suc (count-all k l (ok .1))
+
+-- ---- a plan that the walk gave
+
+module _ (m : Machine) (c : Costs) (n : ℕ) (ts : List Task) (faultless : stateFault m c n ts ≡ 0) (s : Stand) (l : List (Placed ℕ)) (planned : walked m c (take n ts) ≡ fine s l) where
+  pub plan-is : planOf m c n ts ≡ finished m c (take n ts) (fine s l)
+  unfolding planOf
+  plan-is = rw (faultless, planned)
+
+  pub row-placed : (q : ℕ) → q < 16 → rowEntries (planOf m c n ts .plan) q ≡ map (placedEntry c (take n ts)) (onCore q l)
+  row-placed q low =
+      let p : Plan = planOf m c n ts .plan in
+      let k : ℕ = length (take n ts) in
+      let costs : p .costs ≡ c = ap (λ (r : Reply). r .plan .costs) plan-is in
+      let list : p .tasks .list ≡ padded (take n ts) = ap (λ (r : Reply). r .plan .tasks .list) plan-is in
+      ap (map (entryOf p q)) (row-pieces (p .layout) l q (plan-shows m c n ts faultless s l planned) low (plan-counts m c n ts faultless s l planned .row-fits q))
+      ∙ (map-map (entryOf p q) storedOf (onCore q l)
+      ∙ map-same (λ e. Seated k e × (e .on ≡ q)) (λ e. entryOf p q (storedOf e)) (placedEntry c (take n ts)) (λ e seat. entry-placed p c (take n ts) q e costs list (state-sane m c n ts faultless .costs) (seat .0) (seat .1)) (onCore q l) (each-on (Seated k) q l (all-seated m c n ts faultless s l planned)))
+
+  rows-count : (k : ℕ) → k ≤ 16 → length (entriesOn (planOf m c n ts .plan) k) ≡ onFirstCores k l
+  rows-count zero few = refl
+  rows-count (suc q) few =
+      let p : Plan = planOf m c n ts .plan in
+      omega (arith, length-append (entriesOn p q) (rowEntries p q), rows-count q (omega arith), ap length (row-placed q (omega arith)), length-map (onCore q l) (placedEntry c (take n ts)))
+
+  seats-low : Each (λ e. e .on < 16) l
+  seats-low = each-imp (λ (e : Placed ℕ). e .on < m .cores) (λ (e : Placed ℕ). e .on < 16) (λ e h. omega (arith, state-sane m c n ts faultless .cores-fit)) l (plan-counts m c n ts faultless s l planned .cores)
+
+  pub entries-count : length (entries (planOf m c n ts .plan)) ≡ length l
+  entries-count = rows-count 16 (omega arith) ∙ count-all 16 l seats-low
+
+  pub pieces-count : planOf m c n ts .plan .layout .count ≡ length l
+  pieces-count = plan-shows m c n ts faultless s l planned .count
+
+  pub tasks-count : planOf m c n ts .plan .tasks .count ≡ length (take n ts)
+  tasks-count = ap (λ (r : Reply). r .plan .tasks .count) plan-is
