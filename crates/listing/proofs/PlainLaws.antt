@@ -5,15 +5,18 @@
 --   names-formed           tasks that break no rule have such names
 --   placed-readable        the entry of what was placed can be read back
 --   entries-readable       so can all entries of a plan
-use mathlib.Core.Path.{_≡_, refl}
+--   listing-few            a plan with names of at most 24 bytes has a listing of at most 20,000
+use mathlib.Core.Path.{_≡_, refl, ap}
 use mathlib.Core.Bool.{Bool, true, false}
 use mathlib.Core.List.{List, [], _∷_, _++_}
-use Prim.Native.Nat.{ℕ, zero, suc, _+_, _≤_, _<_}
+use Prim.Native.Nat.{ℕ, zero, suc, _+_, _*_, _≤_, _<_}
 use native.Mathlib.Nat.{not-suc-le-zero, le-of-suc-le-suc}
 use native.Mathlib.Omega.{arith}
 use borrow.Author.Tests.{lt-ltb}
 use lib.Dec.{leb}
-use lib.ListN.{length, take}
+use lib.ListN.{length, take, length-append}
+use Rattle.demand.specs.declared.Kind.{Kind}
+use Rattle.demand.specs.declared.Kind.the-variants.{Whole, First, Last}
 use Rattle.demand.specs.declared.Costs.{Costs}
 use Rattle.demand.specs.Sizes.{SizedCosts, Each}
 use Rattle.demand.specs.Charge.{charge, charged}
@@ -25,15 +28,19 @@ use Rattle.task.specs.declared.Machine.{Machine}
 use Rattle.task.specs.Names.{nameByte, fitsAt, speltFrom, spelt, formed}
 use Rattle.task.specs.Tasks.{taskAt, faultOf, firstFault, orElse, stateFault}
 use Rattle.task.proofs.TaskLaws.{state-sane, fault-form}
-use Rattle.lines.specs.Lines.{tab}
+use Rattle.lines.specs.Lines.{bytesOf, newline, tab}
 use Rattle.lines.proofs.FieldLaws.{both-left, both-right}
 use Rattle.plan.specs.Walk.{Stand, Placed, fine, onCore}
+use Rattle.plan.specs.declared.Plan.{Plan}
 use Rattle.plan.specs.Plan.{walked, planOf}
+use Rattle.plan.proofs.Theorems.{plan-counts}
 use Rattle.plan.proofs.WalkLaws.{each-join}
-use Rattle.listing.specs.Listing.{spelling, rowEntries, entriesOn, entries}
+use Rattle.listing.specs.Text.{ended, decimal}
+use Rattle.listing.specs.Listing.{Entry, spelling, rowEntries, entriesOn, entries, kindWord, figuresLine, entryLine, entryLines, header, listingOf}
 use Rattle.listing.specs.Placed.{placedEntry}
 use Rattle.listing.proofs.ReadLaws.{Lacks, Readable}
-use Rattle.listing.proofs.PlacedLaws.{Seated, all-seated, each-on, row-placed}
+use Rattle.listing.proofs.PlacedLaws.{Seated, all-seated, each-on, row-placed, entries-count}
+use Rattle.listing.proofs.TextLaws.{ended-length, decimal-few}
 
 -- ---- names
 
@@ -69,6 +76,62 @@ each-task P [] ok i low = absurd (not-suc-le-zero low)
 each-task P (t ∷ ts) ok zero low = ok .0
 each-task P (t ∷ ts) ok (suc i) low = each-task P ts (ok .1) i (le-of-suc-le-suc low)
 
+-- ---- how long lines are
+
+line-short : (e : Entry) → length (e .task) ≤ 24 → length (entryLine e) ≤ 142
+unfolding entryLine
+line-short e short =
+    let core = decimal (e .core) in
+    let b = decimal (e .budget) in
+    let w = decimal (e .window) in
+    let j = decimal (e .jitter) in
+    let k = decimal (e .charged) in
+    let word = kindWord (e .kind) in
+    let figures = figuresLine (e .budget) (e .window) (e .jitter) (e .charged) in
+    let few : length word ≤ 5 = word-short (e .kind) in
+    omega (
+      arith,
+      length-append (ended tab (bytesOf "piece")) (ended tab core ++ (ended tab (e .task) ++ (ended tab word ++ figures))),
+      length-append (ended tab core) (ended tab (e .task) ++ (ended tab word ++ figures)),
+      length-append (ended tab (e .task)) (ended tab word ++ figures),
+      length-append (ended tab word) figures,
+      length-append (ended tab b) (ended tab w ++ (ended tab j ++ ended newline k)),
+      length-append (ended tab w) (ended tab j ++ ended newline k),
+      length-append (ended tab j) (ended newline k),
+      ended-length tab core,
+      ended-length tab (e .task),
+      ended-length tab word,
+      ended-length tab b,
+      ended-length tab w,
+      ended-length tab j,
+      ended-length newline k,
+      decimal-few (e .core),
+      decimal-few (e .budget),
+      decimal-few (e .window),
+      decimal-few (e .jitter),
+      decimal-few (e .charged),
+    )
+  where
+    word-short : (k : Kind) → length (kindWord k) ≤ 5
+    word-short Whole = omega arith
+    word-short First = omega arith
+    word-short Last = omega arith
+
+lines-short : (es : List Entry) → Each (λ e. length (e .task) ≤ 24) es → length (entryLines es) ≤ 142 * length es
+lines-short [] short = omega arith
+lines-short (e ∷ es) short = omega (arith, length-append (entryLine e) (entryLines es), line-short e (short .0), lines-short es (short .1))
+
+header-short : (p : Plan) → length (header p) ≤ 47
+unfolding header
+header-short p =
+    let t = decimal (p .tasks .count) in
+    let k = decimal (p .layout .count) in
+    omega (arith, length-append (ended tab (bytesOf "plan")) (ended tab t ++ ended newline k), length-append (ended tab t) (ended newline k), ended-length tab t, ended-length newline k, decimal-few (p .tasks .count), decimal-few (p .layout .count))
+
+listing-short : (p : Plan) (es : List Entry) → entries p ≡ es → Each (λ e. length (e .task) ≤ 24) es → length es ≤ 79 → length (listingOf p) ≤ 20000
+unfolding listingOf
+listing-short p es is short few = omega (arith, length-append (header p) (entryLines (entries p)), header-short p, lines-short es short, ap (λ (l : List Entry). length (entryLines l)) is)
+
 -- ---- entries
 
 pub placed-readable : (c : Costs) (ts : List Task) (e : Placed ℕ) → SizedCosts c → Each (λ t. formed (t .name) ≡ true) ts → Seated (length ts) e → e .on < 16 → Readable (placedEntry c ts e)
@@ -84,18 +147,33 @@ placed-readable c ts e costs names seat low =
       charged-fits = omega arith;
     }
 
-module _ (m : Machine) (c : Costs) (n : ℕ) (ts : List Task) (faultless : stateFault m c n ts ≡ 0) (s : Stand) (l : List (Placed ℕ)) (planned : walked m c (take n ts) ≡ fine s l) where
-  row-readable : (q : ℕ) → q < 16 → Each Readable (rowEntries (planOf m c n ts .plan) q)
-  row-readable q low =
-      let k : ℕ = length (take n ts) in
-      let sane = state-sane m c n ts faultless in
-      let names = names-formed [] (take n ts) (sane .faultless) in
-      rw (row-placed m c n ts faultless s l planned q low)
-      (each-map (λ e. Seated k e × (e .on ≡ q)) Readable (placedEntry c (take n ts)) (λ e seat. placed-readable c (take n ts) e (sane .costs) names (seat .0) (omega (arith, seat .1))) (onCore q l) (each-on (Seated k) q l (all-seated m c n ts faultless s l planned)))
+placed-short : (c : Costs) (ts : List Task) (e : Placed ℕ) → Each (λ t. length (spelling (t .name)) ≤ 24) ts → Seated (length ts) e → length (placedEntry c ts e .task) ≤ 24
+unfolding placedEntry
+placed-short c ts e names seat = each-task (λ t. length (spelling (t .name)) ≤ 24) ts names (e .item) (seat .low)
 
-  rows-readable : (k : ℕ) → k ≤ 16 → Each Readable (entriesOn (planOf m c n ts .plan) k)
-  rows-readable zero few = tt
-  rows-readable (suc q) few = each-join Readable (entriesOn (planOf m c n ts .plan) q) (rowEntries (planOf m c n ts .plan) q) (rows-readable q (omega arith)) (row-readable q (omega arith))
+module _ (m : Machine) (c : Costs) (n : ℕ) (ts : List Task) (faultless : stateFault m c n ts ≡ 0) (s : Stand) (l : List (Placed ℕ)) (planned : walked m c (take n ts) ≡ fine s l) where
+  -- what holds of the entry of each piece that was placed holds of all entries of the plan
+  module _ (R : Entry → Type 0) (each : (e : Placed ℕ) → Seated (length (take n ts)) e → e .on < 16 → R (placedEntry c (take n ts) e)) where
+    row-each : (q : ℕ) → q < 16 → Each R (rowEntries (planOf m c n ts .plan) q)
+    row-each q low =
+        let k : ℕ = length (take n ts) in
+        rw (row-placed m c n ts faultless s l planned q low)
+        (each-map (λ e. Seated k e × (e .on ≡ q)) R (placedEntry c (take n ts)) (λ e seat. each e (seat .0) (omega (arith, seat .1))) (onCore q l) (each-on (Seated k) q l (all-seated m c n ts faultless s l planned)))
+
+    rows-each : (k : ℕ) → k ≤ 16 → Each R (entriesOn (planOf m c n ts .plan) k)
+    rows-each zero few = tt
+    rows-each (suc q) few = each-join R (entriesOn (planOf m c n ts .plan) q) (rowEntries (planOf m c n ts .plan) q) (rows-each q (omega arith)) (row-each q (omega arith))
+
+    entries-each : Each R (entries (planOf m c n ts .plan))
+    entries-each = rows-each 16 (omega arith)
 
   pub entries-readable : Each Readable (entries (planOf m c n ts .plan))
-  entries-readable = rows-readable 16 (omega arith)
+  entries-readable =
+      let sane = state-sane m c n ts faultless in
+      entries-each Readable (λ e seat low. placed-readable c (take n ts) e (sane .costs) (names-formed [] (take n ts) (sane .faultless)) seat low)
+
+  pub listing-few : Each (λ t. length (spelling (t .name)) ≤ 24) (take n ts) → length (listingOf (planOf m c n ts .plan)) ≤ 20000
+  listing-few names =
+      let p = planOf m c n ts .plan in
+      let short : Each (λ e. length (e .task) ≤ 24) (entries p) = entries-each (λ e. length (e .task) ≤ 24) (λ e seat low. placed-short c (take n ts) e names seat) in
+      listing-short p (entries p) refl short (omega (arith, entries-count m c n ts faultless s l planned, plan-counts m c n ts faultless s l planned .pieces-fit))

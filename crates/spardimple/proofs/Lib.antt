@@ -3,4 +3,5 @@ pub mod HoldingLaws
 pub mod ByteLaws
 pub mod NumberLaws
 pub mod SheetLaws
+pub mod PaperLaws
 pub mod Agreement

@@ -2,6 +2,7 @@
 -- Assumes nothing.
 --
 --   back n                what the number n says
+--   told-one              what is told is read back from its number, where it carries less than 2^32
 --   number-back           a reply is read back from its number, where it carries less than 2^32
 --   number-one, answer-one        so two replies of one number are the same, and two answers
 --   reply-records, reply-costs, reply-formed      8 first, then what is said of the records
@@ -56,6 +57,13 @@ number-which t fits = omega arith
 number-carries : (t : Told) → t .carries < 2 ^ 32 → number t % 2 ^ 32 ≡ t .carries
 unfolding number
 number-carries t fits = omega arith
+
+-- what is told is read back from its number
+pub told-one : (t u : Told) → t .carries < 2 ^ 32 → u .carries < 2 ^ 32 → number t ≡ number u → t ≡ u
+told-one t u small less e =
+    let which : t .which ≡ u .which = sym (number-which t small) ∙ (ap (λ (n : ℕ). n / 2 ^ 32) e ∙ number-which u less) in
+    let carries : t .carries ≡ u .carries = sym (number-carries t small) ∙ (ap (λ (n : ℕ). n % 2 ^ 32) e ∙ number-carries u less) in
+    λ i. record { which = which i; carries = carries i }
 
 pub number-back : (r : Reply) → toldReply r .carries < 2 ^ 32 → back (number (toldReply r)) ≡ r
 unfolding back
