@@ -2,12 +2,15 @@
 -- Assumes nothing.
 --
 --   read-small           a refusal has a number up to 9, and carries a line up to 16,385
-use mathlib.Core.Path.{_≡_, refl}
+--   read-nine            9 comes exactly for more than 16,384 bytes, and carries nothing
+use mathlib.Core.Path.{_≡_, sym, ap, subst}
+use mathlib.Core.Logic.{_↔_}
 use mathlib.Core.Bool.{Bool, true, false, cond, not}
 use mathlib.Core.List.{List, [], _∷_}
-use Prim.Native.Nat.{ℕ, zero, suc, _+_, _≤_}
+use Prim.Native.Nat.{ℕ, zero, suc, _+_, _≤_, _<_}
+use native.Mathlib.Decide.{decLt}
 use native.Mathlib.Omega.{arith}
-use borrow.Author.Tests.{leb-true}
+use borrow.Author.Tests.{le-leb, lt-leb}
 use lib.Dec.{leb, eqb}
 use lib.ListN.{length}
 use Rattle.demand.specs.declared.Costs.{Costs}
@@ -67,7 +70,7 @@ line-small a l = word-small (l .word) a l
 
 -- a refusal by its number and its line
 abbrev Small : ℕ → Outcome → Type 0
-Small most (refused n k) = (n ≤ 9) × (k ≤ most)
+Small most (refused n k) = (n ≤ 8) × (k ≤ most)
 Small most (whole a) = Unit {0}
 
 next-small : (most k n : ℕ) (rest : Outcome) → k ≤ 8 → n ≤ most → Small most rest → Small most (next k n rest)
@@ -96,18 +99,30 @@ beyond-few b (x ∷ s) = by (eqb x b) (beyond-few b s)
     by true h = omega arith
     by false h = omega arith
 
-sheet-small : (bytes : List ℕ) → Small 16385 (outcomeOf bytes)
+long-sheet : (bytes : List ℕ) → sheetMost < length bytes → outcomeOf bytes ≡ refused 9 0
 unfolding outcomeOf
-sheet-small bytes = by (leb (length bytes) sheetMost) refl
-  where
-    by : (b : Bool) → leb (length bytes) sheetMost ≡ b → Small 16385 (cond b (readFrom top 1 (upTo newline bytes) (beyond newline bytes)) (refused 9 0))
-    by true e = from-small 16385 top 1 (upTo newline bytes) (beyond newline bytes) (omega (arith, beyond-few newline bytes, leb-true (length bytes) sheetMost e))
-    by false e = (omega arith, omega arith)
+long-sheet bytes long = ap (λ (b : Bool). cond b (readFrom top 1 (upTo newline bytes) (beyond newline bytes)) (refused 9 0)) (lt-leb (length bytes) sheetMost long)
+
+short-sheet : (bytes : List ℕ) → length bytes ≤ sheetMost → Small 16385 (outcomeOf bytes)
+unfolding outcomeOf
+short-sheet bytes short =
+    subst (λ (b : Bool). Small 16385 (cond b (readFrom top 1 (upTo newline bytes) (beyond newline bytes)) (refused 9 0))) (sym (le-leb (length bytes) sheetMost short))
+    (from-small 16385 top 1 (upTo newline bytes) (beyond newline bytes) (omega (arith, beyond-few newline bytes)))
+
+shown-small : (o : Outcome) → Small 16385 o → (shown o .number ≤ 8) × (shown o .carries ≤ 16385)
+shown-small (refused n k) small = small
+shown-small (whole a) small = (omega arith, omega arith)
+
+pub read-nine : (bytes : List ℕ) → (sheetMost < length bytes) ↔ (readOf bytes .number ≡ 9)
+unfolding readOf
+read-nine bytes = (
+  (λ long. ap (λ (o : Outcome). shown o .number) (long-sheet bytes long)),
+  (λ nine. elim (decLt sheetMost (length bytes)) [ yes long ↦ long | no short ↦ absurd (omega (arith, shown-small (outcomeOf bytes) (short-sheet bytes (omega arith)) .0)) ]),
+)
 
 pub read-small : (bytes : List ℕ) → (readOf bytes .number ≤ 9) × (readOf bytes .carries ≤ 16385)
 unfolding readOf
-read-small bytes = by (outcomeOf bytes) (sheet-small bytes)
-  where
-    by : (o : Outcome) → Small 16385 o → (shown o .number ≤ 9) × (shown o .carries ≤ 16385)
-    by (refused n k) small = small
-    by (whole a) small = (omega arith, omega arith)
+read-small bytes = elim (decLt sheetMost (length bytes)) [
+  | yes long ↦ rw (long-sheet bytes long) (omega arith, omega arith)
+  | no short ↦ (let small = shown-small (outcomeOf bytes) (short-sheet bytes (omega arith)) in (omega (arith, small .0), small .1))
+]

@@ -4,4 +4,6 @@ pub mod ByteLaws
 pub mod NumberLaws
 pub mod SheetLaws
 pub mod PaperLaws
+pub mod JudgedLaws
 pub mod Agreement
+pub mod Promises

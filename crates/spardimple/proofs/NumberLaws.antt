@@ -5,6 +5,7 @@
 --   told-one              what is told is read back from its number, where it carries less than 2^32
 --   number-back           a reply is read back from its number, where it carries less than 2^32
 --   number-one, answer-one        so two replies of one number are the same, and two answers
+--   reply-true, reply-false       by the test of their form
 --   reply-records, reply-costs, reply-formed      8 first, then what is said of the records
 --   reply-carries         every reply to lent bytes carries less than 2^32
 --   verdict-number-one    so for any four slices one number means one reply
@@ -78,11 +79,11 @@ answer-one a b small less e = let same : said a ≡ said b = number-one (said a)
 -- ---- the refusals in their order
 
 module _ (rs cs : List ℕ) where
-  reply-true : formed rs cs ≡ true → replyOf rs cs ≡ said (answerOf (costsOf cs) (length (piecesOf rs)) (piecesOf rs))
+  pub reply-true : formed rs cs ≡ true → replyOf rs cs ≡ said (answerOf (costsOf cs) (length (piecesOf rs)) (piecesOf rs))
   unfolding replyOf
   reply-true e = simp e
 
-  reply-false : formed rs cs ≡ false → replyOf rs cs ≡ malformed
+  pub reply-false : formed rs cs ≡ false → replyOf rs cs ≡ malformed
   unfolding replyOf
   reply-false e = simp e
 

@@ -5,6 +5,7 @@
 --   paper-stuck          a sheet that is read and has no plan, to that one
 --   paper-written        any other, to its plan's listing
 --   plan-small, reply-small          how great the numbers of the plan's refusal are
+--   told-long, told-short                     what is told of a listing, where the buffer is long enough and where not
 --   given-refused, given-long, given-short    the number that is given back
 --   left-refused, left-written                what the buffer then holds
 --   over-length          which keeps its length
@@ -72,10 +73,10 @@ module _ (sheet : List ℕ) (r : Read) (is : r ≡ readOf sheet) where
 
 -- ---- what is given back, and what the buffer holds
 
-told-long : (text : List ℕ) (room : ℕ) → length text ≤ room → toldPaper (written text) room ≡ record { which = 0; carries = length text }
+pub told-long : (text : List ℕ) (room : ℕ) → length text ≤ room → toldPaper (written text) room ≡ record { which = 0; carries = length text }
 told-long text room fits = ap (λ (b : Bool). cond b (record { which = 0; carries = length text }) (refusal 10 (length text))) (le-leb (length text) room fits)
 
-told-short : (text : List ℕ) (room : ℕ) → room < length text → toldPaper (written text) room ≡ refusal 10 (length text)
+pub told-short : (text : List ℕ) (room : ℕ) → room < length text → toldPaper (written text) room ≡ refusal 10 (length text)
 told-short text room short = ap (λ (b : Bool). cond b (record { which = 0; carries = length text }) (refusal 10 (length text))) (lt-leb (length text) room short)
 
 module _ (sheet : List ℕ) (n k : ℕ) (is : paperOf sheet ≡ refused n k) where

@@ -1,6 +1,8 @@
 -- From a sheet's bytes to its listing's bytes: document 01, "Sheet" and "Refusal numbers".
 --
 --   Paper                 what a sheet comes to: a refusal's number with what it carries, or a listing
+--   machineIn, costsIn, tasksIn    what a sheet says: the machine, the costs, the task list
+--   planIn sheet          its plan, where that comes
 --   planned r             the paper of what was read: the sheet's own refusal; else 7 with the task; else the plan's listing
 --   paperOf sheet         the paper of a sheet's bytes
 --   toldPaper p n         document 01's number for it, where the lent buffer has n bytes: 10 with the length needed, where it is shorter
@@ -10,8 +12,12 @@ use mathlib.Core.Bool.{cond}
 use mathlib.Core.List.{List}
 use Prim.Native.Nat.{ℕ, zero, suc, _+_}
 use lib.Dec.{leb}
-use lib.ListN.{length}
+use lib.ListN.{length, take}
+use Rattle.demand.specs.declared.Costs.{Costs}
 use Rattle.demand.specs.Answer.{Told}
+use Rattle.task.specs.declared.Task.{Task}
+use Rattle.task.specs.declared.Machine.{Machine}
+use Rattle.plan.specs.declared.Plan.{Plan}
 use Rattle.plan.specs.declared.Reply.{Reply}
 use Rattle.plan.specs.Plan.{planOf}
 use Rattle.sheet.specs.declared.Sheet.{Sheet}
@@ -42,6 +48,18 @@ planned r = unless (r .number) (r .carries) (listed (planSheet (r .sheet)))
 
 unfoldable pub paperOf : List ℕ → Paper
 paperOf sheet = planned (readOf sheet)
+
+abbrev pub machineIn : List ℕ → Machine
+machineIn sheet = readOf sheet .sheet .machine
+
+abbrev pub costsIn : List ℕ → Costs
+costsIn sheet = readOf sheet .sheet .costs
+
+abbrev pub tasksIn : List ℕ → List Task
+tasksIn sheet = take (readOf sheet .sheet .tasks .count) (readOf sheet .sheet .tasks .list)
+
+abbrev pub planIn : List ℕ → Plan
+planIn sheet = planSheet (readOf sheet .sheet) .plan
 
 -- ---- what is given back, and what the buffer holds
 
