@@ -2,6 +2,7 @@
 mod plans;
 mod print;
 mod runs;
+mod sheets;
 
 use demand::Kind;
 use plans::many;
@@ -19,6 +20,7 @@ use runs::ipis;
 use runs::piece;
 use runs::whole;
 use runs::with;
+use sheets::whole_sheets;
 
 // K1 to K7, without costs but for the last.
 fn verdicts() {
@@ -129,4 +131,5 @@ fn main() {
     refusals();
     splits();
     whole_plans();
+    whole_sheets();
 }

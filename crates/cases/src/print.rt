@@ -11,7 +11,7 @@ use demand::Splitting;
 use demand::Verdict;
 use libc::STDOUT_FILENO;
 
-fn name(text: &[u8]) {
+pub fn name(text: &[u8]) {
     io::write_all(STDOUT_FILENO, text);
     io::write_all(STDOUT_FILENO, b"\t");
 }
@@ -20,6 +20,13 @@ fn number(n: u64) {
     io::write_all(STDOUT_FILENO, b"\t");
     io::print_decimal(STDOUT_FILENO, n);
     io::write_all(STDOUT_FILENO, b"\n");
+}
+
+// A refusal's number, and what it carries.
+pub fn numbers(refusal: u64, carries: u64) {
+    io::write_all(STDOUT_FILENO, b"refusal\t");
+    io::print_decimal(STDOUT_FILENO, refusal);
+    number(carries);
 }
 
 fn refusal(why: Refusal) {
