@@ -3,7 +3,6 @@
 --
 --   nobody          what an array of pieces is said to hold past its end
 --   length-mapped   how long that array is
---   each-at         what holds of each record of a run
 --   check-many, check-costs, check-record, check-all      the refusals in their order
 --   answer-fine, answer-bad, figure-fine, figure-bad      what is then answered
 --   taken-check, taken-answer      a run within the sizes is not refused
@@ -49,12 +48,6 @@ nobody = record { kind = Whole; budget = 0; window = 0; period = 0; jitter = 0; 
 -- the length of an array of structs that is a field of a struct, for `search`
 pub length-mapped : (X Y : Type 0) (f : X → Y) (l : List X) (n : ℕ) → length (map f l) ≡ n → length l ≡ n
 length-mapped X Y f l n e = sym (length-map l f) ∙ e
-
-pub each-at : (P : Piece → Type 0) (n : ℕ) (ps : List Piece) → Each P (take n ps) → (i : ℕ) (d : Piece) → i < n → i < length ps → P (getD ps i d)
-each-at P zero ps ok i d h k = absurd (not-suc-le-zero h)
-each-at P (suc n) [] ok i d h k = absurd (not-suc-le-zero k)
-each-at P (suc n) (p ∷ ps) ok zero d h k = ok .0
-each-at P (suc n) (p ∷ ps) ok (suc i) d h k = each-at P n ps (ok .1) i d (le-of-suc-le-suc h) (le-of-suc-le-suc k)
 
 module _ (n : ℕ) (ps : List Piece) (room : n ≤ length ps) where
   pub bad-good : (i : ℕ) (d : Piece) → i < n → sized (getD ps i d) ≡ true → firstBad (i + 1) (drop i (take n ps)) ≡ firstBad (i + 1 + 1) (drop (i + 1) (take n ps))

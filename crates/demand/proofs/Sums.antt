@@ -4,10 +4,12 @@
 --   total-mono, total-add    a bound of each piece's figure is one of the sums
 --   total-snoc               one piece more
 --   total-same               equal figures have equal sums
---   each-snoc, each-front, each-last, each-map, each-imp
+--   each-at, each-snoc, each-front, each-last, each-map, each-imp
 use mathlib.Core.Path.{_≡_, refl}
 use mathlib.Core.List.{List, [], _∷_, _++_, map}
-use Prim.Native.Nat.{ℕ, _+_, _≤_, zero-le}
+use Prim.Native.Nat.{ℕ, zero, suc, _+_, _≤_, _<_, zero-le}
+use native.Mathlib.Nat.{not-suc-le-zero, le-of-suc-le-suc}
+use lib.ListN.{length, take, getD}
 use native.Mathlib.Omega.{arith}
 use Rattle.demand.specs.declared.Charged.{Charged}
 use Rattle.demand.specs.Sizes.{Each}
@@ -28,6 +30,12 @@ total-snoc f [] q = omega arith
 total-snoc f (p ∷ qs) q = omega (arith, total-snoc f qs q)
 
 module _ {A : Type 0} (P : A → Type 0) where
+  pub each-at : (n : ℕ) (l : List A) → Each P (take n l) → (i : ℕ) (d : A) → i < n → i < length l → P (getD l i d)
+  each-at zero l ok i d h k = absurd (not-suc-le-zero h)
+  each-at (suc n) [] ok i d h k = absurd (not-suc-le-zero k)
+  each-at (suc n) (a ∷ l) ok zero d h k = ok .0
+  each-at (suc n) (a ∷ l) ok (suc i) d h k = each-at n l (ok .1) i d (le-of-suc-le-suc h) (le-of-suc-le-suc k)
+
   pub each-snoc : (ps : List A) (p : A) → Each P ps → P p → Each P (ps ++ (p ∷ []))
   each-snoc [] p ok h = (h, tt)
   each-snoc (q ∷ ps) p ok h = (ok .0, each-snoc ps p (ok .1) h)

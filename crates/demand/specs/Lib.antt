@@ -1,5 +1,6 @@
 -- What the contracts of `demand` cite, in document 01's order.
 pub mod Sizes
+pub mod Kinds
 pub mod Charge
 pub mod Demand
 pub mod Busy

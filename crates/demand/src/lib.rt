@@ -27,6 +27,7 @@ use spans::judge_core;
 use splits::greatest_split;
 ghost use mathlib.Core.Path.{_≡_};
 ghost use Rattle.demand.specs.Answer.{answerOf, chargedTime, busyFigure, demandFigure, tightFigure, splitOf};
+ghost use Rattle.demand.specs.Kinds.{kindNumber, kindOf};
 ghost use Rattle.demand.specs.Sizes.{sized, sizedCosts};
 ghost use Rattle.demand.specs.Split.{firstPiece, lastPiece};
 
@@ -133,6 +134,30 @@ pub enum Splitting {
 pub struct Run {
     pub count: usize,
     pub pieces: [Piece; 79],
+}
+
+/// The number of a kind: 0 whole, 1 first, 2 last.
+pub fn kind_number(kind: Kind) -> u64
+    ensures exact { λ r. ⌜ r ≡ kindNumber kind ⌝ }
+{
+    match kind {
+        Kind::Whole => 0,
+        Kind::First => 1,
+        Kind::Last => 2,
+    }
+}
+
+/// The kind of a number; a greater one than 2 is taken for a last piece.
+pub fn kind_of(number: u64) -> Kind
+    ensures exact { λ r. ⌜ r ≡ kindOf number ⌝ }
+{
+    if number == 0 {
+        return Kind::Whole;
+    }
+    if number == 1 {
+        return Kind::First;
+    }
+    Kind::Last
 }
 
 /// Whether a record is within the sizes.

@@ -29,7 +29,8 @@ use Rattle.plan.specs.declared.Plan.{Plan}
 use Rattle.plan.specs.declared.Reply.{Reply}
 use Rattle.plan.specs.Plan.{planOf}
 use Rattle.edits.specs.Edits.{Edit, add, withdraw, retime, tasksIn, named, editFault, edited, givenBack, settled, editOf}
-use Rattle.edits.specs.Listed.{listed, Lists}
+use Rattle.task.specs.Tasks.{listOf}
+use Rattle.edits.specs.Listed.{Lists}
 
 -- ---- a rule, by the answer of the code
 
@@ -70,8 +71,8 @@ add-room t ts none =
     ltb-true (length ts) tasksMost (rule-kept room 5 0 (d .1) .0)
 
 -- the same by the count of an array
-pub add-less : (q : Tasks) → length (q .list) ≡ tasksMost → q .count ≤ tasksMost → (t : Task) → editFault (add t) (listed q) ≡ 0 → q .count < tasksMost
-add-less q long few t none = omega (arith, add-room t (listed q) none, length-take (q .count) (q .list))
+pub add-less : (q : Tasks) → length (q .list) ≡ tasksMost → q .count ≤ tasksMost → (t : Task) → editFault (add t) (listOf q) ≡ 0 → q .count < tasksMost
+add-less q long few t none = omega (arith, add-room t (listOf q) none, length-take (q .count) (q .list))
 
 known : (n : Name) (ts : List Task) → named n ts ≡ true → placeOf 1 n ts ≡ 0 → ⊥
 known n ts e = eqb-false (placeOf 1 n ts) 0 (not-true (eqb (placeOf 1 n ts) 0) e)

@@ -25,7 +25,8 @@ use Rattle.task.specs.Names.{formed, sameName}
 use Rattle.task.specs.Tasks.{tasksMost, wholePiece, placeOf, rule, firstFault, stateFault, sizedMachine}
 use Rattle.task.proofs.NameLaws.{same-name-exact}
 use Rattle.edits.specs.Edits.{Edit, add, withdraw, retime, named, editFault, without, replaced, edited}
-use Rattle.edits.proofs.NameSets.{Unnamed, Apart, same-differ, across-none, Clean, rule-kept, place-none, faults-known, faults-none}
+use Rattle.task.proofs.TaskLaws.{rule-fine}
+use Rattle.edits.proofs.NameSets.{Unnamed, Apart, same-differ, across-none, Clean, place-none, faults-known, faults-none}
 
 -- ---- the tasks after an edit
 
@@ -94,9 +95,9 @@ pub record Lists (m : Machine) (c : Costs) (ts : List Task) : Type 0 where
 pub lists-known : (m : Machine) (c : Costs) (n : ℕ) (ts : List Task) → stateFault m c n ts ≡ 0 → Lists m c (take n ts)
 unfolding stateFault
 lists-known m c n ts e =
-    let a = rule-kept (sizedMachine m) 0 (rule (sizedCosts c) 2 (rule (leb n tasksMost) 6 (firstFault [] (take n ts)))) e in
-    let b = rule-kept (sizedCosts c) 1 (rule (leb n tasksMost) 6 (firstFault [] (take n ts))) (a .1) in
-    let d = rule-kept (leb n tasksMost) 5 (firstFault [] (take n ts)) (b .1) in
+    let a = rule-fine (sizedMachine m) 0 (rule (sizedCosts c) 2 (rule (leb n tasksMost) 6 (firstFault [] (take n ts)))) e in
+    let b = rule-fine (sizedCosts c) 1 (rule (leb n tasksMost) 6 (firstFault [] (take n ts))) (a .1) in
+    let d = rule-fine (leb n tasksMost) 5 (firstFault [] (take n ts)) (b .1) in
     let known = faults-known [] (take n ts) (d .1) in
     record { machine = a .0; costs = b .0; few = omega (arith, length-take n ts, leb-true n tasksMost (d .0)); clean = known .0; apart = known .2 }
 
@@ -108,8 +109,8 @@ lists-faultless m c ts l = rw (l .machine, l .costs, le-leb (length ts) tasksMos
 
 clean-edit : (t : Task) (rest : ℕ) → rule (formed (t .name)) 8 (rule (sized (wholePiece (t .times))) 3 rest) ≡ 0 → Clean t × (rest ≡ 0)
 clean-edit t rest e =
-    let a = rule-kept (formed (t .name)) 7 (rule (sized (wholePiece (t .times))) 3 rest) e in
-    let b = rule-kept (sized (wholePiece (t .times))) 2 rest (a .1) in
+    let a = rule-fine (formed (t .name)) 7 (rule (sized (wholePiece (t .times))) 3 rest) e in
+    let b = rule-fine (sized (wholePiece (t .times))) 2 rest (a .1) in
     (record { named = a .0; timed = b .0 }, b .1)
 
 not-named : (n : Name) (ts : List Task) → not (named n ts) ≡ true → Unnamed n ts
@@ -123,8 +124,8 @@ pub edited-lists : (m : Machine) (c : Costs) (e : Edit) (ts : List Task) → Lis
 unfolding editFault
 edited-lists m c (add t) ts l e =
     let a = clean-edit t (rule (not (named (t .name) ts)) 4 (rule (ltb (length ts) tasksMost) 6 0)) e in
-    let b = rule-kept (not (named (t .name) ts)) 3 (rule (ltb (length ts) tasksMost) 6 0) (a .1) in
-    let d = rule-kept (ltb (length ts) tasksMost) 5 0 (b .1) in
+    let b = rule-fine (not (named (t .name) ts)) 3 (rule (ltb (length ts) tasksMost) 6 0) (a .1) in
+    let d = rule-fine (ltb (length ts) tasksMost) 5 0 (b .1) in
     record {
       machine = l .machine;
       costs = l .costs;

@@ -24,16 +24,17 @@ use Rattle.task.specs.declared.Tasks.{Tasks}
 use Rattle.task.specs.Names.{sameName}
 use Rattle.task.specs.Tasks.{tasksMost, placeOf}
 use Rattle.edits.specs.Edits.{without, replaced}
-use Rattle.edits.specs.Listed.{listed, Lists, removed}
+use Rattle.task.specs.Tasks.{listOf}
+use Rattle.edits.specs.Listed.{Lists, removed}
 
 -- ---- room, by the count of an array that is full at 64
 
 module _ (q : Tasks) (long : length (q .list) ≡ tasksMost) where
-  pub room-none : tasksMost ≤ q .count → ltb (length (listed q)) tasksMost ≡ false
-  room-none full = le-ltb (length (listed q)) tasksMost (omega (arith, length-take (q .count) (q .list)))
+  pub room-none : tasksMost ≤ q .count → ltb (length (listOf q)) tasksMost ≡ false
+  room-none full = le-ltb (length (listOf q)) tasksMost (omega (arith, length-take (q .count) (q .list)))
 
-  pub room-some : q .count < tasksMost → ltb (length (listed q)) tasksMost ≡ true
-  room-some less = lt-ltb (length (listed q)) tasksMost (omega (arith, length-take (q .count) (q .list)))
+  pub room-some : q .count < tasksMost → ltb (length (listOf q)) tasksMost ≡ true
+  room-some less = lt-ltb (length (listOf q)) tasksMost (omega (arith, length-take (q .count) (q .list)))
 
 -- ---- the place of a name, from 0, in a list that has it
 
@@ -74,20 +75,20 @@ place-from k n (t ∷ ts) pos some = by-test (sameName n (t .name)) refl (λ h. 
 -- ---- one more, and one in the place of another
 
 module _ (q : Tasks) (long : length (q .list) ≡ tasksMost) (few : q .count ≤ tasksMost) where
-  whole : length (listed q) ≡ q .count
+  whole : length (listOf q) ≡ q .count
   whole = length-take-le (q .count) (q .list) (omega arith)
 
-  pub lists-more : (t : Task) → q .count < tasksMost → Lists (record { count = q .count + 1; list = set (q .list) (q .count) t }) (listed q ++ (t ∷ []))
+  pub lists-more : (t : Task) → q .count < tasksMost → Lists (record { count = q .count + 1; list = set (q .list) (q .count) t }) (listOf q ++ (t ∷ []))
   lists-more t less = record {
-    count = omega (arith, whole, length-append (listed q) (t ∷ []));
+    count = omega (arith, whole, length-append (listOf q) (t ∷ []));
     items = rw (add-one, take-suc-set (q .list) (q .count) t (omega arith));
   }
 
-  module _ (n : Name) (k : ℕ) (place : k ≡ placeOf 1 n (listed q)) (some : placeOf 1 n (listed q) ≡ 0 → ⊥) where
-    there : From 1 n (listed q) k
-    there = rw place (place-from 1 n (listed q) (omega arith) some)
+  module _ (n : Name) (k : ℕ) (place : k ≡ placeOf 1 n (listOf q)) (some : placeOf 1 n (listOf q) ≡ 0 → ⊥) where
+    there : From 1 n (listOf q) k
+    there = rw place (place-from 1 n (listOf q) (omega arith) some)
 
-    found : Found n (listed q) (k - 1)
+    found : Found n (listOf q) (k - 1)
     found = there .found
 
     pub place-some : 1 ≤ k
@@ -96,13 +97,13 @@ module _ (q : Tasks) (long : length (q .list) ≡ tasksMost) (few : q .count ≤
     pub place-low : k - 1 < q .count
     place-low = omega (arith, found .inside, whole)
 
-    pub lists-put : (t : Task) → t .name ≡ n → Lists (record { count = q .count; list = set (q .list) (k - 1) t }) (replaced t (listed q))
+    pub lists-put : (t : Task) → t .name ≡ n → Lists (record { count = q .count; list = set (q .list) (k - 1) t }) (replaced t (listOf q))
     lists-put t name = record {
-      count = sym (ap length (found .put t name) ∙ length-set (listed q) (k - 1) t ∙ whole);
+      count = sym (ap length (found .put t name) ∙ length-set (listOf q) (k - 1) t ∙ whole);
       items = take-set-lt (q .count) (q .list) (k - 1) t place-low ∙ sym (found .put t name);
     }
 
-    pub lists-less : (r : Tasks) → Lists r (removed (k - 1) (listed q)) → Lists r (without n (listed q))
+    pub lists-less : (r : Tasks) → Lists r (removed (k - 1) (listOf q)) → Lists r (without n (listOf q))
     lists-less r ok = rw (found .less) ok
 
 -- ---- one less: what stands behind place i moves up, j of them so far
@@ -129,10 +130,10 @@ module _ (l : List Task) (i : ℕ) where
       ap (λ (m : ℕ). take m (set next j a)) (add-one j) ∙ take-suc-set next j a space ∙ ap (λ (x : List Task). x ++ (a ∷ [])) so ∙ sym (removed-snoc i front a (omega arith)) ∙ ap (removed i) (sym one)
 
 pub lists-removed : (q : Tasks) (i j last : ℕ) (next : List Task) → length (q .list) ≡ tasksMost → q .count ≤ tasksMost → i < q .count → j ≡ last → last + 1 ≡ q .count
-    → take j next ≡ removed i (take (j + 1) (q .list)) → Lists (record { count = last; list = next }) (removed i (listed q))
+    → take j next ≡ removed i (take (j + 1) (q .list)) → Lists (record { count = last; list = next }) (removed i (listOf q))
 lists-removed q i j last next long few low there end so =
     let all : j + 1 ≡ q .count = omega arith in
     record {
-      count = omega (arith, whole q long few, length-append (take i (listed q)) (drop (suc i) (listed q)), length-take i (listed q), length-drop (suc i) (listed q));
+      count = omega (arith, whole q long few, length-append (take i (listOf q)) (drop (suc i) (listOf q)), length-take i (listOf q), length-drop (suc i) (listOf q));
       items = ap (λ (n : ℕ). take n next) (sym there) ∙ so ∙ ap (λ (n : ℕ). removed i (take n (q .list))) all;
     }

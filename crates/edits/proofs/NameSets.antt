@@ -11,7 +11,6 @@
 --   Across done items      no task of items has a name of done
 --   pack-apart             packing keeps names distinct
 --   Clean t                a task of right form and sizes
---   rule-kept              a rule that gives no number is kept
 --   place-none, place-unnamed    the place of a name that no task has
 --   faults-known, faults-none    no fault down a list, told by its tasks
 --   place-name             the place of a name is the place of the task that has it
@@ -32,7 +31,7 @@ use Rattle.task.specs.declared.Task.{Task}
 use Rattle.task.specs.Names.{formed, sameName}
 use Rattle.task.specs.Tasks.{wholePiece, placeOf, past, taskAt, rule, orElse, faultOf, firstFault}
 use Rattle.task.proofs.NameLaws.{same-name-exact, same-name-refl}
-use Rattle.task.proofs.TaskLaws.{fault-free}
+use Rattle.task.proofs.TaskLaws.{fault-free, rule-fine, or-else-fine}
 use Rattle.plan.specs.Order.{slot, packOn, denserTask}
 use Rattle.plan.proofs.OrderLaws.{slot-cases, slot-every}
 use Rattle.edits.specs.Kept.{Among, inOrder}
@@ -136,14 +135,6 @@ pub record Clean (t : Task) : Type 0 where
   pub named : formed (t .name) ≡ true
   pub timed : sized (wholePiece (t .times)) ≡ true
 
-pub rule-kept : (b : Bool) (n rest : ℕ) → rule b (suc n) rest ≡ 0 → (b ≡ true) × (rest ≡ 0)
-rule-kept true n rest e = (refl, e)
-rule-kept false n rest e = absurd (omega arith)
-
-or-else-none : (k n : ℕ) → orElse k n ≡ 0 → (k ≡ 0) × (n ≡ 0)
-or-else-none zero n e = (refl, e)
-or-else-none (suc k) n e = absurd (omega arith)
-
 -- the place of a name that no task has, and of one that a task has
 pub place-none : (k : ℕ) (n : Name) (ts : List Task) → 1 ≤ k → placeOf k n ts ≡ 0 → Unnamed n ts
 place-none k n [] some e = tt
@@ -161,15 +152,15 @@ fault-clean : (above : List Task) (t : Task) → faultOf above t ≡ 0 → Clean
 unfolding faultOf
 fault-clean above t e =
     let alone : Bool = eqb (placeOf 1 (t .name) above) 0 in
-    let a = rule-kept (formed (t .name)) 7 (rule (sized (wholePiece (t .times))) 3 (rule alone 4 0)) e in
-    let b = rule-kept (sized (wholePiece (t .times))) 2 (rule alone 4 0) (a .1) in
-    let d = rule-kept alone 3 0 (b .1) in
+    let a = rule-fine (formed (t .name)) 7 (rule (sized (wholePiece (t .times))) 3 (rule alone 4 0)) e in
+    let b = rule-fine (sized (wholePiece (t .times))) 2 (rule alone 4 0) (a .1) in
+    let d = rule-fine alone 3 0 (b .1) in
     (record { named = a .0; timed = b .0 }, place-none 1 (t .name) above (omega arith) (eqb-true (placeOf 1 (t .name) above) 0 (d .0)))
 
 pub faults-known : (above ts : List Task) → firstFault above ts ≡ 0 → Each Clean ts × Across above ts × Apart ts
 faults-known above [] e = (tt, tt, tt)
 faults-known above (t ∷ ts) e =
-    let both = or-else-none (faultOf above t) (firstFault (above ++ (t ∷ [])) ts) e in
+    let both = or-else-fine (faultOf above t) (firstFault (above ++ (t ∷ [])) ts) e in
     let one = fault-clean above t (both .0) in
     let rest = faults-known (above ++ (t ∷ [])) ts (both .1) in (
       (one .0, rest .0),

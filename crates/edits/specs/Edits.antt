@@ -12,12 +12,12 @@ use mathlib.Core.Bool.{Bool, cond, not}
 use mathlib.Core.List.{List, [], _∷_, _++_}
 use Prim.Native.Nat.{ℕ, zero, suc}
 use lib.Dec.{eqb, ltb}
-use lib.ListN.{take, length}
+use lib.ListN.{length}
 use Rattle.demand.specs.Sizes.{sized}
 use Rattle.task.specs.declared.Name.{Name}
 use Rattle.task.specs.declared.Task.{Task}
 use Rattle.task.specs.Names.{formed, sameName}
-use Rattle.task.specs.Tasks.{tasksMost, wholePiece, placeOf, rule, stateFault}
+use Rattle.task.specs.Tasks.{tasksMost, wholePiece, listOf, placeOf, rule, stateFault}
 use Rattle.plan.specs.declared.Plan.{Plan}
 use Rattle.plan.specs.declared.Reply.{Reply}
 use Rattle.plan.specs.Plan.{planOf}
@@ -28,7 +28,7 @@ pub data Edit : Type 0 where
   retime : Task → Edit
 
 abbrev pub tasksIn : Plan → List Task
-tasksIn s = take (s .tasks .count) (s .tasks .list)
+tasksIn s = listOf (s .tasks)
 
 -- ---- what is wrong with an edit
 

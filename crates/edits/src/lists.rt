@@ -8,11 +8,12 @@ use task::whole_piece;
 ghost use mathlib.Core.Path.{_≡_};
 ghost use Prim.Native.Nat.{_<_, _≤_};
 ghost use Rattle.edits.specs.Edits.{add, withdraw, retime, editFault, edited};
-ghost use Rattle.edits.specs.Listed.{listed, Lists, removed};
+ghost use Rattle.task.specs.Tasks.{listOf};
+ghost use Rattle.edits.specs.Listed.{Lists, removed};
 
 // What is wrong with a task to add: 8, then 3, then 4, then 6, or 0.
 pub fn add_fault(task: Task, tasks: Tasks) -> u64
-    ensures { λ r. ⌜ r ≡ editFault (add task) (listed tasks) ⌝ }
+    ensures { λ r. ⌜ r ≡ editFault (add task) (listOf tasks) ⌝ }
 {
     let name = task.name;
     let times = task.times;
@@ -33,7 +34,7 @@ pub fn add_fault(task: Task, tasks: Tasks) -> u64
 
 // What is wrong with a name to withdraw: 8, then 5, or 0.
 pub fn withdraw_fault(name: Name, tasks: Tasks) -> u64
-    ensures { λ r. ⌜ r ≡ editFault (withdraw name) (listed tasks) ⌝ }
+    ensures { λ r. ⌜ r ≡ editFault (withdraw name) (listOf tasks) ⌝ }
 {
     if !well_formed(name) {
         return 8;
@@ -46,7 +47,7 @@ pub fn withdraw_fault(name: Name, tasks: Tasks) -> u64
 
 // What is wrong with a task of other times: 8, then 3, then 5, or 0.
 pub fn retime_fault(task: Task, tasks: Tasks) -> u64
-    ensures { λ r. ⌜ r ≡ editFault (retime task) (listed tasks) ⌝ }
+    ensures { λ r. ⌜ r ≡ editFault (retime task) (listOf tasks) ⌝ }
 {
     let name = task.name;
     let times = task.times;
@@ -64,8 +65,8 @@ pub fn retime_fault(task: Task, tasks: Tasks) -> u64
 
 // One more at the end.
 pub fn append(tasks: Tasks, task: Task) -> Tasks
-    requires { ⌜ (tasks .count ≤ 64) × (editFault (add task) (listed tasks) ≡ 0) ⌝ }
-    ensures { λ r. ⌜ Lists r (edited (add task) (listed tasks)) ⌝ }
+    requires { ⌜ (tasks .count ≤ 64) × (editFault (add task) (listOf tasks) ≡ 0) ⌝ }
+    ensures { λ r. ⌜ Lists r (edited (add task) (listOf tasks)) ⌝ }
 {
     let n = tasks.count;
     let mut next = tasks;
@@ -76,8 +77,8 @@ pub fn append(tasks: Tasks, task: Task) -> Tasks
 
 // The task in the place of the one of its name.
 pub fn replace(tasks: Tasks, task: Task) -> Tasks
-    requires { ⌜ (tasks .count ≤ 64) × (editFault (retime task) (listed tasks) ≡ 0) ⌝ }
-    ensures { λ r. ⌜ Lists r (edited (retime task) (listed tasks)) ⌝ }
+    requires { ⌜ (tasks .count ≤ 64) × (editFault (retime task) (listOf tasks) ≡ 0) ⌝ }
+    ensures { λ r. ⌜ Lists r (edited (retime task) (listOf tasks)) ⌝ }
 {
     let name = task.name;
     let k = place_of(name, tasks);
@@ -90,7 +91,7 @@ pub fn replace(tasks: Tasks, task: Task) -> Tasks
 // The list without the task at place i, from 0: those behind it move one place up.
 pub fn close_up(tasks: Tasks, i: usize) -> Tasks
     requires { ⌜ (tasks .count ≤ 64) × (i < tasks .count) ⌝ }
-    ensures { λ r. ⌜ Lists r (removed i (listed tasks)) ⌝ }
+    ensures { λ r. ⌜ Lists r (removed i (listOf tasks)) ⌝ }
 {
     let last = tasks.count - 1;
     let mut next = tasks;
@@ -106,8 +107,8 @@ pub fn close_up(tasks: Tasks, i: usize) -> Tasks
 
 // The list without the task of that name.
 pub fn remove(tasks: Tasks, name: Name) -> Tasks
-    requires { ⌜ (tasks .count ≤ 64) × (editFault (withdraw name) (listed tasks) ≡ 0) ⌝ }
-    ensures { λ r. ⌜ Lists r (edited (withdraw name) (listed tasks)) ⌝ }
+    requires { ⌜ (tasks .count ≤ 64) × (editFault (withdraw name) (listOf tasks) ≡ 0) ⌝ }
+    ensures { λ r. ⌜ Lists r (edited (withdraw name) (listOf tasks)) ⌝ }
 {
     let k = place_of(name, tasks);
     let i = k - 1;

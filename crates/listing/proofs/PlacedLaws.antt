@@ -7,7 +7,7 @@
 --   plan-is                the plan, from what was placed
 --   row-placed             the entries of a core are those of what was placed there
 --   entries-count, pieces-count, tasks-count      there are as many entries as pieces placed, and the plan counts them and its tasks
-use mathlib.Core.Path.{_≡_, refl, ap, _∙_, subst}
+use mathlib.Core.Path.{_≡_, refl, ap, _∙_}
 use mathlib.Core.Bool.{Bool, true, false}
 use mathlib.Core.List.{List, [], _∷_, map, map-map}
 use Prim.Native.Nat.{ℕ, zero, suc, _+_, _*_, _≤_, _<_}
@@ -31,19 +31,15 @@ use Rattle.task.proofs.TaskLaws.{state-sane}
 use Rattle.plan.specs.declared.Layout.{Layout}
 use Rattle.plan.specs.declared.Plan.{Plan}
 use Rattle.plan.specs.declared.Reply.{Reply}
-use Rattle.plan.specs.Order.{denserAt, upto}
 use Rattle.plan.specs.Walk.{Stand, Placed, fine, keep, onCore, rowOf, rulesFor}
 use Rattle.plan.specs.Layout.{pieceOf, blank}
 use Rattle.plan.specs.Plan.{wholeAt, padded, walked, finished, planOf}
-use Rattle.plan.specs.Shares.{packed, rulesOf, onFirst}
 use Rattle.plan.specs.Shows.{storedOf, Shows}
-use Rattle.plan.proofs.WalkLaws.{IfFine, Share, Shares, nil, more, shares, each-join}
+use Rattle.plan.proofs.WalkLaws.{Share, Shares, nil, more, each-join}
 use Rattle.plan.proofs.WalkLaws as walks
-use Rattle.plan.proofs.OrderLaws.{pack-every}
-use Rattle.plan.proofs.RuleLaws.{Fine, cut-parts, cd-sound}
-use Rattle.plan.proofs.PlanLaws.{sized-at, upto-each}
+use Rattle.plan.proofs.RuleLaws.{Fine, cut-parts}
 use Rattle.plan.proofs.GoingLaws.{piece-stored}
-use Rattle.plan.proofs.Theorems.{packing-order, plan-counts, plan-shows}
+use Rattle.plan.proofs.Theorems.{packing-order, sized-order, shared, plan-counts, plan-shows}
 use Rattle.listing.specs.Listing.{rowPieces, entryOf, rowEntries, entriesOn, entries}
 use Rattle.listing.specs.Placed.{placedEntry}
 
@@ -67,16 +63,8 @@ module _ (c : Costs) (g : ℕ) (w : ℕ → Piece) (k : ℕ) (costs : SizedCosts
 
 module _ (m : Machine) (c : Costs) (n : ℕ) (ts : List Task) (faultless : stateFault m c n ts ≡ 0) (s : Stand) (l : List (Placed ℕ)) (planned : walked m c (take n ts) ≡ fine s l) where
   pub all-seated : Each (Seated (length (take n ts))) l
-  unfolding walked
   all-seated =
-      let sane = state-sane m c n ts faultless in
-      let k : ℕ = length (take n ts) in
-      let w : ℕ → Piece = wholeAt (take n ts) in
-      let sizes : Each (λ a. Sized (w a)) (packed (take n ts)) = pack-every (denserAt (take n ts)) (λ a. Sized (w a)) (upto k) (upto-each (λ a. Sized (w a)) k (sized-at (take n ts) (sane .timed))) in
-      let sound = cd-sound c (m .grain) w (sane .costs) in
-      let all : Shares (rulesOf m c (take n ts)) (Fine c) (packed (take n ts)) l = subst (IfFine (λ t k. Shares (rulesOf m c (take n ts)) (Fine c) (packed (take n ts)) k)) planned
-      (shares (rulesOf m c (take n ts)) (λ a. Sized (w a)) (Fine c) sound (packed (take n ts)) sizes (onFirst m) (sound .empty)) in
-      shares-seated c (m .grain) w k (sane .costs) all (packing-order (take n ts) .below) sizes
+      shares-seated c (m .grain) (wholeAt (take n ts)) (length (take n ts)) (state-sane m c n ts faultless .costs) (shared m c n ts faultless s l planned) (packing-order (take n ts) .below) (sized-order m c n ts faultless)
 
 -- ---- what is on a core
 

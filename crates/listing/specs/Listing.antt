@@ -17,13 +17,14 @@ use Prim.Native.Nat.{ℕ, zero, suc, _+_, _*_}
 use lib.ListN.{take, drop, getD}
 use Rattle.demand.specs.declared.Kind.{Kind}
 use Rattle.demand.specs.declared.Kind.the-variants.{Whole, First, Last}
+use Rattle.demand.specs.Kinds.{kindOf}
 use Rattle.demand.specs.Answer.{chargedTime}
 use Rattle.task.specs.declared.Name.{Name}
 use Rattle.task.specs.Tasks.{taskAt, tasksMost, coresMost}
 use Rattle.plan.specs.declared.Stored.{Stored}
 use Rattle.plan.specs.declared.Layout.{Layout}
 use Rattle.plan.specs.declared.Plan.{Plan}
-use Rattle.plan.specs.Layout.{kindOf, pieceOf, blank}
+use Rattle.plan.specs.Layout.{pieceOf, blank}
 use Rattle.lines.specs.Lines.{bytesOf, tab}
 use Rattle.listing.specs.Text.{ended, lineOf, decimal}
 

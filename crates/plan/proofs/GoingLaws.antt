@@ -34,7 +34,8 @@ use Rattle.demand.proofs.Verdict as verdict-type
 use Rattle.plan.specs.declared.Stored.{Stored}
 use Rattle.plan.specs.declared.Layout.{Layout}
 use Rattle.plan.specs.declared.Going.{Going}
-use Rattle.plan.specs.Layout.{kindNumber, kindOf, stored, pieceOf, blank, pieceAt, putOf, layoutOn}
+use Rattle.demand.specs.Kinds.{kindNumber, kindOf}
+use Rattle.plan.specs.Layout.{stored, pieceOf, blank, pieceAt, putOf, layoutOn}
 use Rattle.plan.specs.Walk.{Rules, Stand, Placed, Outcome, fine, stuck, inOne, inTwo, place, Halves, halves, unsplit, splitAs, rulesFor}
 use Rattle.plan.specs.Going.{told, seatOf, nextOf, stickOf, Seated, RowFits, SeatFits, LandFits, Reached, Reach}
 use Rattle.plan.proofs.Lists.{take-put, map-snoc}

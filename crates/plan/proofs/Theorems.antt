@@ -9,6 +9,7 @@
 --   no-room-at            those before that task in packing order are placed, and where they end it has no place
 --   no-room-place         and it is one of the first n
 --   packing-order         the packing order has the place of each task, once
+--   sized-order, shared   what the walk was over is within the sizes, and what it placed is the shares of that, one after another
 --   all-placed            every task is placed: whole on a core, or by its greatest split on a core and the next; nothing else is placed of it
 --   budgets-add           the budgets of a task's pieces add to C
 --   windows-add           their windows add to D
@@ -140,11 +141,11 @@ module _ (m : Machine) (c : Costs) (n : ℕ) (ts : List Task) (faultless : state
   sized-place : (k : ℕ) → k < length (take n ts) → Sized (wholeAt (take n ts) k)
   sized-place k low = sized-at (take n ts) (sane .timed) k low
 
-  sized-order : Each (λ k. Sized (wholeAt (take n ts) k)) (packed (take n ts))
+  pub sized-order : Each (λ k. Sized (wholeAt (take n ts) k)) (packed (take n ts))
   sized-order = pack-every (denserAt (take n ts)) (λ k. Sized (wholeAt (take n ts) k)) (upto (length (take n ts))) (upto-each (λ k. Sized (wholeAt (take n ts) k)) (length (take n ts)) sized-place)
 
   module _ (s : Stand) (l : List (Placed ℕ)) (planned : walked m c (take n ts) ≡ fine s l) where
-    shared : Shares (rulesOf m c (take n ts)) (Fine c) (packed (take n ts)) l
+    pub shared : Shares (rulesOf m c (take n ts)) (Fine c) (packed (take n ts)) l
     unfolding walked
     shared =
         let sound = cd-sound c (m .grain) (wholeAt (take n ts)) (sane .costs) in

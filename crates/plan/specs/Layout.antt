@@ -11,23 +11,14 @@ use mathlib.Core.Bool.{cond}
 use mathlib.Core.List.{List, [], _∷_}
 use Prim.Native.Nat.{ℕ, _+_, _*_, _^_, _<_}
 use lib.Count.{ones}
-use lib.Dec.{eqb, leb}
+use lib.Dec.{leb}
 use lib.ListN.{set, getD, replicate}
 use lib.Bits.{bitOr}
-use Rattle.demand.specs.declared.Kind.{Kind}
-use Rattle.demand.specs.declared.Kind.the-variants.{Whole, First, Last}
 use Rattle.demand.specs.declared.Piece.{Piece}
+use Rattle.demand.specs.Kinds.{kindNumber, kindOf}
 use Rattle.plan.specs.declared.Stored.{Stored}
 use Rattle.plan.specs.declared.Layout.{Layout}
 use Rattle.plan.specs.Walk.{Placed}
-
-abbrev pub kindNumber : Kind → ℕ
-kindNumber Whole = 0
-kindNumber First = 1
-kindNumber Last = 2
-
-abbrev pub kindOf : ℕ → Kind
-kindOf n = cond (eqb n 0) Whole (cond (eqb n 1) First Last)
 
 abbrev pub stored : ℕ → Piece → Stored
 stored k q = record { task = k; kind = kindNumber (q .kind); budget = q .budget; window = q .window; period = q .period; jitter = q .jitter; preempt = q .preempt; migrate = q .migrate }

@@ -1,34 +1,13 @@
 // The plan's rows and words, one piece at a time.
 use crate::Layout;
 use crate::Stored;
-use demand::Kind;
 use demand::Piece;
+use demand::kind_number;
+use demand::kind_of;
 ghost use mathlib.Core.Path.{_≡_};
 ghost use Prim.Native.Nat.{_<_, _^_};
 ghost use lib.Bits.{bitOr};
-ghost use Rattle.plan.specs.Layout.{kindNumber, kindOf, stored, pieceOf, putOf, none, PutFits};
-
-pub fn kind_number(kind: Kind) -> u64
-    ensures { λ r. ⌜ r ≡ kindNumber kind ⌝ }
-{
-    match kind {
-        Kind::Whole => 0,
-        Kind::First => 1,
-        Kind::Last => 2,
-    }
-}
-
-pub fn kind_of(number: u64) -> Kind
-    ensures { λ r. ⌜ r ≡ kindOf number ⌝ }
-{
-    if number == 0 {
-        return Kind::Whole;
-    }
-    if number == 1 {
-        return Kind::First;
-    }
-    Kind::Last
-}
+ghost use Rattle.plan.specs.Layout.{stored, pieceOf, putOf, none, PutFits};
 
 // A piece of the task at place k, as the plan keeps it.
 pub fn store(k: usize, q: Piece) -> Stored

@@ -17,7 +17,7 @@ use Rattle.lines.specs.Lines.{bytesOf, fields, nameOf, isName}
 use Rattle.lines.specs.Forms.{timesOf, values, lineOf}
 use Rattle.lines.proofs.SaysLaws.{says-part, says-fit, name-exact}
 use Rattle.sheet.specs.Sheet.{Above, lineFault, taskOf, wordAfter, after, whole, outcomeOf, readOf}
-use Rattle.sheet.specs.Held.{listOf}
+use Rattle.task.specs.Tasks.{listOf}
 use Rattle.sheet.specs.Fitted.{linesOf, Fitted}
 use Rattle.sheet.proofs.FaultLaws.{line-fit}
 use Rattle.sheet.proofs.WholeLaws.{read-keeps, read-whole, read-tasks, Found, found}

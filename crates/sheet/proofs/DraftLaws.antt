@@ -22,7 +22,8 @@ use Rattle.sheet.specs.declared.Draft.{Draft}
 use Rattle.lines.specs.Lines.{padded}
 use Rattle.lines.specs.Forms.{noTask}
 use Rattle.sheet.specs.Sheet.{Above, belowMachine, amongParts, amongFits, withMachine, withCosts, withPart, withTask, wordAfter, after, tasksOf}
-use Rattle.sheet.specs.Held.{listOf, told, laid}
+use Rattle.task.specs.Tasks.{listOf}
+use Rattle.sheet.specs.Held.{told, laid}
 use Rattle.lines.proofs.LineLaws.{padded-none, padded-take, padded-put}
 
 -- ---- lists in arrays

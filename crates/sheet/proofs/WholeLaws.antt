@@ -25,7 +25,7 @@ use Rattle.lines.specs.Lines.{newline, upTo, beyond}
 use Rattle.lines.specs.Forms.{noTask, lineOf}
 use Rattle.lines.proofs.LineLaws.{padded-take}
 use Rattle.sheet.specs.Sheet.{Above, top, amongParts, lineFault, partTimes, after, Outcome, refused, whole, ending, next, readFrom, sheetMost, outcomeOf, shown, readOf}
-use Rattle.sheet.specs.Held.{listOf}
+use Rattle.task.specs.Tasks.{listOf}
 use Rattle.sheet.specs.Fitted.{ended, linesOf}
 use Rattle.sheet.proofs.ReadLaws.{Fits, after-fits}
 

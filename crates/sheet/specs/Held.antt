@@ -1,16 +1,9 @@
 -- How the code holds what stands above a line: lists in arrays, with zeros behind them.
 --
---   listOf q           the list that q holds
 --   told d, laid a     what a draft tells, and the draft that holds it
-use mathlib.Core.List.{List}
-use lib.ListN.{take}
-use Rattle.task.specs.declared.Task.{Task}
-use Rattle.task.specs.declared.Tasks.{Tasks}
+use Rattle.task.specs.Tasks.{listOf}
 use Rattle.sheet.specs.declared.Draft.{Draft}
 use Rattle.sheet.specs.Sheet.{Above, tasksOf}
-
-abbrev pub listOf : Tasks → List Task
-listOf q = take (q .count) (q .list)
 
 unfoldable pub told : Draft → Above
 told d = record { stage = d .stage; machine = d .machine; costs = d .costs; parts = listOf (d .parts); tasks = listOf (d .tasks) }

@@ -15,7 +15,8 @@ ghost use mathlib.Core.Path.{_≡_};
 ghost use mathlib.Core.List.{[], _∷_, _++_};
 ghost use Prim.Native.Nat.{_<_};
 ghost use Rattle.sheet.specs.Sheet.{top, machineFault, costFault, partFault, fitFault, lineFault, partTimes, withMachine, withCosts, withPart, withTask, after, tasksOf};
-ghost use Rattle.sheet.specs.Held.{listOf, told, laid};
+ghost use Rattle.task.specs.Tasks.{listOf};
+ghost use Rattle.sheet.specs.Held.{told, laid};
 
 // No task.
 pub fn no_tasks() -> Tasks

@@ -19,10 +19,11 @@ use Rattle.demand.specs.declared.Piece.{Piece}
 use Rattle.demand.specs.declared.Costs.{Costs}
 use Rattle.demand.specs.Sizes.{Each}
 use Rattle.demand.specs.Answer.{answerOf, told}
-use Rattle.spardimple.specs.Bytes.{numberAt, kindNamed, outside, sevenAt, pieceAt, firstPieces, piecesOf, costsOf}
+use Rattle.demand.specs.Kinds.{kindNumber, kindOf}
+use Rattle.spardimple.specs.Bytes.{numberAt, outside, sevenAt, pieceAt, firstPieces, piecesOf, costsOf}
 use Rattle.spardimple.specs.Numbers.{number, verdictNumber}
 use Rattle.spardimple.specs.Numbers.Reply.{said}
-use Rattle.spardimple.specs.Spelling.{fourBytes, kindNumber, sevenNumbers, runNumbers, nineNumbers, spell, Narrow}
+use Rattle.spardimple.specs.Spelling.{fourBytes, sevenNumbers, runNumbers, nineNumbers, spell, Narrow}
 use Rattle.spardimple.proofs.ByteLaws.{piece-named}
 use Rattle.spardimple.proofs.NumberLaws.{reply-formed, number-reply}
 
@@ -72,7 +73,7 @@ run-at (p ∷ ps) (suc j) f d h k =
     let e : 7 * suc j + f ≡ 7 + (7 * j + f) = omega arith in
     ap (λ (i : ℕ). getD (runNumbers (p ∷ ps)) i 0) e ∙ (getD-append-add (sevenNumbers p) (runNumbers ps) (7 * j + f) 0 ∙ run-at ps j f d (le-of-suc-le-suc h) k)
 
-kind-read : (k : Kind) → kindNamed (kindNumber k) ≡ k
+kind-read : (k : Kind) → kindOf (kindNumber k) ≡ k
 kind-read Whole = refl
 kind-read First = refl
 kind-read Last = refl
@@ -92,7 +93,7 @@ module _ (ps : List Piece) (narrow : Each Narrow (runNumbers ps)) where
       let kind = field-at j 0 (28 * j) h (omega arith) (omega arith) in
       piece-named (spell (runNumbers ps)) (28 * j) (omega (arith, kind, kind-narrow (getD ps j outside .kind)))
       ∙ λ i. record {
-        kind = (ap kindNamed kind ∙ kind-read (getD ps j outside .kind)) i;
+        kind = (ap kindOf kind ∙ kind-read (getD ps j outside .kind)) i;
         budget = field-at j 1 (28 * j + 4) h (omega arith) (omega arith) i;
         window = field-at j 2 (28 * j + 8) h (omega arith) (omega arith) i;
         period = field-at j 3 (28 * j + 12) h (omega arith) (omega arith) i;

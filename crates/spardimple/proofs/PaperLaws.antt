@@ -32,7 +32,7 @@ use Rattle.lines.specs.Lines.{nameMost, nameOf}
 use Rattle.lines.proofs.LineLaws.{padded-length}
 use Rattle.sheet.specs.declared.Sheet.{Sheet}
 use Rattle.sheet.specs.Sheet.{sheetMost, shown, readOf, refused as sheetRefused}
-use Rattle.sheet.specs.Held.{listOf}
+use Rattle.task.specs.Tasks.{listOf}
 use Rattle.sheet.specs.Fitted.{Fitted, linesOf}
 use Rattle.sheet.proofs.ArrowLaws.{first-arrow}
 use Rattle.sheet.proofs.RuleLaws.{breaks-no-rule}

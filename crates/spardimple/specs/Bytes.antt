@@ -2,7 +2,6 @@
 -- numbers, and there are nine costs. The laws are in `proofs/ByteLaws.antt`.
 --
 --   numberAt s at        the number whose four bytes start at the place `at` of s
---   kindNamed k          the kind that 0, 1 or 2 names
 --   outside              a piece that is outside the sizes
 --   sevenAt s at         the seven numbers that start there: kind, x, D, T, J, P, M
 --   pieceAt s at         the piece that they spell
@@ -14,26 +13,20 @@ use mathlib.Core.List.{List, [], _∷_, _++_}
 use Prim.Native.Nat.{ℕ, zero, suc, _+_, _*_, _/_}
 use lib.Dec.{leb}
 use lib.ListN.{length, getD}
-use Rattle.demand.specs.declared.Kind.{Kind}
-use Rattle.demand.specs.declared.Kind.the-variants.{Whole, First, Last}
+use Rattle.demand.specs.declared.Kind.the-variants.{Whole}
 use Rattle.demand.specs.declared.Piece.{Piece}
 use Rattle.demand.specs.declared.Costs.{Costs}
+use Rattle.demand.specs.Kinds.{kindOf}
 
 abbrev pub numberAt : List ℕ → ℕ → ℕ
 numberAt s at = getD s at 0 + 256 * getD s (at + 1) 0 + 65536 * getD s (at + 2) 0 + 16777216 * getD s (at + 3) 0
-
--- A greater number names none: `pieceAt` turns it away before.
-abbrev pub kindNamed : ℕ → Kind
-kindNamed zero = Whole
-kindNamed (suc zero) = First
-kindNamed (suc (suc k)) = Last
 
 abbrev pub outside : Piece
 outside = record { kind = Whole; budget = 0; window = 0; period = 0; jitter = 0; preempt = 0; migrate = 0 }
 
 unfoldable pub sevenAt : List ℕ → ℕ → Piece
 sevenAt s at = record {
-  kind = kindNamed (numberAt s at);
+  kind = kindOf (numberAt s at);
   budget = numberAt s (at + 4);
   window = numberAt s (at + 8);
   period = numberAt s (at + 12);

@@ -12,11 +12,12 @@ use mathlib.Core.Bool.{cond}
 use mathlib.Core.List.{List}
 use Prim.Native.Nat.{ℕ, zero, suc, _+_}
 use lib.Dec.{leb}
-use lib.ListN.{length, take}
+use lib.ListN.{length}
 use Rattle.demand.specs.declared.Costs.{Costs}
 use Rattle.demand.specs.Answer.{Told}
 use Rattle.task.specs.declared.Task.{Task}
 use Rattle.task.specs.declared.Machine.{Machine}
+use Rattle.task.specs.Tasks.{listOf}
 use Rattle.plan.specs.declared.Plan.{Plan}
 use Rattle.plan.specs.declared.Reply.{Reply}
 use Rattle.plan.specs.Plan.{planOf}
@@ -56,7 +57,7 @@ abbrev pub costsIn : List ℕ → Costs
 costsIn sheet = readOf sheet .sheet .costs
 
 abbrev pub tasksIn : List ℕ → List Task
-tasksIn sheet = take (readOf sheet .sheet .tasks .count) (readOf sheet .sheet .tasks .list)
+tasksIn sheet = listOf (readOf sheet .sheet .tasks)
 
 abbrev pub planIn : List ℕ → Plan
 planIn sheet = planSheet (readOf sheet .sheet) .plan

@@ -2,7 +2,6 @@
 -- `proofs/Agreement.antt` does, to say that both forms of the verdict agree.
 --
 --   fourBytes n          the four bytes of n, lowest first
---   kindNumber k         0, 1, 2 for whole, first, last
 --   sevenNumbers p       the numbers of a record: kind, x, D, T, J, P, M
 --   runNumbers ps        those of all records
 --   nineNumbers c        the costs in the sheet's order
@@ -10,18 +9,12 @@
 --   Narrow n             n has four bytes
 use mathlib.Core.List.{List, [], _∷_, _++_}
 use Prim.Native.Nat.{ℕ, _/_, _%_, _^_, _<_}
-use Rattle.demand.specs.declared.Kind.{Kind}
-use Rattle.demand.specs.declared.Kind.the-variants.{Whole, First, Last}
 use Rattle.demand.specs.declared.Piece.{Piece}
 use Rattle.demand.specs.declared.Costs.{Costs}
+use Rattle.demand.specs.Kinds.{kindNumber}
 
 abbrev pub fourBytes : ℕ → List ℕ
 fourBytes n = n % 256 ∷ n / 256 % 256 ∷ n / 65536 % 256 ∷ n / 16777216 % 256 ∷ []
-
-abbrev pub kindNumber : Kind → ℕ
-kindNumber Whole = 0
-kindNumber First = 1
-kindNumber Last = 2
 
 abbrev pub sevenNumbers : Piece → List ℕ
 sevenNumbers p = kindNumber (p .kind) ∷ p .budget ∷ p .window ∷ p .period ∷ p .jitter ∷ p .preempt ∷ p .migrate ∷ []

@@ -1,13 +1,13 @@
 // Records and costs out of lent bytes: four bytes a number, lowest first.
 use crate::runs::nothing;
 use demand::Costs;
-use demand::Kind;
 use demand::Piece;
 use demand::Run;
+use demand::kind_of;
 ghost use mathlib.Core.Path.{_≡_};
 ghost use Prim.Native.Nat.{_+_, _*_, _≤_, _<_};
 ghost use lib.ListN.{length};
-ghost use Rattle.spardimple.specs.Bytes.{numberAt, kindNamed, pieceAt, piecesOf, costsOf};
+ghost use Rattle.spardimple.specs.Bytes.{numberAt, pieceAt, piecesOf, costsOf};
 ghost use Rattle.spardimple.specs.Runs.{Holding};
 
 fn wide(b: u8) -> u64
@@ -37,17 +37,6 @@ pub fn number_at(s: &[u8], at: usize) -> u64
     )
 }
 
-// 0, 1, 2 for whole, first, last; a greater number does not come here.
-pub fn kind_named(k: u64) -> Kind
-    ensures { λ r. ⌜ r ≡ kindNamed k ⌝ }
-{
-    match k {
-        0 => Kind::Whole,
-        1 => Kind::First,
-        _ => Kind::Last,
-    }
-}
-
 // The record whose 28 bytes start at a place.
 pub fn piece_at(s: &[u8], at: usize) -> Piece
     requires { ⌜ at + 28 ≤ length (now s) ⌝ }
@@ -58,7 +47,7 @@ pub fn piece_at(s: &[u8], at: usize) -> Piece
         return nothing();
     }
     Piece {
-        kind: kind_named(kind),
+        kind: kind_of(kind),
         budget: number_at(s, at + 4),
         window: number_at(s, at + 8),
         period: number_at(s, at + 12),

@@ -4,6 +4,7 @@
 --   place-other, place-here, place-end
 --   fault-none, fault-here, fault-end
 --   fault-form, -size, -twin, -free      the fault of one task
+--   rule-fine, or-else-fine     a rule that gives no number is kept
 --   Good, Sane, state-sane      what is known of tasks, and of a machine with costs and tasks, that break no rule
 use mathlib.Core.Path.{_≡_, refl, sym, ap, _∙_}
 use mathlib.Core.Bool.{Bool, true, false, cond, _&&_}
@@ -99,11 +100,11 @@ both-true true b e = (refl, e)
 both-true false true e = (e, refl)
 both-true false false e = (e, e)
 
-rule-fine : (b : Bool) (n rest : ℕ) → rule b (suc n) rest ≡ 0 → (b ≡ true) × (rest ≡ 0)
+pub rule-fine : (b : Bool) (n rest : ℕ) → rule b (suc n) rest ≡ 0 → (b ≡ true) × (rest ≡ 0)
 rule-fine true n rest e = (refl, e)
 rule-fine false n rest e = absurd (omega arith)
 
-or-else-fine : (k n : ℕ) → orElse k n ≡ 0 → (k ≡ 0) × (n ≡ 0)
+pub or-else-fine : (k n : ℕ) → orElse k n ≡ 0 → (k ≡ 0) × (n ≡ 0)
 or-else-fine zero n e = (refl, e)
 or-else-fine (suc k) n e = absurd (omega arith)
 

@@ -3,6 +3,7 @@
 --   wholePiece t       the whole piece of a task with the times t
 --   sizedMachine m     m and grain are within their sizes
 --   placeOf k n ts     the place of the first task named n, counted from k, or 0
+--   listOf q           the tasks that q holds: the first `count`, whatever stands past them
 --   taskAt ts i        the task at place i, from 0
 --   faultOf above t    what is wrong with the task t below others: 8, then 3, then 4, or 0
 --   firstFault above ts   the first such fault down the list
@@ -19,6 +20,7 @@ use Rattle.demand.specs.Sizes.{sized, sizedCosts, timeMost}
 use Rattle.task.specs.declared.Name.{Name}
 use Rattle.task.specs.declared.Times.{Times}
 use Rattle.task.specs.declared.Task.{Task}
+use Rattle.task.specs.declared.Tasks.{Tasks}
 use Rattle.task.specs.declared.Machine.{Machine}
 use Rattle.task.specs.Names.{formed, sameName}
 
@@ -33,6 +35,9 @@ wholePiece t = record { kind = Whole; budget = t .worst; window = t .deadline; p
 
 unfoldable pub sizedMachine : Machine → Bool
 sizedMachine m = leb 1 (m .cores) && leb (m .cores) coresMost && leb 1 (m .grain) && leb (m .grain) timeMost
+
+abbrev pub listOf : Tasks → List Task
+listOf q = take (q .count) (q .list)
 
 abbrev pub placeOf : ℕ → Name → List Task → ℕ
 placeOf k n [] = 0

@@ -6,7 +6,8 @@ use lib.Seq.{length-take-le}
 use Rattle.demand.specs.declared.Piece.{Piece}
 use Rattle.demand.specs.Charge.{charged}
 use Rattle.demand.specs.Sizes.{Countable}
-use Rattle.demand.proofs.RunLaws.{nobody, each-at}
+use Rattle.demand.proofs.RunLaws.{nobody}
+use Rattle.demand.proofs.Sums.{each-at}
 use borrow.Author.Needs.{needs}
 use Prim.Native.Nat.{_≤_, _-_, _<_}
 use mathlib.Core.Path.{_≡_, refl, sym}

@@ -8,7 +8,7 @@ use Rattle.task.specs.Names.{formed}
 use Rattle.task.specs.Tasks.{wholePiece}
 use Rattle.demand.proofs.RunLaws.{length-mapped}
 use Rattle.edits.specs.Edits.{named, editFault}
-use Rattle.edits.specs.Listed.{listed}
+use Rattle.task.specs.Tasks.{listOf}
 use Rattle.edits.proofs.ListLaws.{room-none, room-some}
 use Rattle.edits.proofs.EditLaws.{told-no, told-yes, sizes-no, sizes-yes, found-no, found-yes}
 use borrow.Author.Needs.{needs}
@@ -22,8 +22,8 @@ good c = told-yes (c .before .well-formed .result) (formed (c .before .before .b
 fits : (c : tie.Else2) → sized (wholePiece (c .before .before .before .before .before .before .before .args .task .times)) ≡ true
 fits c = sizes-yes (c .before .before .before .before .before .before .before .args .task .times) (c .before .before .whole-piece .result) (c .before .within-sizes .result) (c .before .before .whole-piece .ensures) (c .before .within-sizes .ensures) (c .if2 .left)
 
-new : (c : tie.Else3) → named (c .before .before .before .before .before .before .before .before .before .args .task .name) (listed (c .before .before .before .before .before .before .before .before .before .args .tasks)) ≡ false
-new c = found-no (c .before .before .before .before .before .before .before .before .before .args .task .name) (listed (c .before .before .before .before .before .before .before .before .before .args .tasks)) (c .before .place-of .result) (c .before .place-of .ensures) (c .if3 .left)
+new : (c : tie.Else3) → named (c .before .before .before .before .before .before .before .before .before .args .task .name) (listOf (c .before .before .before .before .before .before .before .before .before .args .tasks)) ≡ false
+new c = found-no (c .before .before .before .before .before .before .before .before .before .args .task .name) (listOf (c .before .before .before .before .before .before .before .before .before .args .tasks)) (c .before .place-of .result) (c .before .place-of .ensures) (c .if3 .left)
 
 well-formed-requires : tie.Need-well-formed-requires
 well-formed-requires c κs = search needs
@@ -47,7 +47,7 @@ place-of-requires c κs = search needs
 
 returns-3 : tie.Need-returns-3
 unfolding editFault
-returns-3 c = rw (good (c .before .before .before .before .before), fits (c .before .before), found-yes (c .before .before .before .before .before .before .before .before .before .args .task .name) (listed (c .before .before .before .before .before .before .before .before .before .args .tasks)) (c .before .place-of .result) (c .before .place-of .ensures) (c .if3 .taken))
+returns-3 c = rw (good (c .before .before .before .before .before), fits (c .before .before), found-yes (c .before .before .before .before .before .before .before .before .before .args .task .name) (listOf (c .before .before .before .before .before .before .before .before .before .args .tasks)) (c .before .place-of .result) (c .before .place-of .ensures) (c .if3 .taken))
 
 returns-4 : tie.Need-returns-4
 unfolding editFault

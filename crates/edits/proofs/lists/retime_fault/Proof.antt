@@ -6,7 +6,7 @@ use Rattle.demand.specs.Sizes.{sized}
 use Rattle.task.specs.Names.{formed}
 use Rattle.task.specs.Tasks.{wholePiece}
 use Rattle.edits.specs.Edits.{editFault}
-use Rattle.edits.specs.Listed.{listed}
+use Rattle.task.specs.Tasks.{listOf}
 use Rattle.edits.proofs.EditLaws.{told-no, told-yes, sizes-no, sizes-yes, found-no, found-yes}
 use borrow.Author.Needs.{needs}
 use Rattle.edits.proofs.lists.retime_fault.Statement.{statement}
@@ -41,11 +41,11 @@ place-of-requires c κs = search needs
 
 returns-3 : tie.Need-returns-3
 unfolding editFault
-returns-3 c = rw (good (c .before .before .before .before .before), fits (c .before .before), found-no (c .before .before .before .before .before .before .before .before .before .args .task .name) (listed (c .before .before .before .before .before .before .before .before .before .args .tasks)) (c .before .place-of .result) (c .before .place-of .ensures) (c .if3 .taken))
+returns-3 c = rw (good (c .before .before .before .before .before), fits (c .before .before), found-no (c .before .before .before .before .before .before .before .before .before .args .task .name) (listOf (c .before .before .before .before .before .before .before .before .before .args .tasks)) (c .before .place-of .result) (c .before .place-of .ensures) (c .if3 .taken))
 
 returns-4 : tie.Need-returns-4
 unfolding editFault
-returns-4 c = rw (good (c .before .before .before .before .before), fits (c .before .before), found-yes (c .before .before .before .before .before .before .before .before .before .args .task .name) (listed (c .before .before .before .before .before .before .before .before .before .args .tasks)) (c .before .place-of .result) (c .before .place-of .ensures) (c .if3 .left))
+returns-4 c = rw (good (c .before .before .before .before .before), fits (c .before .before), found-yes (c .before .before .before .before .before .before .before .before .before .args .task .name) (listOf (c .before .before .before .before .before .before .before .before .before .args .tasks)) (c .before .place-of .result) (c .before .place-of .ensures) (c .if3 .left))
 
 pub retime-fault-spec : {M : Type 1} → statement M
 retime-fault-spec =

@@ -4,7 +4,7 @@ use mathlib.Core.Path.{_≡_}
 use mathlib.Core.Bool.{true}
 use Rattle.task.specs.Names.{formed}
 use Rattle.edits.specs.Edits.{editFault}
-use Rattle.edits.specs.Listed.{listed}
+use Rattle.task.specs.Tasks.{listOf}
 use Rattle.edits.proofs.EditLaws.{told-no, told-yes, found-no, found-yes}
 use borrow.Author.Needs.{needs}
 use Rattle.edits.proofs.lists.withdraw_fault.Statement.{statement}
@@ -26,11 +26,11 @@ place-of-requires c κs = search needs
 
 returns-2 : tie.Need-returns-2
 unfolding editFault
-returns-2 c = rw (good (c .before .before), found-no (c .before .before .before .before .args .name) (listed (c .before .before .before .before .args .tasks)) (c .before .place-of .result) (c .before .place-of .ensures) (c .if2 .taken))
+returns-2 c = rw (good (c .before .before), found-no (c .before .before .before .before .args .name) (listOf (c .before .before .before .before .args .tasks)) (c .before .place-of .result) (c .before .place-of .ensures) (c .if2 .taken))
 
 returns-3 : tie.Need-returns-3
 unfolding editFault
-returns-3 c = rw (good (c .before .before), found-yes (c .before .before .before .before .args .name) (listed (c .before .before .before .before .args .tasks)) (c .before .place-of .result) (c .before .place-of .ensures) (c .if2 .left))
+returns-3 c = rw (good (c .before .before), found-yes (c .before .before .before .before .args .name) (listOf (c .before .before .before .before .args .tasks)) (c .before .place-of .result) (c .before .place-of .ensures) (c .if2 .left))
 
 pub withdraw-fault-spec : {M : Type 1} → statement M
 withdraw-fault-spec =

@@ -9,7 +9,8 @@ use native.Mathlib.Omega.{arith}
 use lib.ListN.{length, take, getD, length-replicate}
 use Rattle.demand.specs.declared.Piece.{Piece}
 use Rattle.plan.specs.Layout.{pieceAt, pieceOf, blank}
-use Rattle.plan.proofs.Lists.{each-at, take-put, map-more}
+use Rattle.demand.proofs.Sums.{each-at}
+use Rattle.plan.proofs.Lists.{take-put, map-more}
 use Rattle.plan.proofs.rows.run_of.Statement.{statement}
 use Rattle.plan.proofs.rows.run_of.Tie as tie
 use Rattle.plan.proofs.rows.run_of.Reads as reads

@@ -9,7 +9,7 @@ use Rattle.plan.specs.Layout.{none}
 use Rattle.plan.specs.Plan.{wholeAt}
 use Rattle.plan.specs.Walk.{walk, start, rulesFor}
 use Rattle.plan.specs.Going.{Reach}
-use Rattle.plan.proofs.Lists.{each-at}
+use Rattle.demand.proofs.Sums.{each-at}
 use Rattle.plan.proofs.OverLaws.{Walking, land-fits, land-reach, still-walking, walk-ended, begins, walking-reach}
 use borrow.Author.Needs.{needs}
 use Rattle.plan.proofs.walks.walk_over.Statement.{statement}

@@ -6,7 +6,7 @@ use borrow.Author.Tests.{eq-eqb, ne-eqb, le-leb, lt-leb}
 use lib.ListN.{length}
 use Rattle.demand.proofs.RunLaws.{length-mapped}
 use Rattle.sheet.specs.Sheet.{fitFault, free}
-use Rattle.sheet.specs.Held.{listOf}
+use Rattle.task.specs.Tasks.{listOf}
 use Rattle.sheet.proofs.FaultLaws.{room-none, room-some}
 use borrow.Author.Needs.{needs}
 use Rattle.sheet.proofs.drafts.fit_fault.Statement.{statement}

@@ -8,7 +8,7 @@ use Rattle.demand.specs.Sizes.{sized}
 use Rattle.task.specs.Tasks.{wholePiece}
 use Rattle.demand.proofs.RunLaws.{length-mapped}
 use Rattle.sheet.specs.Sheet.{partFault, free}
-use Rattle.sheet.specs.Held.{listOf}
+use Rattle.task.specs.Tasks.{listOf}
 use Rattle.sheet.proofs.FaultLaws.{room-none, room-some}
 use borrow.Author.Needs.{needs}
 use Rattle.sheet.proofs.drafts.part_fault.Statement.{statement}

@@ -1,6 +1,7 @@
 -- `bytes::piece_at` meets its contract: the kind's number is tested first, and the other six stand behind it.
 use mathlib.Core.Path.{sym, ap, _∙_}
-use Rattle.spardimple.specs.Bytes.{kindNamed, sevenAt}
+use Rattle.demand.specs.Kinds.{kindOf}
+use Rattle.spardimple.specs.Bytes.{sevenAt}
 use native.Mathlib.Omega.{arith}
 use Rattle.spardimple.proofs.ByteLaws.{piece-named, piece-other}
 use borrow.Author.Needs.{needs}
@@ -8,7 +9,7 @@ use Rattle.spardimple.proofs.bytes.piece_at.Statement.{statement}
 use Rattle.spardimple.proofs.bytes.piece_at.Tie as tie
 use Rattle.spardimple.proofs.bytes.piece_at.Reads as reads
 use Rattle.spardimple.proofs.bytes.piece_at.Lts as lts
-use Rattle.spardimple.proofs.bytes.kind_named.Reads as kind-named-reads
+use Rattle.demand.proofs.kind_of.Reads as kind-of-reads
 use Rattle.spardimple.proofs.bytes.number_at.Reads as number-at-reads
 use Rattle.spardimple.proofs.runs.nothing.Reads as nothing-reads
 
@@ -21,8 +22,8 @@ nothing-requires c κs = search needs
 returns : tie.Need-returns
 returns c = c .nothing .ensures ∙ sym (piece-other (c .before .before .before .before .args .s .now) (c .before .before .before .before .args .at) (omega arith))
 
-kind-named-requires : tie.Need-kind-named-requires
-kind-named-requires c κs = search needs
+kind-of-requires : tie.Need-kind-of-requires
+kind-of-requires c κs = search needs
 
 add-number-at : tie.Need-add-number-at
 add-number-at c = search needs
@@ -64,7 +65,7 @@ returns-2 : tie.Need-returns-2
 unfolding sevenAt
 returns-2 c =
     (λ i. record {
-      kind = (c .before .before .before .before .before .before .kind-named .ensures ∙ ap kindNamed (c .before .before .before .before .before .before .before .before .number-at .ensures)) i;
+      kind = (c .before .before .before .before .before .before .kind-of .ensures ∙ ap kindOf (c .before .before .before .before .before .before .before .before .number-at .ensures)) i;
       budget = c .before .before .before .before .before .number-at2 .ensures i;
       window = c .before .before .before .before .number-at3 .ensures i;
       period = c .before .before .before .number-at4 .ensures i;
@@ -81,7 +82,7 @@ piece-at-spec =
     number-at-requires
     nothing-requires
     returns
-    kind-named-requires
+    kind-of-requires
     add-number-at
     number-at-requires-2
     add-number-at-2

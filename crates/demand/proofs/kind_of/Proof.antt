@@ -1,9 +1,9 @@
--- `layouts::kind_of` meets its contract: the two tests in their order.
+-- `kind_of` meets its contract: the two tests in their order.
 use borrow.Author.Tests.{eq-eqb, ne-eqb}
-use Rattle.plan.proofs.layouts.kind_of.Statement.{statement}
-use Rattle.plan.proofs.layouts.kind_of.Tie as tie
-use Rattle.plan.proofs.layouts.kind_of.Reads as reads
-use Rattle.plan.proofs.layouts.kind_of.Lts as lts
+use Rattle.demand.proofs.kind_of.Statement.{statement}
+use Rattle.demand.proofs.kind_of.Tie as tie
+use Rattle.demand.proofs.kind_of.Reads as reads
+use Rattle.demand.proofs.kind_of.Lts as lts
 
 returns : tie.Need-returns
 returns c = simp (eq-eqb (c .before .args .number) 0 (c .if1 .taken))

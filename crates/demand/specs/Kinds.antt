@@ -1,0 +1,17 @@
+-- Kinds by number: document 01, "Verdict on a core": 0, 1, 2 for whole, first, last. No enum crosses the C boundary, so records and plans have these.
+--
+--   kindNumber k         the number of a kind
+--   kindOf n             the kind of a number; past 2 there is none, and who reads numbers from outside turns them away before
+use mathlib.Core.Bool.{cond}
+use Prim.Native.Nat.{ℕ}
+use lib.Dec.{eqb}
+use Rattle.demand.specs.declared.Kind.{Kind}
+use Rattle.demand.specs.declared.Kind.the-variants.{Whole, First, Last}
+
+abbrev pub kindNumber : Kind → ℕ
+kindNumber Whole = 0
+kindNumber First = 1
+kindNumber Last = 2
+
+abbrev pub kindOf : ℕ → Kind
+kindOf n = cond (eqb n 0) Whole (cond (eqb n 1) First Last)
