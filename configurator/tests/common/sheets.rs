@@ -84,6 +84,41 @@ impl SheetDraw {
         lines.concat().into_bytes()
     }
 
+    /// A sheet whose names differ in little. Now and then a part or a task comes twice, or a task is
+    /// fitted with a part that isn't there.
+    pub fn near_names(&self, random: &mut Random) -> Vec<u8> {
+        let (cores, known) = (random.between(1, self.cores), random.between(1, 12));
+        let known = &NAMES[..usize::try_from(known).unwrap()];
+        let costs: Vec<String> = (0..9).map(|_| self.charge(random).to_string()).collect();
+        let mut text = format!("machine\t{cores}\t1\ncost\t{}\n", costs.join("\t"));
+        for &name in known {
+            let name = if random.once_in(100) { "a" } else { name };
+            text += &format!("part\t{name}\t{}\n", self.times(20, random));
+        }
+        for &name in &NAMES[..random.place(NAMES.len())] {
+            let name = if random.once_in(20) { "a" } else { name };
+            let fitted = if random.once_in(20) { &NAMES } else { known };
+            let part = random.pick(fitted);
+            text += &format!("fit\t{name}\t{part}\n");
+        }
+        text.into_bytes()
+    }
+
+    /// A sheet with about as many parts and tasks as there may be, or a few more.
+    pub fn crowd(&self, random: &mut Random) -> Vec<u8> {
+        let cores = random.between(1, self.cores);
+        let (parts, tasks) = (random.between(58, 66), random.between(58, 66));
+        let mut text = format!("machine\t{cores}\t1\ncost\t0\t0\t0\t0\t0\t0\t0\t0\t0\n");
+        for part in 0..parts {
+            text += &format!("part\tp{part}\t{}\n", self.times(1, random));
+        }
+        for task in 0..tasks {
+            let part = random.between(0, parts - 1);
+            text += &format!("fit\tt{task}\tp{part}\n");
+        }
+        text.into_bytes()
+    }
+
     /// The six numbers of a part, parted by tabs, within the sizes. The budget is about that share
     /// of the period, in hundredths.
     fn times(&self, share: u64, random: &mut Random) -> String {
