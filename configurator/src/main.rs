@@ -18,8 +18,8 @@ plan     prints the listing of a timing sheet: which core runs which task, whole
 SHEET    a timing sheet: lines of fields parted by one tab, in this order
            machine  cores, grain
            cost     RelO, SchedO, TsetO, IpB, BetO, MigrO, IpiO, IpiJ, precision
-           part     name, C, D, T, J, P, M             any number of them up to 64
-           fit      task name, part name               any number of them up to 64
+           part     name, C, D, T, J, P, M      up to 64 of them
+           fit      task name, part name        up to 64 of them
 
 verdict  says whether one core keeps every deadline
 RECORDS  piece records, 28 bytes each: seven numbers of four bytes, lowest first

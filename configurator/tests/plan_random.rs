@@ -6,7 +6,7 @@
 mod common;
 
 use common::listings::Tally;
-use common::sheets::{damaged, SheetDraw, SHEET};
+use common::sheets::{damaged, full_load, SheetDraw, SHEET};
 use common::Random;
 use configurator::plain::verdict::Way;
 
@@ -33,12 +33,28 @@ fn whole_sheets() {
     let mut random = Random::for_test();
     let mut tally = Tally::default();
     for draw in SMALL {
-        for _ in 0..4_000 {
+        for _ in 0..6_000 {
             let _ = tally.sheet(&draw.sheet(&mut random), Way::EveryLength);
         }
     }
     println!("{tally}");
-    let least = tally.compared() / 10;
+    let least = tally.compared() / 20;
+    assert!(tally.with_split > least && tally.refused[7] > least);
+    assert_eq!(tally.accepted + tally.refused[7], tally.compared());
+}
+
+/// Loads near the most that the cores can take, without costs and with some.
+#[test]
+fn full_loads() {
+    let mut random = Random::for_test();
+    let mut tally = Tally::default();
+    for (cost, each, way) in [(0, 10_000, Way::EveryLength), (2, 3_000, Way::Stretches)] {
+        for _ in 0..each {
+            let _ = tally.sheet(&full_load(cost, &mut random), way);
+        }
+        println!("costs up to {cost}, the sum so far: {tally}");
+    }
+    let least = tally.compared() / 5;
     assert!(tally.with_split > least && tally.refused[7] > least);
     assert_eq!(tally.accepted + tally.refused[7], tally.compared());
 }
@@ -62,7 +78,7 @@ fn long_times() {
         }
     }
     println!("{tally}");
-    let least = tally.compared() / 10;
+    let least = tally.compared() / 5;
     assert!(tally.with_split > least && tally.refused[7] > least);
     assert_eq!(tally.accepted + tally.refused[7], tally.compared());
 }
@@ -73,7 +89,7 @@ fn damaged_sheets() {
     let mut random = Random::for_test();
     let mut tally = Tally::default();
     for draw in SMALL {
-        for _ in 0..4_000 {
+        for _ in 0..8_000 {
             let mut sheet = match random.between(1, 10) {
                 1 => draw.near_names(&mut random),
                 2 => draw.crowd(&mut random),
@@ -136,7 +152,7 @@ fn every_byte_of_a_sheet() {
     assert!(tally.accepted > 100);
 }
 
-/// The first lines of a sheet with its lines in every order.
+/// Document 01's sheet with its lines in every order.
 #[test]
 fn every_order_of_lines() {
     let mut tally = Tally::default();

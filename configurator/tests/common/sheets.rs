@@ -175,6 +175,35 @@ impl SheetDraw {
     }
 }
 
+/// A sheet whose tasks almost fill the cores. Most are planned with splits or stick at a late task. A
+/// cost is at most that; where there are costs, times are twenty times as long and more room is left.
+pub fn full_load(cost: u64, random: &mut Random) -> Vec<u8> {
+    let (unit, spare) = if cost == 0 { (1, 10) } else { (20, 25) };
+    let cores = random.between(2, 8);
+    let costs: Vec<String> = (0..9)
+        .map(|_| random.between(0, cost).to_string())
+        .collect();
+    let mut left = 60 * cores - random.between(0, spare * cores); // sixtieths of a core
+    let (mut parts, mut fits) = (String::new(), String::new());
+    let mut tasks = 0;
+    while left > 0 && tasks < 64 {
+        let period = random.pick(&[5, 6, 10, 12, 15, 20, 30, 60]);
+        let tick = 60 / period;
+        if tick > left {
+            continue;
+        }
+        let budget = random.between(1, (left / tick).min(period));
+        left -= budget * tick;
+        let (budget, period) = (unit * budget, unit * period);
+        let charges = format!("{}\t{}", random.between(0, cost), random.pick(&[0, 0, 1]));
+        parts += &format!("part\tp{tasks}\t{budget}\t{period}\t{period}\t0\t{charges}\n");
+        fits += &format!("fit\tt{tasks}\tp{tasks}\n");
+        tasks += 1;
+    }
+    let head = format!("machine\t{cores}\t1\ncost\t{}\n", costs.join("\t"));
+    (head + &parts + &fits).into_bytes()
+}
+
 /// A sheet with a byte changed, dropped or doubled, two lines swapped, a line dropped or doubled, a
 /// field changed, or the end cut off.
 pub fn damaged(sheet: &[u8], random: &mut Random) -> Vec<u8> {
