@@ -148,16 +148,16 @@ fn long_name(letter: char, number: usize) -> String {
 /// A sheet of 64 parts and that many tasks, with the longest names and long numbers. All but the
 /// first part would fill a core. Every task has the first, four of which almost do.
 fn long_sheet(tasks: usize) -> Vec<u8> {
-    let mut text = HEAD.replace("16\t1\n", "16\t1000\n");
-    for number in 0..64 {
+    let part = |number| {
         let budget = if number == 0 { 249_000 } else { 1_000_000 };
         let name = long_name('P', number);
-        text += &format!("part\t{name}\t{budget}\t1000000\t1000000\t0\t0\t0\n");
-    }
-    for number in 0..tasks {
-        text += &format!("fit\t{}\t{}\n", long_name('t', number), long_name('P', 0));
-    }
-    text.into_bytes()
+        format!("part\t{name}\t{budget}\t1000000\t1000000\t0\t0\t0\n")
+    };
+    let fit = |number| format!("fit\t{}\t{}\n", long_name('t', number), long_name('P', 0));
+    let head = HEAD.replace("16\t1\n", "16\t1000\n");
+    let parts: String = (0..64).map(part).collect();
+    let fits: String = (0..tasks).map(fit).collect();
+    (head + &parts + &fits).into_bytes()
 }
 
 /// Compares the library's answer with the oracle's, and both with what is expected.

@@ -9,6 +9,7 @@ use common::listings::Tally;
 use common::sheets::{damaged, full_load, SheetDraw, SHEET};
 use common::Random;
 use configurator::plain::verdict::Way;
+use configurator::Refusal;
 
 /// Small sheets, for which the oracle looks at every length.
 const SMALL: [SheetDraw; 5] = [
@@ -120,7 +121,7 @@ fn cut_sheets() {
             for length in 0..=sheet.len() {
                 let answer = tally.sheet(&sheet[..length], Way::Stretches);
                 let whole_lines = length == 0 || sheet[length - 1] == b'\n';
-                assert!(whole_lines || answer.map_err(|refusal| refusal.number()) == Err(8));
+                assert!(whole_lines || answer.map_err(Refusal::number) == Err(8));
             }
         }
     }

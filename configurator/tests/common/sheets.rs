@@ -90,33 +90,35 @@ impl SheetDraw {
         let (cores, known) = (random.between(1, self.cores), random.between(1, 12));
         let known = &NAMES[..usize::try_from(known).unwrap()];
         let costs: Vec<String> = (0..9).map(|_| self.charge(random).to_string()).collect();
-        let mut text = format!("machine\t{cores}\t1\ncost\t{}\n", costs.join("\t"));
+        let head = format!("machine\t{cores}\t1\ncost\t{}\n", costs.join("\t"));
+        let mut lines = vec![head];
         for &name in known {
             let name = if random.once_in(100) { "a" } else { name };
-            text += &format!("part\t{name}\t{}\n", self.times(20, random));
+            lines.push(format!("part\t{name}\t{}\n", self.times(20, random)));
         }
         for &name in &NAMES[..random.place(NAMES.len())] {
             let name = if random.once_in(20) { "a" } else { name };
             let fitted = if random.once_in(20) { &NAMES } else { known };
             let part = random.pick(fitted);
-            text += &format!("fit\t{name}\t{part}\n");
+            lines.push(format!("fit\t{name}\t{part}\n"));
         }
-        text.into_bytes()
+        lines.concat().into_bytes()
     }
 
     /// A sheet with about as many parts and tasks as there may be, or a few more.
     pub fn crowd(&self, random: &mut Random) -> Vec<u8> {
         let cores = random.between(1, self.cores);
         let (parts, tasks) = (random.between(58, 66), random.between(58, 66));
-        let mut text = format!("machine\t{cores}\t1\ncost\t0\t0\t0\t0\t0\t0\t0\t0\t0\n");
+        let head = format!("machine\t{cores}\t1\ncost\t0\t0\t0\t0\t0\t0\t0\t0\t0\n");
+        let mut lines = vec![head];
         for part in 0..parts {
-            text += &format!("part\tp{part}\t{}\n", self.times(1, random));
+            lines.push(format!("part\tp{part}\t{}\n", self.times(1, random)));
         }
         for task in 0..tasks {
             let part = random.between(0, parts - 1);
-            text += &format!("fit\tt{task}\tp{part}\n");
+            lines.push(format!("fit\tt{task}\tp{part}\n"));
         }
-        text.into_bytes()
+        lines.concat().into_bytes()
     }
 
     /// The six numbers of a part, parted by tabs, within the sizes. The budget is about that share
@@ -184,9 +186,8 @@ pub fn full_load(cost: u64, random: &mut Random) -> Vec<u8> {
         .map(|_| random.between(0, cost).to_string())
         .collect();
     let mut left = 60 * cores - random.between(0, spare * cores); // sixtieths of a core
-    let (mut parts, mut fits) = (String::new(), String::new());
-    let mut tasks = 0;
-    while left > 0 && tasks < 64 {
+    let (mut parts, mut fits) = (Vec::new(), Vec::new());
+    while left > 0 && fits.len() < 64 {
         let period = random.pick(&[5, 6, 10, 12, 15, 20, 30, 60]);
         let tick = 60 / period;
         if tick > left {
@@ -196,12 +197,14 @@ pub fn full_load(cost: u64, random: &mut Random) -> Vec<u8> {
         left -= budget * tick;
         let (budget, period) = (unit * budget, unit * period);
         let charges = format!("{}\t{}", random.between(0, cost), random.pick(&[0, 0, 1]));
-        parts += &format!("part\tp{tasks}\t{budget}\t{period}\t{period}\t0\t{charges}\n");
-        fits += &format!("fit\tt{tasks}\tp{tasks}\n");
-        tasks += 1;
+        let number = fits.len();
+        parts.push(format!(
+            "part\tp{number}\t{budget}\t{period}\t{period}\t0\t{charges}\n"
+        ));
+        fits.push(format!("fit\tt{number}\tp{number}\n"));
     }
     let head = format!("machine\t{cores}\t1\ncost\t{}\n", costs.join("\t"));
-    (head + &parts + &fits).into_bytes()
+    (head + &parts.concat() + &fits.concat()).into_bytes()
 }
 
 /// A sheet with a byte changed, dropped or doubled, two lines swapped, a line dropped or doubled, a
