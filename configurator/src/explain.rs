@@ -32,9 +32,10 @@ pub fn refused(refusal: Refusal, sheet: &[u8]) -> String {
     let mut lines = sheet.split(|&byte| byte == b'\n');
     let place = usize::try_from(refusal.carries()).unwrap_or(usize::MAX);
     let words = match (refusal.number(), place.checked_sub(1)) {
-        (1..=6 | 8, Some(above)) => lines
-            .nth(above)
-            .map(|line| format!("\n  {}", shown(line).escape_debug())),
+        (1..=6 | 8, Some(above)) => lines.nth(above).map(|line| match line {
+            [] => "\n  (nothing stands there)".to_owned(),
+            _ => format!("\n  {}", shown(line).escape_debug()),
+        }),
         (7, Some(above)) => lines
             .filter_map(fitted_task)
             .nth(above)
@@ -67,6 +68,11 @@ mod tests {
         assert!(sentence.ends_with("\n  machine\\t2\\t1\\r"), "{sentence}");
         let sentence = refused(Refusal::new(8, 2), b"machine\t2\t1\ncost 0 0\n");
         assert!(sentence.ends_with("\n  cost 0 0"), "{sentence}");
+        let sentence = refused(Refusal::new(8, 2), b"machine\t2\t1\n");
+        assert!(
+            sentence.ends_with("\n  (nothing stands there)"),
+            "{sentence}"
+        );
     }
 
     /// Any refusal over any bytes has a sentence that begins as the refusal's own.

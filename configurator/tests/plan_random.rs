@@ -49,7 +49,7 @@ fn whole_sheets() {
 fn full_loads() {
     let mut random = Random::for_test();
     let mut tally = Tally::default();
-    for (cost, each, way) in [(0, 10_000, Way::EveryLength), (2, 3_000, Way::Stretches)] {
+    for (cost, each, way) in [(0, 10_000, Way::EveryLength), (2, 2_000, Way::Stretches)] {
         for _ in 0..each {
             let _ = tally.sheet(&full_load(cost, &mut random), way);
         }
@@ -70,7 +70,7 @@ fn long_times() {
         (draw(6, 50_000, 100, 500), 250),
         (draw(16, 1_000_000, 500, 20_000), 5_000),
     ] {
-        for _ in 0..1_000 {
+        for _ in 0..800 {
             let sheet = String::from_utf8(draw.sheet(&mut random)).unwrap();
             let fields: Vec<&str> = sheet.splitn(3, '\t').collect();
             let rest = fields[2].trim_start_matches(|c: char| c.is_ascii_digit());
