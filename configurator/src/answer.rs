@@ -1,11 +1,16 @@
 //! What the library's numbers mean. An answer is `2^32 · which + detail`, and this file is the one
 //! place that takes it apart.
 //!
-//! | which | answer | detail |
+//! | which | answer to `verdict` | detail |
 //! |---|---|---|
 //! | 0 | passes | 0 |
 //! | 1 | overloaded | the length |
 //! | 2 | undecided | 0 |
+//! | 100 + N | refusal N | what it carries |
+//!
+//! | which | answer to `plan_listing` | detail |
+//! |---|---|---|
+//! | 0 | the listing is written | its length |
 //! | 100 + N | refusal N | what it carries |
 
 use std::error::Error;
@@ -65,6 +70,39 @@ impl fmt::Display for Answer {
                 "undecided: the work on this core has no end within 100,000,000 ticks"
             ),
             Answer::Refused(refusal) => refusal.write(f, "record"),
+        }
+    }
+}
+
+/// The answer to a listing asked for in a lent buffer: document 01, "Sheet" and "Refusal numbers".
+#[derive(Clone, Copy, Debug, PartialEq, Eq)]
+pub enum Listed {
+    /// The listing stands in the buffer's first bytes, this many; those beyond it are as they were.
+    Written(usize),
+    /// The sheet breaks a rule, the walk sticks, or the buffer is too short. No byte is written.
+    Refused(Refusal),
+}
+
+impl Listed {
+    /// The answer that a number of the library stands for.
+    ///
+    /// # Errors
+    ///
+    /// [`UnknownNumber`] if it stands for none.
+    ///
+    /// ```
+    /// use configurator::{Listed, Refusal, UnknownNumber};
+    ///
+    /// assert_eq!(Listed::decode(134), Ok(Listed::Written(134)));
+    /// assert_eq!(Listed::decode((110 << 32) + 134), Ok(Listed::Refused(Refusal::new(10, 134))));
+    /// assert_eq!(Listed::decode(1 << 32), Err(UnknownNumber(1 << 32)));
+    /// ```
+    pub fn decode(number: u64) -> Result<Self, UnknownNumber> {
+        match halves(number) {
+            (0, length) => usize::try_from(length)
+                .map(Listed::Written)
+                .map_err(|_| UnknownNumber(number)),
+            _ => Refusal::decode(number).map(Listed::Refused),
         }
     }
 }
@@ -211,6 +249,25 @@ mod tests {
             }
         }
         assert_eq!(Answer::decode(u64::MAX), Err(UnknownNumber(u64::MAX)));
+    }
+
+    #[test]
+    fn every_which_of_a_listing_is_decoded_or_unknown() {
+        for which in 0..300 {
+            for detail in [0, 1, 5_699, u32::MAX] {
+                let number = encode(which, detail);
+                let expected = match which {
+                    0 => Ok(Listed::Written(usize::try_from(detail).unwrap())),
+                    101..=110 => {
+                        let refusal = u8::try_from(which - 100).unwrap();
+                        Ok(Listed::Refused(Refusal::new(refusal, detail)))
+                    }
+                    _ => Err(UnknownNumber(number)),
+                };
+                assert_eq!(Listed::decode(number), expected, "{which} {detail}");
+            }
+        }
+        assert_eq!(Listed::decode(u64::MAX), Err(UnknownNumber(u64::MAX)));
     }
 
     #[test]

@@ -2,8 +2,8 @@
 //! package stands here.
 //!
 //! Nothing checks these declarations against the Rattle source, so each import has the signature
-//! that it copies. At the C boundary a number passes as itself and a `&[u8]` as a pointer and then
-//! a length.
+//! that it copies. At the C boundary a number passes as itself and a slice as a pointer and then a
+//! length.
 
 #![allow(unsafe_code)] // the imports below are what this file is for
 
@@ -15,6 +15,14 @@ mod imports {
             records_len: usize,
             costs: *const u8,
             costs_len: usize,
+        ) -> u64;
+
+        /// `#[no_mangle] pub extern "C" fn plan_listing(sheet: &[u8], listing: &mut [u8]) -> u64`
+        pub fn plan_listing(
+            sheet: *const u8,
+            sheet_len: usize,
+            listing: *mut u8,
+            listing_len: usize,
         ) -> u64;
     }
 }
@@ -32,4 +40,30 @@ pub fn verdict(records: &[u8], costs: &[u8]) -> u64 {
     // read, and both slices outlive the call. The library only reads them, keeps neither, and its
     // contract asks nothing of what they hold.
     unsafe { imports::verdict(records.as_ptr(), records.len(), costs.as_ptr(), costs.len()) }
+}
+
+/// The number that the library's `plan_listing` gives back for a lent sheet and a lent buffer, which
+/// then begins with the listing. [`crate::Listed::decode`] reads it.
+///
+/// ```
+/// let mut buffer = [b'.'; 12];
+/// let sheet = b"machine\t1\t1\ncost\t0\t0\t0\t0\t0\t0\t0\t0\t0\n";
+/// assert_eq!(configurator::ffi::plan_listing(sheet, &mut buffer), 9);
+/// assert_eq!(&buffer, b"plan\t0\t0\n...");
+/// assert_eq!(configurator::ffi::plan_listing(b"", &mut buffer), (108 << 32) + 1);
+/// ```
+#[must_use]
+pub fn plan_listing(sheet: &[u8], listing: &mut [u8]) -> u64 {
+    // SAFETY: each pointer and length come from one live slice, so they name bytes that may be
+    // read, and those of the listing be written; both slices outlive the call, and being lent by
+    // `&` and `&mut` they don't overlap. The library only reads the sheet, writes the listing within
+    // its length, keeps neither, and its contract asks nothing of what they hold.
+    unsafe {
+        imports::plan_listing(
+            sheet.as_ptr(),
+            sheet.len(),
+            listing.as_mut_ptr(),
+            listing.len(),
+        )
+    }
 }

@@ -4,6 +4,7 @@
 
 pub mod compare;
 pub mod cores;
+pub mod listings;
 pub mod sheets;
 
 use std::env;

@@ -84,6 +84,43 @@ impl SheetDraw {
         lines.concat().into_bytes()
     }
 
+    /// A sheet whose names differ in little. Now and then a part or a task comes twice, or a task is
+    /// fitted with a part that isn't there.
+    pub fn near_names(&self, random: &mut Random) -> Vec<u8> {
+        let (cores, known) = (random.between(1, self.cores), random.between(1, 12));
+        let known = &NAMES[..usize::try_from(known).unwrap()];
+        let costs: Vec<String> = (0..9).map(|_| self.charge(random).to_string()).collect();
+        let head = format!("machine\t{cores}\t1\ncost\t{}\n", costs.join("\t"));
+        let mut lines = vec![head];
+        for &name in known {
+            let name = if random.once_in(100) { "a" } else { name };
+            lines.push(format!("part\t{name}\t{}\n", self.times(20, random)));
+        }
+        for &name in &NAMES[..random.place(NAMES.len())] {
+            let name = if random.once_in(20) { "a" } else { name };
+            let fitted = if random.once_in(20) { &NAMES } else { known };
+            let part = random.pick(fitted);
+            lines.push(format!("fit\t{name}\t{part}\n"));
+        }
+        lines.concat().into_bytes()
+    }
+
+    /// A sheet with about as many parts and tasks as there may be, or a few more.
+    pub fn crowd(&self, random: &mut Random) -> Vec<u8> {
+        let cores = random.between(1, self.cores);
+        let (parts, tasks) = (random.between(58, 66), random.between(58, 66));
+        let head = format!("machine\t{cores}\t1\ncost\t0\t0\t0\t0\t0\t0\t0\t0\t0\n");
+        let mut lines = vec![head];
+        for part in 0..parts {
+            lines.push(format!("part\tp{part}\t{}\n", self.times(1, random)));
+        }
+        for task in 0..tasks {
+            let part = random.between(0, parts - 1);
+            lines.push(format!("fit\tt{task}\tp{part}\n"));
+        }
+        lines.concat().into_bytes()
+    }
+
     /// The six numbers of a part, parted by tabs, within the sizes. The budget is about that share
     /// of the period, in hundredths.
     fn times(&self, share: u64, random: &mut Random) -> String {
@@ -138,6 +175,36 @@ impl SheetDraw {
             random.between(0, self.cost)
         }
     }
+}
+
+/// A sheet whose tasks almost fill the cores. Most are planned with splits or stick at a late task. A
+/// cost is at most that; where there are costs, times are twenty times as long and more room is left.
+pub fn full_load(cost: u64, random: &mut Random) -> Vec<u8> {
+    let (unit, spare) = if cost == 0 { (1, 10) } else { (20, 25) };
+    let cores = random.between(2, 8);
+    let costs: Vec<String> = (0..9)
+        .map(|_| random.between(0, cost).to_string())
+        .collect();
+    let mut left = 60 * cores - random.between(0, spare * cores); // sixtieths of a core
+    let (mut parts, mut fits) = (Vec::new(), Vec::new());
+    while left > 0 && fits.len() < 64 {
+        let period = random.pick(&[5, 6, 10, 12, 15, 20, 30, 60]);
+        let tick = 60 / period;
+        if tick > left {
+            continue;
+        }
+        let budget = random.between(1, (left / tick).min(period));
+        left -= budget * tick;
+        let (budget, period) = (unit * budget, unit * period);
+        let charges = format!("{}\t{}", random.between(0, cost), random.pick(&[0, 0, 1]));
+        let number = fits.len();
+        parts.push(format!(
+            "part\tp{number}\t{budget}\t{period}\t{period}\t0\t{charges}\n"
+        ));
+        fits.push(format!("fit\tt{number}\tp{number}\n"));
+    }
+    let head = format!("machine\t{cores}\t1\ncost\t{}\n", costs.join("\t"));
+    (head + &parts.concat() + &fits.concat()).into_bytes()
 }
 
 /// A sheet with a byte changed, dropped or doubled, two lines swapped, a line dropped or doubled, a

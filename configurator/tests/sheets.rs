@@ -1,5 +1,5 @@
-//! The oracle's reader and writer, by hand: document 01's whole listing, 001's table II, and each
-//! refusal of a sheet with its line and its order.
+//! Sheets by hand, for the library and the oracle alike: document 01's whole listing, 001's table
+//! II, and each refusal of a sheet with its line and its order.
 
 #![warn(clippy::all, clippy::pedantic)]
 
@@ -13,10 +13,12 @@ use configurator::Refusal;
 /// The first two lines of a sheet that is good so far.
 const HEAD: &str = "machine\t2\t1\ncost\t0\t0\t0\t0\t0\t0\t0\t0\t0\n";
 
-/// The listing of a sheet as text.
+/// The listing of a sheet as text, by the library and the same by the oracle.
 fn listed(sheet: &str) -> Result<String, Refusal> {
-    let text = listing::of_sheet(sheet.as_bytes(), Way::EveryLength)?;
-    Ok(String::from_utf8(text).unwrap())
+    let listing = listing::of_sheet(sheet.as_bytes(), Way::EveryLength);
+    let by_library = configurator::plan(sheet.as_bytes());
+    assert_eq!(by_library, Ok(listing.clone()), "{sheet:?}");
+    Ok(String::from_utf8(listing?).unwrap())
 }
 
 #[test]
@@ -50,9 +52,9 @@ piece\t2\ttau3\twhole\t66\t100\t0\t66
     assert_eq!(listed(sheet).as_deref(), Ok(listing));
 }
 
-/// A lent buffer holds the listing and beyond it what it held; one byte less is 10.
+/// The oracle's buffer holds the listing and beyond it what it held; one byte less is 10.
 #[test]
-fn lent_buffers() {
+fn oracle_buffers() {
     let length = LISTING.len();
     for size in 0..2 * length {
         let mut buffer = vec![7; size];
@@ -231,10 +233,7 @@ fn too_many() {
     assert_eq!(read.tasks.len(), 64);
     let refused = |text: String, number| {
         let line = u32::try_from(text.lines().count()).unwrap();
-        assert_eq!(
-            sheet::read(text.as_bytes()),
-            Err(Refusal::new(number, line))
-        );
+        assert_eq!(listed(&text), Err(Refusal::new(number, line)));
     };
     refused(format!("{HEAD}{parts}{}", part(65)), 6);
     refused(format!("{HEAD}{parts}{}", part(64)), 4);

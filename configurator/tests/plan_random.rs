@@ -1,0 +1,178 @@
+//! The library's listings against the oracle's on random sheets, whole and damaged, and on all small
+//! damages of some.
+
+#![warn(clippy::all, clippy::pedantic)]
+
+mod common;
+
+use common::listings::Tally;
+use common::sheets::{damaged, full_load, SheetDraw, SHEET};
+use common::Random;
+use configurator::plain::verdict::Way;
+use configurator::Refusal;
+
+/// Small sheets, for which the oracle looks at every length.
+const SMALL: [SheetDraw; 5] = [
+    draw(4, 12, 0, 0),
+    draw(5, 30, 0, 6),
+    draw(4, 120, 2, 0),
+    draw(3, 200, 4, 30),
+    draw(16, 20, 1, 1),
+];
+
+const fn draw(cores: u64, period: u64, cost: u64, jitter: u64) -> SheetDraw {
+    SheetDraw {
+        cores,
+        period,
+        cost,
+        jitter,
+    }
+}
+
+#[test]
+fn whole_sheets() {
+    let mut random = Random::for_test();
+    let mut tally = Tally::default();
+    for draw in SMALL {
+        for _ in 0..6_000 {
+            let _ = tally.sheet(&draw.sheet(&mut random), Way::EveryLength);
+        }
+    }
+    println!("{tally}");
+    let least = tally.compared() / 20;
+    assert!(tally.with_split > least && tally.refused[7] > least);
+    assert_eq!(tally.accepted + tally.refused[7], tally.compared());
+}
+
+/// Loads near the most that the cores can take, without costs and with some.
+#[test]
+fn full_loads() {
+    let mut random = Random::for_test();
+    let mut tally = Tally::default();
+    for (cost, each, way) in [(0, 10_000, Way::EveryLength), (2, 2_000, Way::Stretches)] {
+        for _ in 0..each {
+            let _ = tally.sheet(&full_load(cost, &mut random), way);
+        }
+        println!("costs up to {cost}, the sum so far: {tally}");
+    }
+    let least = tally.compared() / 5;
+    assert!(tally.with_split > least && tally.refused[7] > least);
+    assert_eq!(tally.accepted + tally.refused[7], tally.compared());
+}
+
+/// Times as a controller has them, with a grain that leaves the oracle few splits to try.
+#[test]
+fn long_times() {
+    let mut random = Random::for_test();
+    let mut tally = Tally::default();
+    for (draw, grain) in [
+        (draw(8, 4_000, 20, 50), 10),
+        (draw(6, 50_000, 100, 500), 250),
+        (draw(16, 1_000_000, 500, 20_000), 5_000),
+    ] {
+        for _ in 0..800 {
+            let sheet = String::from_utf8(draw.sheet(&mut random)).unwrap();
+            let fields: Vec<&str> = sheet.splitn(3, '\t').collect();
+            let rest = fields[2].trim_start_matches(|c: char| c.is_ascii_digit());
+            let sheet = format!("machine\t{}\t{grain}{rest}", fields[1]);
+            let _ = tally.sheet(sheet.as_bytes(), Way::Stretches);
+        }
+    }
+    println!("{tally}");
+    let least = tally.compared() / 5;
+    assert!(tally.with_split > least && tally.refused[7] > least);
+    assert_eq!(tally.accepted + tally.refused[7], tally.compared());
+}
+
+/// Each number of a refusal that a sheet of fewer than 16,385 bytes can have comes up.
+#[test]
+fn damaged_sheets() {
+    let mut random = Random::for_test();
+    let mut tally = Tally::default();
+    for draw in SMALL {
+        for _ in 0..8_000 {
+            let mut sheet = match random.between(1, 10) {
+                1 => draw.near_names(&mut random),
+                2 => draw.crowd(&mut random),
+                _ => draw.sheet(&mut random),
+            };
+            for _ in 0..random.between(0, 2) {
+                if !sheet.is_empty() {
+                    sheet = damaged(&sheet, &mut random);
+                }
+            }
+            let _ = tally.sheet(&sheet, Way::Stretches);
+        }
+    }
+    println!("{tally}");
+    assert!(tally.with_split > 100);
+    assert!(tally.refused[1..=8].iter().all(|&times| times > 20));
+    assert_eq!((tally.refused[0], &tally.refused[9..]), (0, &[0, 0][..]));
+}
+
+/// Cut at every place: only a cut at the end of a line from the second on may leave a sheet.
+#[test]
+fn cut_sheets() {
+    let mut random = Random::for_test();
+    let mut tally = Tally::default();
+    for draw in SMALL {
+        for _ in 0..10 {
+            let sheet = draw.sheet(&mut random);
+            for length in 0..=sheet.len() {
+                let answer = tally.sheet(&sheet[..length], Way::Stretches);
+                let whole_lines = length == 0 || sheet[length - 1] == b'\n';
+                assert!(whole_lines || answer.map_err(Refusal::number) == Err(8));
+            }
+        }
+    }
+    println!("{tally}");
+}
+
+/// Document 01's sheet with each byte as every other, and with each dropped, doubled and swapped
+/// with the next.
+#[test]
+fn every_byte_of_a_sheet() {
+    let mut tally = Tally::default();
+    let sheet = SHEET.as_bytes();
+    for place in 0..sheet.len() {
+        let mut changed = sheet.to_vec();
+        for byte in 0..=255 {
+            changed[place] = byte;
+            let _ = tally.sheet(&changed, Way::EveryLength);
+        }
+        let (above, below) = sheet.split_at(place);
+        let dropped = [above, &below[1..]].concat();
+        let doubled = [above, &below[..1], below].concat();
+        let mut swapped = sheet.to_vec();
+        swapped.swap(place, (place + 1) % sheet.len());
+        for sheet in [dropped, doubled, swapped] {
+            let _ = tally.sheet(&sheet, Way::EveryLength);
+        }
+    }
+    println!("{tally}");
+    assert!(tally.accepted > 100);
+}
+
+/// Document 01's sheet with its lines in every order.
+#[test]
+fn every_order_of_lines() {
+    let mut tally = Tally::default();
+    let mut lines: Vec<&[u8]> = SHEET.as_bytes().split_inclusive(|&b| b == b'\n').collect();
+    each_order(&mut lines, 0, &mut |lines| {
+        let _ = tally.sheet(&lines.concat(), Way::EveryLength);
+    });
+    println!("{tally}");
+    assert_eq!((tally.compared(), tally.accepted), (720, 6));
+}
+
+/// Calls `visit` with the lines in every order of those from the place on.
+fn each_order(lines: &mut [&[u8]], from: usize, visit: &mut impl FnMut(&[&[u8]])) {
+    if from == lines.len() {
+        visit(lines);
+    }
+    for place in from..lines.len() {
+        lines.swap(from, place);
+        each_order(lines, from + 1, visit);
+        lines.swap(from, place);
+    }
+}
