@@ -5,6 +5,7 @@ mod caps;
 mod charges;
 mod demands;
 mod lanes;
+mod leaps;
 mod lengths;
 mod sizes;
 mod spans;
