@@ -93,11 +93,8 @@ module _ (v : Flow) where
 
 -- ---- the climb
 
-pub clear-max : (f : ℕ → ℕ) (m n : ℕ) → Clear f m → Clear f n → Clear f (max m n)
-clear-max f m n low high k h p = elim (decLt k m) [ yes b ↦ low k b p | no b ↦ high k (omega arith) p ]
-
-pub clear-leap : (f : ℕ → ℕ) (l : ℕ) (v : Flow) (r : ℕ) → 1 ≤ l → Clear f l → Flows f l v → Reaches v r → Clear f r
-clear-leap f l v r some clear flows reaches k h p = elim (decLt k l) [
+pub clear-leap : (f : ℕ → ℕ) → ((m n : ℕ) → m ≤ n → f m ≤ f n) → (l : ℕ) (v : Flow) (r : ℕ) → 1 ≤ l → Clear f l → Flows f l v → Reaches v r → Clear f (max (v .asked) r)
+clear-leap f mono l v r some clear flows reaches k h p = elim (decLt k l) [
   | yes b ↦ clear k b p
-  | no b ↦ omega (arith, reaches k (omega arith) (omega (arith, flows .below k (omega arith), p .fits)))
+  | no b ↦ omega (arith, flows .exact, mono l k (omega arith), p .fits, reaches k (omega arith) (omega (arith, flows .below k (omega arith), p .fits)))
 ]
