@@ -87,6 +87,12 @@ pub busy-length-finds : (qs : List Charged) → Each Recurs qs → Finds (busySu
 unfolding busyLength
 busy-length-finds qs recurs = least-holding-finds (busySum qs) (busy-sum-mono qs recurs) busyMost
 
+pub busy-length-is : (qs : List Charged) → Each Recurs qs → (r : Found) → Finds (busySum qs) busyMost r → r ≡ busyLength qs
+busy-length-is qs recurs r found = finds-unique (busySum qs) busyMost r (busyLength qs) found (busy-length-finds qs recurs)
+
+pub busy-length-within : (qs : List Charged) → Each Recurs qs → (l : ℕ) → busyLength qs ≡ At l → l ≤ busyMost
+busy-length-within qs recurs l e = subst (λ (r : Found). Finds (busySum qs) busyMost r) e (busy-length-finds qs recurs) .1
+
 pub busy-length-asked : (qs : List Charged) → busyLength qs ≡ leastHolding (asked Busy 0 qs) busyMost
 unfolding busyLength busySum
 busy-length-asked qs = ap (λ (f : ℕ → ℕ). leastHolding f busyMost) (fun-ext (λ l. omega arith))

@@ -7,6 +7,7 @@ pub mod LaneLaws
 pub mod SizeLaws
 pub mod RunLaws
 pub mod BusyLaws
+pub mod FluidLaws
 pub mod VerdictLaws
 pub mod Judgement
 pub mod CapLaws

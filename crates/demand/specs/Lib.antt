@@ -9,5 +9,6 @@ pub mod Split
 pub mod Answer
 pub mod Lanes
 pub mod Caps
+pub mod Leaps
 pub mod Search
 pub mod Cases

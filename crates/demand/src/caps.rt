@@ -2,7 +2,6 @@
 // charge at once, where a verdict tells of one.
 use crate::Charged;
 use crate::Found;
-use crate::Sum;
 use crate::Verdict;
 use crate::demands::demand_at;
 use crate::demands::greater;
@@ -13,7 +12,7 @@ use crate::demands::least_live;
 use crate::demands::less;
 use crate::demands::lesser;
 use crate::lanes::lane_at;
-use crate::lengths::climb;
+use crate::leaps::climb_busy;
 use crate::spans::descend;
 use crate::spans::next_end;
 ghost use mathlib.Core.Path.{_≡_};
@@ -213,7 +212,7 @@ pub fn bound_of(core: &[u64; 553], n: usize, b: u64) -> Bound
     if cap < q.charge {
         return Bound::AtMost(cap);
     }
-    match climb(core, n + 1, Sum::Busy, 0, 100000000) {
+    match climb_busy(core, n + 1) {
         Found::Nothing => Bound::Falls,
         Found::At(l) => bound_within(core, n, b, a, l),
     }

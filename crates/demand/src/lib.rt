@@ -5,6 +5,7 @@ mod caps;
 mod charges;
 mod demands;
 mod lanes;
+mod leaps;
 mod lengths;
 mod sizes;
 mod spans;
@@ -17,7 +18,7 @@ use demands::demand_at;
 use demands::largest_window;
 use demands::less;
 use lanes::lay_out;
-use lengths::climb;
+use leaps::climb_busy;
 use lengths::tight_of;
 use sizes::check_run;
 use sizes::check_task;
@@ -240,7 +241,7 @@ pub fn busy_length(costs: Costs, run: Run) -> Figure
         Check::Fine => {
             let core = lay_out(costs, run);
             let n = run.count;
-            Figure::Of(climb(&core, n, Sum::Busy, 0, 100000000))
+            Figure::Of(climb_busy(&core, n))
         }
     }
 }

@@ -1,12 +1,11 @@
 // The verdict over the judged span: from its top down by QPA (001), with care at the largest window.
 use crate::Found;
-use crate::Sum;
 use crate::Verdict;
 use crate::demands::demand_at;
 use crate::demands::greater;
 use crate::demands::largest_window;
 use crate::demands::least_live;
-use crate::lengths::climb;
+use crate::leaps::climb_busy;
 ghost use mathlib.Core.Path.{_≡_};
 ghost use Prim.Native.Nat.{_≤_};
 ghost use Rattle.demand.specs.Demand.{demand};
@@ -51,7 +50,7 @@ pub fn judge_core(core: &[u64; 553], n: usize, b: u64) -> Verdict
     if n == 0 {
         return Verdict::Passes;
     }
-    match climb(core, n, Sum::Busy, 0, 100000000) {
+    match climb_busy(core, n) {
         Found::Nothing => Verdict::Undecided,
         Found::At(l) => {
             let a = least_live(core, n);

@@ -12,7 +12,6 @@ use Rattle.demand.specs.Answer.{busyFigure}
 use Rattle.demand.specs.Lanes.{rows}
 use Rattle.demand.specs.Sizes.{Ranged, Each}
 use Rattle.demand.specs.Busy.{busyLength}
-use Rattle.demand.proofs.BusyLaws.{busy-length-asked}
 use Rattle.demand.proofs.ChargeLaws.{core-ranged}
 use Rattle.demand.proofs.RunLaws.{check-taken, taken-countable}
 use borrow.Author.Needs.{needs}
@@ -21,7 +20,7 @@ use Rattle.demand.proofs.busy_length.Tie as tie
 use Rattle.demand.proofs.busy_length.Reads as reads
 use Rattle.demand.proofs.busy_length.Lts as lts
 use Rattle.demand.proofs.lanes.lay_out.Reads as lay-out-reads
-use Rattle.demand.proofs.lengths.climb.Reads as climb-reads
+use Rattle.demand.proofs.leaps.climb_busy.Reads as climb-busy-reads
 use Rattle.demand.proofs.sizes.check_run.Reads as check-run-reads
 
 check-run-requires : tie.Need-check-run-requires
@@ -39,11 +38,11 @@ lay-out-requires c κs =
     let ok = check-taken (s .costs) (s .run .count) (s .run .pieces) (sym (c .before .before .check-run .ensures) ∙ c .enum-told .given .1) in
     (ok .costs, (ok .few, taken-countable (s .costs) (s .run .count) (s .run .pieces) ok))
 
-climb-requires : tie.Need-climb-requires
-climb-requires c κs =
+climb-busy-requires : tie.Need-climb-busy-requires
+climb-busy-requires c κs =
     let s = c .before .before .before .before .before .args in
     let ok = check-taken (s .costs) (s .run .count) (s .run .pieces) (sym (c .before .before .before .before .check-run .ensures) ∙ c .before .before .enum-told .given .1) in
-    ((ok .few, laid-ranged (s .costs) (s .run .count) (s .run .pieces) ok (rows (c .before .lay-out .result) (s .run .count)) (c .before .lay-out .ensures)), search needs)
+    (ok .few, laid-ranged (s .costs) (s .run .count) (s .run .pieces) ok (rows (c .before .lay-out .result) (s .run .count)) (c .before .lay-out .ensures))
 
 returns : tie.Need-returns
 unfolding busyFigure
@@ -55,7 +54,7 @@ returns-2 : tie.Need-returns-2
 unfolding busyFigure
 returns-2 c =
     let s = c .before .before .before .before .before .before .args in
-    ap (λ (f : Found). Of f) (c .climb .ensures ∙ (sym (busy-length-asked (rows (c .before .before .lay-out .result) (s .run .count))) ∙ ap (λ (qs : List Charged). busyLength qs) (c .before .before .lay-out .ensures)))
+    ap (λ (f : Found). Of f) (c .climb-busy .ensures ∙ ap (λ (qs : List Charged). busyLength qs) (c .before .before .lay-out .ensures))
     ∙ figure-fine (checkRun (s .costs) (s .run .count) (s .run .pieces)) (busyLength (coreOf (s .costs) (take (s .run .count) (s .run .pieces)))) (sym (c .before .before .before .before .before .check-run .ensures) ∙ c .before .before .before .enum-told .given .1)
 
 pub busy-length-spec : {M : Type 1} → statement M
@@ -66,6 +65,6 @@ busy-length-spec =
     enum-known-why
     enum-told
     lay-out-requires
-    climb-requires
+    climb-busy-requires
     returns
     returns-2)

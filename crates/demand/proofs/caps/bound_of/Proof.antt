@@ -3,12 +3,11 @@ use mathlib.Core.Path.{_≡_, sym, ap, subst, _∙_}
 use Prim.Native.Nat.{ℕ, _+_, _-_, _≤_, max}
 use native.Mathlib.Omega.{arith}
 use Rattle.demand.specs.declared.Charged.{Charged}
-use Rattle.demand.specs.declared.Sum.the-variants.{Busy}
 use Rattle.demand.specs.declared.caps.Bound.the-variants.{Falls, AtMost}
 use Rattle.demand.specs.Caps.{Bounds}
 use Rattle.demand.specs.Lanes.{rows, lane}
-use Rattle.demand.specs.Sizes.{Ranged, busyMost}
-use Rattle.demand.proofs.BusyLaws.{asked, asked-mono, found-within, busy-length-asked}
+use Rattle.demand.specs.Sizes.{Ranged}
+use Rattle.demand.proofs.BusyLaws.{busy-length-within}
 use Rattle.demand.proofs.CapLaws.{bound-most, bound-undecided}
 use Rattle.demand.proofs.ChargeLaws.{all-recurs}
 use Rattle.demand.proofs.LaneLaws.{rows-lane, rows-front, lane-each}
@@ -21,7 +20,7 @@ use Rattle.demand.proofs.caps.bound_within.Reads as bound-within-reads
 use Rattle.demand.proofs.caps.cap_of.Reads as cap-of-reads
 use Rattle.demand.proofs.demands.least_live.Reads as least-live-reads
 use Rattle.demand.proofs.lanes.lane_at.Reads as lane-at-reads
-use Rattle.demand.proofs.lengths.climb.Reads as climb-reads
+use Rattle.demand.proofs.leaps.climb_busy.Reads as climb-busy-reads
 
 lane-at-requires : tie.Need-lane-at-requires
 lane-at-requires c κs = search needs
@@ -45,11 +44,11 @@ returns c =
     subst (λ (q : Charged). Bounds (s .b) qs q (AtMost (c .before .before .cap-of .result))) (c .before .before .before .before .lane-at .ensures)
     (bound-most (s .b) qs (rows (s .core .now) (s .n + 1)) (c .before .before .before .before .lane-at .result) (rows-lane (s .core .now) (s .n) (c .before .before .before .before .lane-at .result) (c .before .before .before .before .lane-at .ensures)) (c .before .before .before .least-live .result) (c .before .before .cap-of .result) (c .before .before .before .least-live .ensures .0) (c .if1 .taken) (c .before .before .cap-of .ensures))
 
-add-climb : tie.Need-add-climb
-add-climb c = search needs
+add-climb-busy : tie.Need-add-climb-busy
+add-climb-busy c = search needs
 
-climb-requires : tie.Need-climb-requires
-climb-requires c κs = search needs
+climb-busy-requires : tie.Need-climb-busy-requires
+climb-busy-requires c κs = search needs
 
 enum-told : tie.Need-enum-told
 enum-told c = search needs
@@ -61,7 +60,7 @@ bound-within-requires : tie.Need-bound-within-requires
 bound-within-requires c κs =
     let s = c .before .before .before .before .before .before .before .before .before .args in
     let rs = rows (s .core .now) (s .n + 1) in
-    ((c .before .before .before .before .before .before .before .before .before .pre .0 .0, c .before .before .before .before .before .before .before .before .before .pre .0 .1), ((c .before .before .before .before .before .before .before .before .before .pre .1 .0, c .before .before .before .before .before .before .before .least-live .ensures .1, found-within (asked Busy 0 rs) (asked-mono Busy 0 rs (all-recurs rs (c .before .before .before .before .before .before .before .before .before .pre .0 .1))) busyMost (c .before .l .given .0 .0) (sym (c .before .before .before .climb .ensures) ∙ c .before .l .given .1), c .before .before .before .before .before .before .before .before .before .pre .1 .1), (c .before .before .before .before .before .before .before .least-live .ensures .0, busy-length-asked rs ∙ (sym (c .before .before .before .climb .ensures) ∙ c .before .l .given .1))))
+    ((c .before .before .before .before .before .before .before .before .before .pre .0 .0, c .before .before .before .before .before .before .before .before .before .pre .0 .1), ((c .before .before .before .before .before .before .before .before .before .pre .1 .0, c .before .before .before .before .before .before .before .least-live .ensures .1, busy-length-within rs (all-recurs rs (c .before .before .before .before .before .before .before .before .before .pre .0 .1)) (c .before .l .given .0 .0) (sym (c .before .before .before .climb-busy .ensures) ∙ c .before .l .given .1), c .before .before .before .before .before .before .before .before .before .pre .1 .1), (c .before .before .before .before .before .before .before .least-live .ensures .0, sym (c .before .before .before .climb-busy .ensures) ∙ c .before .l .given .1)))
 
 returns-2 : tie.Need-returns-2
 returns-2 c =
@@ -70,7 +69,7 @@ returns-2 c =
     let rs = rows (s .core .now) (s .n + 1) in
     let q = c .before .before .before .before .before .before .before .lane-at .result in
     subst (λ (r : Charged). Bounds (s .b) qs r Falls) (c .before .before .before .before .before .before .before .lane-at .ensures)
-    (bound-undecided (s .b) qs rs q (rows-lane (s .core .now) (s .n) q (c .before .before .before .before .before .before .before .lane-at .ensures)) (busy-length-asked rs ∙ (sym (c .before .before .climb .ensures) ∙ c .enum-told .given .1)))
+    (bound-undecided (s .b) qs rs q (rows-lane (s .core .now) (s .n) q (c .before .before .before .before .before .before .before .lane-at .ensures)) (sym (c .before .before .climb-busy .ensures) ∙ c .enum-told .given .1))
 
 returns-3 : tie.Need-returns-3
 returns-3 c = search needs
@@ -84,8 +83,8 @@ bound-of-spec =
     least-live-requires
     cap-of-requires
     returns
-    add-climb
-    climb-requires
+    add-climb-busy
+    climb-busy-requires
     enum-told
     enum-known-l
     bound-within-requires

@@ -6,12 +6,10 @@ use native.Mathlib.Omega.{arith}
 use lib.ListN.{length}
 use Rattle.demand.specs.declared.Charged.{Charged}
 use Rattle.demand.specs.declared.Found.{Found}
-use Rattle.demand.specs.declared.Sum.the-variants.{Busy}
 use Rattle.demand.specs.Demand.{leastLive}
 use Rattle.demand.specs.Lanes.{rows}
-use Rattle.demand.specs.Sizes.{busyMost}
 use Rattle.demand.specs.Verdict.{overSpan, verdict, scan}
-use Rattle.demand.proofs.BusyLaws.{asked, asked-mono, found-within, busy-length-asked}
+use Rattle.demand.proofs.BusyLaws.{busy-length-within}
 use Rattle.demand.proofs.ChargeLaws.{all-recurs}
 use Rattle.demand.proofs.LaneLaws.{rows-length}
 use Rattle.demand.proofs.VerdictLaws.{verdict-span, verdict-empty}
@@ -21,14 +19,14 @@ use Rattle.demand.proofs.spans.judge_core.Tie as tie
 use Rattle.demand.proofs.spans.judge_core.Reads as reads
 use Rattle.demand.proofs.spans.judge_core.Lts as lts
 use Rattle.demand.proofs.demands.least_live.Reads as least-live-reads
-use Rattle.demand.proofs.lengths.climb.Reads as climb-reads
+use Rattle.demand.proofs.leaps.climb_busy.Reads as climb-busy-reads
 use Rattle.demand.proofs.spans.descend.Reads as descend-reads
 
 returns : tie.Need-returns
 returns c = rw (c .if1 .taken) (sym (verdict-empty (c .before .args .b)))
 
-climb-requires : tie.Need-climb-requires
-climb-requires c κs = search needs
+climb-busy-requires : tie.Need-climb-busy-requires
+climb-busy-requires c κs = search needs
 
 enum-told : tie.Need-enum-told
 enum-told c = search needs
@@ -43,28 +41,28 @@ descend-requires : tie.Need-descend-requires
 descend-requires c κs =
     let s = c .before .before .before .before .before .before .args in
     let qs = rows (s .core .now) (s .n) in
-    (c .before .before .before .before .before .before .pre .0, (c .before .before .before .before .before .before .pre .1, c .least-live .ensures .1, found-within (asked Busy 0 qs) (asked-mono Busy 0 qs (all-recurs qs (c .before .before .before .before .before .before .pre .0 .1))) busyMost (c .before .before .l .given .0 .0) (sym (c .before .before .before .before .climb .ensures) ∙ c .before .before .l .given .1)))
+    (c .before .before .before .before .before .before .pre .0, (c .before .before .before .before .before .before .pre .1, c .least-live .ensures .1, busy-length-within qs (all-recurs qs (c .before .before .before .before .before .before .pre .0 .1)) (c .before .before .l .given .0 .0) (sym (c .before .before .before .before .climb-busy .ensures) ∙ c .before .before .l .given .1)))
 
 returns-2 : tie.Need-returns-2
 returns-2 c =
     let s = c .before .before .before .before .args in
     let qs = rows (s .core .now) (s .n) in
     let some : 1 ≤ length qs = omega (arith, rows-length (s .core .now) (s .n), c .before .before .before .if1 .left) in
-    sym (verdict-span (s .b) qs some ∙ ap (λ (r : Found). overSpan (s .b) qs (leastLive qs) r) (busy-length-asked qs ∙ (sym (c .before .before .climb .ensures) ∙ c .enum-told .given .1)))
+    sym (verdict-span (s .b) qs some ∙ ap (λ (r : Found). overSpan (s .b) qs (leastLive qs) r) (sym (c .before .before .climb-busy .ensures) ∙ c .enum-told .given .1))
 
 returns-3 : tie.Need-returns-3
 returns-3 c =
     let s = c .before .before .before .before .before .before .before .args in
     let qs = rows (s .core .now) (s .n) in
     let some : 1 ≤ length qs = omega (arith, rows-length (s .core .now) (s .n), c .before .before .before .before .before .before .if1 .left) in
-    c .descend .ensures ∙ (ap (λ (a : ℕ). scan (s .b) qs a (c .before .before .before .l .given .0 .0)) (c .before .least-live .ensures .0) ∙ sym (verdict-span (s .b) qs some ∙ ap (λ (r : Found). overSpan (s .b) qs (leastLive qs) r) (busy-length-asked qs ∙ (sym (c .before .before .before .before .before .climb .ensures) ∙ c .before .before .before .l .given .1))))
+    c .descend .ensures ∙ (ap (λ (a : ℕ). scan (s .b) qs a (c .before .before .before .l .given .0 .0)) (c .before .least-live .ensures .0) ∙ sym (verdict-span (s .b) qs some ∙ ap (λ (r : Found). overSpan (s .b) qs (leastLive qs) r) (sym (c .before .before .before .before .before .climb-busy .ensures) ∙ c .before .before .before .l .given .1)))
 
 pub judge-core-spec : {M : Type 1} → statement M
 judge-core-spec =
     tie.close
     (tie.spec
     returns
-    climb-requires
+    climb-busy-requires
     enum-told
     enum-known-l
     least-live-requires
