@@ -3,4 +3,5 @@ pub mod LineLaws
 pub mod FieldLaws
 pub mod RunLaws
 pub mod FormLaws
+pub mod OrderLaws
 pub mod SaysLaws
