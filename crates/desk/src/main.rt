@@ -40,6 +40,12 @@ fn sheet_room() -> [u8; 16385]
     [0u8; 16385]
 }
 
+// Whether a file can be read: a folder can be opened, and not read.
+fn readable(fd: i32) -> bool {
+    let mut none = [0u8; 1];
+    libc::read(fd, &mut none[..0]) >= 0
+}
+
 // Reads the sheet in a file. One byte past the largest size is enough for its refusal.
 fn sheet_in(fd: i32) -> Read {
     let mut buf = sheet_room();
@@ -115,6 +121,11 @@ fn main() {
     let fd = os::open_read(&path[..n]);
     if fd < 0 {
         os::fail(&path[..n]);
+        return;
+    }
+    if !readable(fd) {
+        os::fail(&path[..n]);
+        libc::close(fd);
         return;
     }
     let read = sheet_in(fd);
