@@ -5,3 +5,4 @@ pub mod RunLaws
 pub mod FormLaws
 pub mod OrderLaws
 pub mod SaysLaws
+pub mod LongLaws
