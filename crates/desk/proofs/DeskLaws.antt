@@ -26,11 +26,11 @@ abbrev pub desk : Plan → Pending → Desk
 desk p l = record { plan = p; line = l }
 
 module _ (p q : Plan) (l m : Pending) (b : ℕ) where
-  after-newline : b ≡ newline → q ≡ afterLine l p → m ≡ fresh → afterByte (desk p l) b ≡ desk q m
+  pub after-newline : b ≡ newline → q ≡ afterLine l p → m ≡ fresh → afterByte (desk p l) b ≡ desk q m
   unfolding afterByte
   after-newline ends after none = rw (eq-eqb b newline ends, after, none)
 
-  after-other : (b ≡ newline → ⊥) → q ≡ p → m ≡ withByte l b → afterByte (desk p l) b ≡ desk q m
+  pub after-other : (b ≡ newline → ⊥) → q ≡ p → m ≡ withByte l b → afterByte (desk p l) b ≡ desk q m
   unfolding afterByte
   after-other other same more = rw (ne-eqb b newline other, same, more)
 

@@ -11,7 +11,6 @@ use Prim.Native.Nat.{ℕ}
 use Rattle.task.specs.declared.Task.{Task}
 use Rattle.task.specs.Names.{sameBytes}
 use Rattle.lines.specs.declared.Word.{Word}
-use Rattle.lines.specs.declared.Line.{Line}
 use Rattle.lines.specs.declared.Deed.{Deed}
 use Rattle.lines.specs.declared.Order.{Order}
 use Rattle.lines.specs.Lines.{bytesOf, tab, upTo, beyond, isName, nameOf}
