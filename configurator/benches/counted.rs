@@ -1,0 +1,354 @@
+//! The library's own algorithms once more, in plain Rust: the busy length by leaps, the walk down
+//! with care at the largest window, and the lean search for a split. They are written from the
+//! Rattle source to be counted, and to be timed by another compiler; the listings are compared.
+
+use configurator::plain::piece::Costs;
+
+use crate::sheets::{first_of, last_of, Lane, Way};
+use crate::tally::{Event, Tally};
+
+const LIMIT: u64 = 100_000_000;
+const ALL_TIME: u64 = 1 << 32;
+
+/// The library's way, counted by T.
+pub struct Lean<T: Tally> {
+    /// Who counts.
+    pub tally: T,
+}
+
+/// What a core says.
+#[derive(Clone, Copy, Debug, PartialEq, Eq)]
+pub enum Verdict {
+    /// Passes.
+    Passes,
+    /// Overloaded, at the greatest such length of the judged span.
+    Overloaded(u64),
+    /// No busy length up to the limit.
+    Undecided,
+}
+
+/// What a core with a piece behind tells of the piece's charge.
+enum Bound {
+    Stands,
+    Falls,
+    AtMost(u64),
+}
+
+fn ceil(a: u64, b: u64) -> u64 {
+    (a + (b - 1)) / b
+}
+
+fn jobs_due(q: &Lane, t: u64) -> u64 {
+    if t + q.jitter < q.window {
+        0
+    } else {
+        1 + (t + q.jitter - q.window) / q.period
+    }
+}
+
+fn interrupts(q: &Lane, t: u64) -> u64 {
+    ceil(t + q.jitter, q.period) * q.release + ceil(t + q.ipij, q.period) * q.ipi
+}
+
+fn largest_window(core: &[Lane]) -> u64 {
+    core.iter().map(|q| q.window).max().unwrap_or(0)
+}
+
+fn least_live(core: &[Lane]) -> u64 {
+    let due = |q: &Lane| q.window.saturating_sub(q.jitter);
+    core.iter().map(due).min().unwrap_or(0)
+}
+
+/// The end below which a walk down goes on: it never steps past the largest window.
+fn next_end(g: u64, w: u64, t: u64) -> u64 {
+    if w <= t {
+        g.max(w)
+    } else {
+        g
+    }
+}
+
+/// From where on the demand of a piece is as at t.
+fn lane_start(q: &Lane, t: u64) -> u64 {
+    let due = if t + q.jitter < q.window {
+        0
+    } else {
+        (q.window + (t + q.jitter - q.window) / q.period * q.period).saturating_sub(q.jitter)
+    };
+    let calls = |cost: u64, jitter: u64| {
+        if cost == 0 {
+            return 0;
+        }
+        let before = (t + jitter).saturating_sub(1);
+        (before / q.period * q.period + 1).saturating_sub(jitter)
+    };
+    due.max(calls(q.release, q.jitter))
+        .max(calls(q.ipi, q.ipij))
+}
+
+impl<T: Tally> Lean<T> {
+    fn demand(&mut self, core: &[Lane], b: u64, w: u64, t: u64) -> u64 {
+        self.tally.note(Event::Demand(core.len()));
+        let load = |q| jobs_due(q, t) * q.charge + interrupts(q, t);
+        let loads: u64 = core.iter().map(load).sum();
+        if t < w {
+            b + loads
+        } else {
+            loads
+        }
+    }
+
+    /// The busy length: each step goes to the busy sum, or as far as the shares of the pieces
+    /// reach.
+    pub fn busy_length(&mut self, core: &[Lane]) -> Option<u64> {
+        let (mut l, mut ahead, mut plain) = (1, 200_000_000, 256_u64);
+        let mut found = None;
+        while l <= LIMIT {
+            self.tally.note(Event::Climb(core.len()));
+            let edge = l + ahead;
+            let (mut asked, mut share, mut work) = (0, 0, 0);
+            for q in core {
+                let jobs = ceil(l, q.period);
+                let mine = jobs * q.job();
+                asked += mine;
+                if jobs * q.period < edge {
+                    share += q.job() * ALL_TIME / q.period;
+                } else {
+                    work += mine;
+                }
+            }
+            if asked <= l {
+                found = Some(l);
+                break;
+            }
+            let reach = if work > LIMIT || share > ALL_TIME || (share == ALL_TIME && work > 0) {
+                LIMIT + 1
+            } else if share < ALL_TIME {
+                work * ALL_TIME / (ALL_TIME - share)
+            } else {
+                0
+            };
+            if reach > asked {
+                self.tally.note(Event::Leap);
+            }
+            let next = asked.max(reach);
+            ahead = if plain > 0 { 0 } else { (ahead + next - l) / 2 };
+            plain = plain.saturating_sub(1);
+            l = next;
+        }
+        self.tally.note(Event::Climbed);
+        found
+    }
+
+    fn descend(&mut self, core: &[Lane], b: u64, a: u64, l: u64) -> Verdict {
+        let w = largest_window(core);
+        let mut end = a + l;
+        while a < end {
+            let t = end - 1;
+            let g = self.demand(core, b, w, t);
+            if t < g {
+                return Verdict::Overloaded(t);
+            }
+            end = next_end(g, w, t);
+        }
+        Verdict::Passes
+    }
+
+    /// The verdict on a core.
+    pub fn judge(&mut self, core: &[Lane], b: u64) -> Verdict {
+        if core.is_empty() {
+            return Verdict::Passes;
+        }
+        match self.busy_length(core) {
+            None => Verdict::Undecided,
+            Some(l) => self.descend(core, b, least_live(core), l),
+        }
+    }
+
+    /// The greatest charge of q up to f that fits at t, and the end below which the walk goes on.
+    fn level(&mut self, core: &[Lane], b: u64, w: u64, q: &Lane, f: u64, t: u64) -> (u64, u64) {
+        let g = self.demand(core, b, w, t);
+        let calls = interrupts(q, t);
+        if t < g + calls {
+            return (0, 0);
+        }
+        let jobs = jobs_due(q, t);
+        let room = t - g - calls;
+        let y = if jobs * f <= room { f } else { room / jobs };
+        (y, next_end(g + calls + jobs * y, w, t))
+    }
+
+    /// Down from the last of the l lengths from a, with f lowered wherever it does not fit.
+    fn squeeze(&mut self, core: &[Lane], b: u64, q: &Lane, f: u64, a: u64, l: u64) -> u64 {
+        let w = largest_window(core);
+        let (mut charge, mut end) = (f, a + l);
+        while a < end {
+            let t = end - 1;
+            let mut level = self.level(core, b, w, q, charge, t);
+            if level.0 < charge {
+                self.tally.note(Event::Stretch(core.len() + 1));
+                let starts = core.iter().map(|q| lane_start(q, t)).max().unwrap_or(0);
+                let start = starts.max(lane_start(q, t));
+                level = self.level(core, b, w, q, level.0, a.max(start).min(t));
+            }
+            charge = level.0;
+            end = level.1;
+        }
+        charge
+    }
+
+    fn cap(&mut self, core: &[Lane], b: u64, q: &Lane, a: u64) -> u64 {
+        let far = self.squeeze(core, b, q, q.charge, LIMIT, 1);
+        self.squeeze(core, b, q, far, a, 4 * q.period)
+    }
+
+    /// What the core tells of the charge of the last of its pieces.
+    fn bound(&mut self, all: &[Lane], b: u64) -> Bound {
+        let (q, core) = match all.split_last() {
+            Some(parted) => parted,
+            None => return Bound::Stands,
+        };
+        let a = least_live(all);
+        let cap = self.cap(core, b, q, a);
+        if cap < q.charge {
+            return Bound::AtMost(cap);
+        }
+        let l = match self.busy_length(all) {
+            None => return Bound::Falls,
+            Some(l) => l,
+        };
+        let near = self.squeeze(core, b, q, q.charge, a, l);
+        if near < q.charge {
+            return Bound::AtMost(near);
+        }
+        let own = a.max(largest_window(core));
+        match self.descend(all, b, own, q.window.saturating_sub(own)) {
+            Verdict::Passes => Bound::Stands,
+            _ => Bound::Falls,
+        }
+    }
+
+    /// The least t from 1 to top that holds the base and the interrupts by t.
+    fn tight(&mut self, core: &[Lane], base: u64, top: u64) -> Option<u64> {
+        let mut t = 1;
+        while t <= top {
+            self.tally.note(Event::Tight(core.len()));
+            let asked = base + core.iter().map(|q| interrupts(q, t)).sum::<u64>();
+            if asked <= t {
+                return Some(t);
+            }
+            t = asked;
+        }
+        None
+    }
+
+    /// Where the search starts: no allowed split is above.
+    fn start(&mut self, core: &mut Vec<Lane>, ask: &Ask<'_>) -> u64 {
+        let room = ask.times[1].saturating_sub(ask.times[3]);
+        let end = match core.first() {
+            None => room,
+            Some(head) if ask.times[3] == 0 && head.charge <= ask.stall => room,
+            Some(_) => room.min(least_live(core)),
+        };
+        let x = (ask.times[0] - 1).min(end.saturating_sub(ask.least + 1));
+        if x == 0 {
+            return 0;
+        }
+        let q = ask.first(x, ask.times[3] + (end - 1));
+        core.push(q);
+        let a = least_live(core);
+        core.pop();
+        let cap = self.cap(core, ask.stall, &q, a);
+        cap.saturating_sub(q.charge - x)
+    }
+
+    /// One candidate: its window where it is allowed, or how far down the next may stand.
+    fn try_split(&mut self, core: &mut Vec<Lane>, ask: &Ask<'_>, x: u64) -> Result<u64, u64> {
+        self.tally.note(Event::Candidate);
+        let (deadline, jitter) = (ask.times[1], ask.times[3]);
+        let n = core.len();
+        let wide = ask.first(x, deadline - 1);
+        core.push(wide);
+        let top = (deadline - 1).saturating_sub(jitter);
+        let tight = self.tight(core, ask.stall + wide.charge, top);
+        core.truncate(n);
+        let t = tight.ok_or(x - 1)?;
+        let w = jitter + t;
+        let slack = t - (x + ask.least);
+        let last = [Lane::of(ask.costs, 2, &last_of(ask.costs, ask.times, x, w))];
+        match self.judge(&last, ask.stall) {
+            Verdict::Passes => {}
+            Verdict::Undecided => return Err(0),
+            Verdict::Overloaded(t) => {
+                let g = self.demand(&last, ask.stall, deadline - w, t);
+                return Err(if t + slack < g { 0 } else { x - 1 });
+            }
+        }
+        let q = ask.first(x, w);
+        core.push(q);
+        let bound = self.bound(core, ask.stall);
+        core.truncate(n);
+        match bound {
+            Bound::Stands => Ok(w),
+            Bound::Falls => Err(x - 1),
+            Bound::AtMost(f) => Err(f.saturating_sub(q.charge - x)),
+        }
+    }
+}
+
+/// What a search for a split is about. `least` is what no tight window is shorter than, beside
+/// the budget.
+struct Ask<'a> {
+    costs: &'a Costs,
+    times: &'a [u64; 6],
+    stall: u64,
+    least: u64,
+}
+
+impl Ask<'_> {
+    fn first(&self, x: u64, w: u64) -> Lane {
+        Lane::of(self.costs, 1, &first_of(self.times, x, w))
+    }
+}
+
+impl<T: Tally> Way for Lean<T> {
+    fn passes(&mut self, core: &[Lane], stall: u64) -> bool {
+        let verdict = self.judge(core, stall);
+        self.tally
+            .note(Event::Judged(verdict != Verdict::Undecided));
+        verdict == Verdict::Passes
+    }
+
+    fn split(
+        &mut self,
+        core: &mut Vec<Lane>,
+        costs: &Costs,
+        times: &[u64; 6],
+        grain: u64,
+    ) -> Option<(u64, u64)> {
+        let stall = costs.blocking();
+        let mut ask = Ask {
+            costs,
+            times,
+            stall,
+            least: 0,
+        };
+        let none = ask.first(0, 0);
+        self.tally.note(Event::Tight(core.len() + 1));
+        let beside: u64 = core.iter().map(|q| interrupts(q, 1)).sum();
+        ask.least = stall + none.charge + beside + interrupts(&none, 1);
+        let mut k = self.start(core, &ask) / grain;
+        let mut found = None;
+        while k >= 1 {
+            match self.try_split(core, &ask, k * grain) {
+                Ok(w) => {
+                    found = Some((k * grain, w));
+                    break;
+                }
+                Err(below) => k = below / grain,
+            }
+        }
+        self.tally.note(Event::Searched);
+        found
+    }
+}

@@ -1,0 +1,302 @@
+//! How fast the planner is, by counts and by time, against a program that does it the papers' way.
+//!
+//! `cargo bench --bench plan` prints tables; behind `--` it takes `--json` (one object instead),
+//! `--quick` (a tenth of the sheets) and `--svg DIR` (plots besides).
+//!
+//! Every workload is planned by the library, by its algorithms once more in plain Rust
+//! ([`counted`]), which are counted and whose listings must be the library's, and by the papers'
+//! program ([`papers`]). Times of all three are taken in one process, in turns, from the bytes of
+//! a sheet to those of its listing.
+
+#![warn(clippy::all, clippy::pedantic)]
+#![allow(clippy::cast_precision_loss)] // counts become means, and nanoseconds ratios
+
+mod counted;
+mod loads;
+mod papers;
+mod report;
+mod sheets;
+mod tally;
+
+use std::env;
+use std::path::PathBuf;
+use std::process;
+use std::time::Instant;
+
+use configurator::{ffi, plan_into, Answer, Listed};
+
+use counted::{Lean, Verdict};
+use loads::{Load, Slow};
+use papers::Papers;
+use report::{median, Measured, SlowCore, Timed};
+use sheets::{Placed, Sheet};
+use tally::{Counts, Silent};
+
+/// What the command line asks for.
+#[derive(Default)]
+struct Options {
+    json: bool,
+    quick: bool,
+    svg: Option<PathBuf>,
+}
+
+fn options() -> Options {
+    let mut options = Options::default();
+    let mut words = env::args().skip(1);
+    while let Some(word) = words.next() {
+        match word.as_str() {
+            "--bench" => {} // cargo says so
+            "--json" => options.json = true,
+            "--quick" => options.quick = true,
+            "--svg" => options.svg = words.next().map(PathBuf::from),
+            _ => {
+                eprintln!("plan [--json] [--quick] [--svg DIR], not {word}");
+                process::exit(2);
+            }
+        }
+    }
+    options
+}
+
+fn main() {
+    let options = options();
+    let (each, rounds) = if options.quick { (1, 3) } else { (10, 9) };
+    let mut measured = Vec::new();
+    for load in loads::loads(each) {
+        eprintln!("{} ({} sheets)", load.name, load.sheets.len());
+        measured.push(measure(&load, rounds));
+    }
+    let slow: Vec<SlowCore> = loads::slow().iter().map(measure_slow).collect();
+    if options.json {
+        println!("{}", report::json(&measured, &slow));
+    } else {
+        println!("{}", report::tables(&measured, &slow));
+    }
+    if let Some(folder) = options.svg {
+        report::plots(&folder, &measured).expect("the plots can be written");
+    }
+}
+
+/// The library's listing, or the place of the task that the walk sticks at.
+fn library(sheet: &[u8], buffer: &mut [u8]) -> Result<usize, usize> {
+    match plan_into(sheet, buffer) {
+        Ok(Listed::Written(length)) => Ok(length),
+        Ok(Listed::Refused(refusal)) => Err(refusal.carries() as usize),
+        Err(unknown) => panic!("{unknown}"),
+    }
+}
+
+/// Counts and times one workload.
+fn measure(load: &Load, rounds: usize) -> Measured {
+    let mut buffer = vec![0; 8_192];
+    let mut lean = Lean {
+        tally: Counts::default(),
+    };
+    let mut theirs = Papers {
+        tally: Counts::default(),
+    };
+    let mut measured = Measured {
+        name: load.name.clone(),
+        of_a_paper: load.of_a_paper,
+        sheets: load.sheets.len(),
+        ..Measured::default()
+    };
+    let mut questions = Vec::new();
+    for bytes in &load.sheets {
+        let sheet = sheets::read(bytes).expect("a sheet that is read");
+        let ours = library(bytes, &mut buffer);
+        let walked = sheets::walk(&sheet, &mut lean);
+        match &walked {
+            Ok(placed) => {
+                let listing = sheets::write(&sheet, placed);
+                assert_eq!(ours.map(|length| &buffer[..length]), Ok(&listing[..]));
+                measured.planned += 1;
+                questions.extend(asked(&sheet, placed));
+            }
+            Err(task) => assert_eq!(ours, Err(*task)),
+        }
+        let costs = bytes_of(&sheet.costs.numbers());
+        if let Ok(placed) = sheets::walk(&sheet, &mut theirs) {
+            measured.papers_planned += 1;
+            let rows = rows(&placed, sheet.cores);
+            let passes = |row: &Vec<u8>| ffi::verdict(row, &costs) == 0;
+            measured.papers_wrong += usize::from(!rows.iter().all(passes));
+            let same = walked.map(|mine| sheets::write(&sheet, &mine))
+                == Ok(sheets::write(&sheet, &placed));
+            measured.papers_same += usize::from(same);
+        }
+    }
+    measured.counts = lean.tally;
+    measured.papers = theirs.tally;
+    measured.plan = time_plans(&load.sheets, rounds);
+    questions.truncate(4_000);
+    measured.verdict = time_verdicts(&questions, rounds);
+    measured
+}
+
+/// The records of each core of a plan.
+fn rows(placed: &[Placed], cores: usize) -> Vec<Vec<u8>> {
+    let mut rows = vec![Vec::new(); cores];
+    for piece in placed {
+        rows[piece.core].extend(record(piece.kind, &piece.fields));
+    }
+    rows
+}
+
+/// A record as lent bytes.
+fn record(kind: u8, fields: &[u64; 6]) -> Vec<u8> {
+    let mut bytes = vec![kind, 0, 0, 0];
+    bytes.extend(bytes_of(fields));
+    bytes
+}
+
+/// Numbers as lent bytes.
+fn bytes_of(numbers: &[u64]) -> Vec<u8> {
+    let four = |&number: &u64| {
+        u32::try_from(number)
+            .expect("within the sizes")
+            .to_le_bytes()
+    };
+    numbers.iter().flat_map(four).collect()
+}
+
+/// Lent records and costs.
+type Question = (Vec<u8>, Vec<u8>);
+
+/// What the walk that ends in these pieces asks the verdict: each core with a whole task more,
+/// placed there or not.
+fn asked(sheet: &Sheet<'_>, placed: &[Placed]) -> Vec<Question> {
+    let costs = bytes_of(&sheet.costs.numbers());
+    let mut questions = Vec::new();
+    let mut row: Vec<u8> = Vec::new();
+    let mut here = 0;
+    for piece in placed {
+        let whole = record(0, &sheet.tasks[piece.task].times);
+        if piece.kind != 2 {
+            if piece.core != here {
+                questions.push(([&row[..], &whole].concat(), costs.clone()));
+                row.clear();
+            }
+            questions.push(([&row[..], &whole].concat(), costs.clone()));
+        } else {
+            row.clear();
+        }
+        here = piece.core;
+        row.extend(record(piece.kind, &piece.fields));
+    }
+    questions
+}
+
+/// Nanoseconds that a call takes, and what it gives.
+fn clocked<R>(call: impl FnOnce() -> R) -> (f64, R) {
+    let start = Instant::now();
+    let given = call();
+    (start.elapsed().as_nanos() as f64, given)
+}
+
+/// Plans each sheet in turns; the median of the rounds stands for a sheet.
+fn time_plans(sheets: &[Vec<u8>], rounds: usize) -> Timed {
+    let mut buffer = vec![0; 8_192];
+    let mut timed = Timed::default();
+    for bytes in sheets {
+        let mut times: [Vec<f64>; 4] = Default::default();
+        for round in 0..=rounds {
+            let (ours, a) = clocked(|| library(bytes, &mut buffer));
+            let (theirs, b) = clocked(|| sheets::plan(bytes, &mut Papers { tally: Silent }));
+            let (again, c) = clocked(|| sheets::plan(bytes, &mut Lean { tally: Silent }));
+            let sheet = sheets::read(bytes).expect("a sheet that is read");
+            let (walked, d) = clocked(|| sheets::walk(&sheet, &mut Papers { tally: Silent }));
+            assert_eq!(a, c.map(|listing| listing.len()));
+            assert_eq!(b.is_ok(), d.is_ok());
+            if round > 0 {
+                let all = [ours, theirs, again, walked];
+                times
+                    .iter_mut()
+                    .zip(all)
+                    .for_each(|(to, time)| to.push(time));
+            }
+        }
+        timed.push(times.map(|times| median(&times)));
+    }
+    timed
+}
+
+/// Judges each core in turns; the median of the rounds stands for a core.
+fn time_verdicts(questions: &[Question], rounds: usize) -> Timed {
+    const CALLS: usize = 4;
+    let mut timed = Timed::default();
+    for (records, costs) in questions {
+        let mut times: [Vec<f64>; 4] = Default::default();
+        for round in 0..=rounds {
+            let (ours, a) = clocked(|| {
+                (0..CALLS)
+                    .filter(|_| ffi::verdict(records, costs) == 0)
+                    .count()
+            });
+            let (theirs, b) = clocked(|| {
+                (0..CALLS)
+                    .filter(|_| papers_verdict(records, costs))
+                    .count()
+            });
+            let (again, c) = clocked(|| {
+                (0..CALLS)
+                    .filter(|_| lean_verdict(records, costs) == Verdict::Passes)
+                    .count()
+            });
+            assert_eq!(a, c);
+            assert!(b <= CALLS);
+            if round > 0 {
+                let all = [ours, theirs, again, 0.0];
+                times
+                    .iter_mut()
+                    .zip(all)
+                    .for_each(|(to, time)| to.push(time / CALLS as f64));
+            }
+        }
+        timed.push(times.map(|times| median(&times)));
+    }
+    timed
+}
+
+/// The papers' answer on lent bytes.
+fn papers_verdict(records: &[u8], costs: &[u8]) -> bool {
+    let (core, stall) = sheets::lanes(records, costs);
+    Papers { tally: Silent }.schedulable(&core, stall)
+}
+
+/// The counted copy's answer on lent bytes.
+fn lean_verdict(records: &[u8], costs: &[u8]) -> Verdict {
+    let (core, stall) = sheets::lanes(records, costs);
+    Lean { tally: Silent }.judge(&core, stall)
+}
+
+/// Counts and times the verdict on a core made to be slow, once.
+fn measure_slow(slow: &Slow) -> SlowCore {
+    eprintln!("slow core {}", slow.name);
+    let costs = [0; 36];
+    let (core, stall) = sheets::lanes(&slow.records, &costs);
+    let mut lean = Lean {
+        tally: Counts::default(),
+    };
+    let mut theirs = Papers {
+        tally: Counts::default(),
+    };
+    let verdict = lean.judge(&core, stall);
+    let _ = theirs.schedulable(&core, stall);
+    let (ours, answer) = clocked(|| configurator::verdict(&slow.records, &costs));
+    let expected = match verdict {
+        Verdict::Passes => Answer::Passes,
+        Verdict::Overloaded(t) => Answer::Overloaded(t),
+        Verdict::Undecided => Answer::Undecided,
+    };
+    assert_eq!(answer, Ok(expected));
+    let (papers, _) = clocked(|| papers_verdict(&slow.records, &costs));
+    SlowCore {
+        name: slow.name.clone(),
+        verdict: format!("{verdict:?}"),
+        counts: lean.tally,
+        papers: theirs.tally,
+        ours,
+        theirs: papers,
+    }
+}
