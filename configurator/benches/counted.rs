@@ -5,7 +5,7 @@
 use configurator::plain::piece::Costs;
 
 use crate::sheets::{first_of, last_of, Lane, Way};
-use crate::tally::{Event, Tally};
+use crate::tally::{Event, Settled, Tally};
 
 const LIMIT: u64 = 100_000_000;
 const ALL_TIME: u64 = 1 << 32;
@@ -27,12 +27,9 @@ pub enum Verdict {
     Undecided,
 }
 
-/// What a core with a piece behind tells of the piece's charge.
-enum Bound {
-    Stands,
-    Falls,
-    AtMost(u64),
-}
+/// What a core with a piece behind tells: it passes, or no more than that may be charged for the
+/// piece; and what told so.
+type Bound = (Option<u64>, Settled);
 
 fn ceil(a: u64, b: u64) -> u64 {
     (a + (b - 1)) / b
@@ -206,25 +203,25 @@ impl<T: Tally> Lean<T> {
     fn bound(&mut self, all: &[Lane], b: u64) -> Bound {
         let (q, core) = match all.split_last() {
             Some(parted) => parted,
-            None => return Bound::Stands,
+            None => return (None, Settled::Allowed),
         };
         let a = least_live(all);
         let cap = self.cap(core, b, q, a);
         if cap < q.charge {
-            return Bound::AtMost(cap);
+            return (Some(cap), Settled::ShortCap);
         }
         let l = match self.busy_length(all) {
-            None => return Bound::Falls,
+            None => return (Some(q.charge - 1), Settled::NoBusyLength),
             Some(l) => l,
         };
         let near = self.squeeze(core, b, q, q.charge, a, l);
         if near < q.charge {
-            return Bound::AtMost(near);
+            return (Some(near), Settled::WholeCap);
         }
         let own = a.max(largest_window(core));
         match self.descend(all, b, own, q.window.saturating_sub(own)) {
-            Verdict::Passes => Bound::Stands,
-            _ => Bound::Falls,
+            Verdict::Passes => (None, Settled::Allowed),
+            _ => (Some(q.charge - 1), Settled::OwnBlocking),
         }
     }
 
@@ -262,9 +259,14 @@ impl<T: Tally> Lean<T> {
         cap.saturating_sub(q.charge - x)
     }
 
-    /// One candidate: its window where it is allowed, or how far down the next may stand.
-    fn try_split(&mut self, core: &mut Vec<Lane>, ask: &Ask<'_>, x: u64) -> Result<u64, u64> {
-        self.tally.note(Event::Candidate);
+    /// One candidate: its window where it is allowed, or how far down the next may stand; and what
+    /// settled it.
+    fn try_split(
+        &mut self,
+        core: &mut Vec<Lane>,
+        ask: &Ask<'_>,
+        x: u64,
+    ) -> (Result<u64, u64>, Settled) {
         let (deadline, jitter) = (ask.times[1], ask.times[3]);
         let n = core.len();
         let wide = ask.first(x, deadline - 1);
@@ -272,27 +274,29 @@ impl<T: Tally> Lean<T> {
         let top = (deadline - 1).saturating_sub(jitter);
         let tight = self.tight(core, ask.stall + wide.charge, top);
         core.truncate(n);
-        let t = tight.ok_or(x - 1)?;
+        let t = match tight {
+            None => return (Err(x - 1), Settled::NoWindow),
+            Some(t) => t,
+        };
         let w = jitter + t;
         let slack = t - (x + ask.least);
         let last = [Lane::of(ask.costs, 2, &last_of(ask.costs, ask.times, x, w))];
         match self.judge(&last, ask.stall) {
             Verdict::Passes => {}
-            Verdict::Undecided => return Err(0),
+            Verdict::Undecided => return (Err(0), Settled::LastEnds),
             Verdict::Overloaded(t) => {
-                let g = self.demand(&last, ask.stall, deadline - w, t);
-                return Err(if t + slack < g { 0 } else { x - 1 });
+                if t + slack < self.demand(&last, ask.stall, deadline - w, t) {
+                    return (Err(0), Settled::LastEnds);
+                }
+                return (Err(x - 1), Settled::LastFalls);
             }
         }
         let q = ask.first(x, w);
         core.push(q);
-        let bound = self.bound(core, ask.stall);
+        let (bound, settled) = self.bound(core, ask.stall);
         core.truncate(n);
-        match bound {
-            Bound::Stands => Ok(w),
-            Bound::Falls => Err(x - 1),
-            Bound::AtMost(f) => Err(f.saturating_sub(q.charge - x)),
-        }
+        let below = |f: u64| f.saturating_sub(q.charge - x);
+        (bound.map_or(Ok(w), |f| Err(below(f))), settled)
     }
 }
 
@@ -340,7 +344,9 @@ impl<T: Tally> Way for Lean<T> {
         let mut k = self.start(core, &ask) / grain;
         let mut found = None;
         while k >= 1 {
-            match self.try_split(core, &ask, k * grain) {
+            let (tried, settled) = self.try_split(core, &ask, k * grain);
+            self.tally.note(Event::Candidate(settled));
+            match tried {
                 Ok(w) => {
                     found = Some((k * grain, w));
                     break;

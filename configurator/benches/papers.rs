@@ -7,7 +7,7 @@
 use configurator::plain::piece::Costs;
 
 use crate::sheets::{first_of, last_of, Lane, Way};
-use crate::tally::{Event, Tally};
+use crate::tally::{Event, Settled, Tally};
 
 const LIMIT: u64 = 100_000_000;
 
@@ -119,7 +119,6 @@ impl<T: Tally> Way for Papers<T> {
         while high - low > 1 {
             let middle = (low + high) / 2;
             let t = middle.saturating_sub(jitter);
-            self.tally.note(Event::Candidate);
             let held = stall + none.charge + self.interrupts(core, t);
             let x = t.saturating_sub(held);
             let fits = if x == 0 {
@@ -131,6 +130,12 @@ impl<T: Tally> Way for Papers<T> {
                 core[n].charge = none.charge + x;
                 self.schedulable(core, stall)
             };
+            let settled = if fits {
+                Settled::Allowed
+            } else {
+                Settled::WholeCap
+            };
+            self.tally.note(Event::Candidate(settled));
             if fits {
                 low = middle;
                 budget = x;

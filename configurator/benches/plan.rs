@@ -1,7 +1,8 @@
 //! How fast the planner is, by counts and by time, against a program that does it the papers' way.
 //!
 //! `cargo bench --bench plan` prints tables; behind `--` it takes `--json` (one object instead),
-//! `--quick` (a tenth of the sheets) and `--svg DIR` (plots besides).
+//! `--quick` (a tenth of the sheets), `--svg DIR` (plots besides), and `--spin NAME`, which only has
+//! the library plan the workload of that name for five seconds, for a profiler to look on.
 //!
 //! Every workload is planned by the library, by its algorithms once more in plain Rust
 //! ([`counted`]), which are counted and whose listings must be the library's, and by the papers'
@@ -38,6 +39,7 @@ struct Options {
     json: bool,
     quick: bool,
     svg: Option<PathBuf>,
+    spin: Option<String>,
 }
 
 fn options() -> Options {
@@ -49,8 +51,9 @@ fn options() -> Options {
             "--json" => options.json = true,
             "--quick" => options.quick = true,
             "--svg" => options.svg = words.next().map(PathBuf::from),
+            "--spin" => options.spin = words.next(),
             _ => {
-                eprintln!("plan [--json] [--quick] [--svg DIR], not {word}");
+                eprintln!("plan [--json] [--quick] [--svg DIR] [--spin NAME], not {word}");
                 process::exit(2);
             }
         }
@@ -60,6 +63,9 @@ fn options() -> Options {
 
 fn main() {
     let options = options();
+    if let Some(name) = options.spin {
+        return spin(&name);
+    }
     let (each, rounds) = if options.quick { (1, 3) } else { (10, 9) };
     let mut measured = Vec::new();
     for load in loads::loads(each) {
@@ -84,6 +90,22 @@ fn library(sheet: &[u8], buffer: &mut [u8]) -> Result<usize, usize> {
         Ok(Listed::Refused(refusal)) => Err(refusal.carries() as usize),
         Err(unknown) => panic!("{unknown}"),
     }
+}
+
+/// Has the library plan a workload for five seconds.
+fn spin(name: &str) {
+    let mut buffer = vec![0; 8_192];
+    let loads = loads::loads(10);
+    let load = loads.iter().find(|load| load.name == name);
+    let sheets = &load.expect("there is such a workload").sheets;
+    let (start, mut plans) = (Instant::now(), 0);
+    while start.elapsed().as_secs() < 5 {
+        plans += sheets.len();
+        for bytes in sheets {
+            let _ = library(bytes, &mut buffer);
+        }
+    }
+    println!("{plans} plans");
 }
 
 /// Counts and times one workload.

@@ -150,6 +150,7 @@ pub fn tables(loads: &[Measured], slow: &[SlowCore]) -> String {
     [
         targets(loads, slow),
         counts_table(loads),
+        settled_table(loads),
         work_table(loads),
         plan_table(loads),
         verdict_table(loads),
@@ -250,6 +251,24 @@ fn counts_table(loads: &[Measured]) -> String {
             lengths.most,
             steps.mean,
             steps.most,
+        );
+    }
+    text
+}
+
+fn settled_table(loads: &[Measured]) -> String {
+    let mut text = String::from(
+        "| workload | candidates | allowed | no tight window | last falls | last ends | short cap | no busy length | whole cap | own blocking |\n|---|---|---|---|---|---|---|---|---|---|\n",
+    );
+    for load in loads {
+        let settled = &load.counts.settled;
+        let columns: Vec<String> = settled.iter().map(u64::to_string).collect();
+        let _ = writeln!(
+            text,
+            "| {} | {} | {} |",
+            load.name,
+            settled.iter().sum::<u64>(),
+            columns.join(" | ")
         );
     }
     text

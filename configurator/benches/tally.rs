@@ -16,12 +16,47 @@ pub enum Event {
     Climbed,
     /// The interrupts of that many pieces were evaluated: one step to a tight window.
     Tight(usize),
-    /// A split was tried.
-    Candidate,
+    /// A split was tried, and that is what settled it.
+    Candidate(Settled),
     /// The search for a split ended.
     Searched,
     /// A core with a whole task more was judged; whether it has a busy length.
     Judged(bool),
+}
+
+/// What settles a candidate for a split.
+#[derive(Clone, Copy, Debug, PartialEq, Eq)]
+pub enum Settled {
+    /// It is allowed.
+    Allowed,
+    /// It has no tight window: the next is one less.
+    NoWindow,
+    /// Its last piece is overloaded within the slack: the next is one less.
+    LastFalls,
+    /// Its last piece ends the search.
+    LastEnds,
+    /// The far length or the short walk gives a cap.
+    ShortCap,
+    /// There is no busy length: the next is one less.
+    NoBusyLength,
+    /// The whole walk gives a cap.
+    WholeCap,
+    /// Its own blocking: the next is one less.
+    OwnBlocking,
+}
+
+impl Settled {
+    /// All of them, in this order.
+    pub const ALL: [Settled; 8] = [
+        Settled::Allowed,
+        Settled::NoWindow,
+        Settled::LastFalls,
+        Settled::LastEnds,
+        Settled::ShortCap,
+        Settled::NoBusyLength,
+        Settled::WholeCap,
+        Settled::OwnBlocking,
+    ];
 }
 
 /// Who is told.
@@ -59,6 +94,8 @@ pub struct Counts {
     pub lengths: Vec<u64>,
     /// Steps of each climb.
     pub steps: Vec<u64>,
+    /// Candidates by what settled them, in the order of [`Settled::ALL`].
+    pub settled: [u64; 8],
     /// Verdicts without a busy length.
     pub undecided: u64,
     tried: u64,
@@ -90,7 +127,12 @@ impl Tally for Counts {
                 self.tights += 1;
                 self.pieces += pieces as u64;
             }
-            Event::Candidate => self.tried += 1,
+            Event::Candidate(how) => {
+                self.tried += 1;
+                for (settled, count) in Settled::ALL.iter().zip(&mut self.settled) {
+                    *count += u64::from(*settled == how);
+                }
+            }
             Event::Searched => {
                 self.candidates.push(self.tried);
                 self.tried = 0;
