@@ -14,6 +14,20 @@ const ALL_TIME: u64 = 1 << 32;
 pub struct Lean<T: Tally> {
     /// Who counts.
     pub tally: T,
+    /// Whether the next idea is tried, which the library does not have: see [`Lean::busy_cap`].
+    pub next: bool,
+}
+
+impl<T: Tally> Lean<T> {
+    /// The library's way.
+    pub fn new(tally: T) -> Self {
+        Lean { tally, next: false }
+    }
+
+    /// The same with the next idea.
+    pub fn next(tally: T) -> Self {
+        Lean { tally, next: true }
+    }
 }
 
 /// What a core says.
@@ -199,6 +213,37 @@ impl<T: Tally> Lean<T> {
         self.squeeze(core, b, q, far, a, 4 * q.period)
     }
 
+    /// The greatest charge of the last of the pieces, q, that leaves them a busy length: the busy sum
+    /// falls with the charge at every length, so it may be searched for by doubling and bisecting.
+    fn busy_cap(&mut self, all: &[Lane], q: &Lane) -> u64 {
+        let mut core = all.to_vec();
+        let last = core.len() - 1;
+        let mut has = |way: &mut Self, charge| {
+            core[last].charge = charge;
+            way.busy_length(&core).is_some()
+        };
+        let (mut without, mut step) = (q.charge, 1);
+        let mut with = loop {
+            if step >= without {
+                break 0; // the pieces before q passed
+            }
+            if has(self, without - step) {
+                break without - step;
+            }
+            without -= step;
+            step *= 2;
+        };
+        while without - with > 1 {
+            let middle = (with + without) / 2;
+            if has(self, middle) {
+                with = middle;
+            } else {
+                without = middle;
+            }
+        }
+        with
+    }
+
     /// What the core tells of the charge of the last of its pieces.
     fn bound(&mut self, all: &[Lane], b: u64) -> Bound {
         let (q, core) = match all.split_last() {
@@ -211,6 +256,7 @@ impl<T: Tally> Lean<T> {
             return (Some(cap), Settled::ShortCap);
         }
         let l = match self.busy_length(all) {
+            None if self.next => return (Some(self.busy_cap(all, q)), Settled::NoBusyLength),
             None => return (Some(q.charge - 1), Settled::NoBusyLength),
             Some(l) => l,
         };

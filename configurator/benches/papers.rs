@@ -2,7 +2,8 @@
 //! past the largest window, from a busy length by its plain recurrence; 000's bisected split.
 //!
 //! 001's recurrence ends only where the pieces take up no more than all time, so this is asked
-//! first. The costs, the packing order and the walk are document 01's.
+//! first; it can be left out, and the judged span of document 01 can be taken for 001's, to see what
+//! they change. The costs, the packing order and the walk are document 01's.
 
 use configurator::plain::piece::Costs;
 
@@ -15,14 +16,27 @@ const LIMIT: u64 = 100_000_000;
 pub struct Papers<T: Tally> {
     /// Who counts.
     pub tally: T,
+    /// Whether the utilisation is looked at before the recurrence.
+    pub asks_usage: bool,
+    /// Whether QPA starts at t0 + L - 1, and not at L - 1 as printed.
+    pub whole_span: bool,
 }
 
 impl<T: Tally> Papers<T> {
+    /// As the papers have it.
+    pub fn new(tally: T) -> Self {
+        Papers {
+            tally,
+            asks_usage: true,
+            whole_span: false,
+        }
+    }
+
     /// 001's LB, from the sum of the jobs on.
     fn busy_length(&mut self, core: &[Lane]) -> Option<u64> {
         let usage = |q: &Lane| q.job() as f64 / q.period as f64;
         let used: f64 = core.iter().map(usage).sum();
-        if used > 1.0 + 1e-9 {
+        if self.asks_usage && used > 1.0 + 1e-9 {
             self.tally.note(Event::Climbed);
             return None;
         }
@@ -73,7 +87,11 @@ impl<T: Tally> Papers<T> {
         let widest = core.iter().map(|q| q.window).max()?;
         let due = |q: &Lane| q.window.saturating_sub(q.jitter);
         let least = core.iter().map(due).min()?;
-        let mut end = length; // t + 1
+        let mut end = if self.whole_span {
+            least + length
+        } else {
+            length
+        }; // t + 1
         while end > least {
             let demand = self.demand(core, stall, widest, end - 1);
             if demand >= end {

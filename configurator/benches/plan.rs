@@ -29,7 +29,7 @@ use configurator::{ffi, plan_into, Answer, Listed};
 use counted::{Lean, Verdict};
 use loads::{Load, Slow};
 use papers::Papers;
-use report::{median, Measured, SlowCore, Timed};
+use report::{median, Measured, SlowCore, Timed, COLUMNS};
 use sheets::{Placed, Sheet};
 use tally::{Counts, Silent};
 
@@ -111,12 +111,11 @@ fn spin(name: &str) {
 /// Counts and times one workload.
 fn measure(load: &Load, rounds: usize) -> Measured {
     let mut buffer = vec![0; 8_192];
-    let mut lean = Lean {
-        tally: Counts::default(),
-    };
-    let mut theirs = Papers {
-        tally: Counts::default(),
-    };
+    let mut lean = Lean::new(Counts::default());
+    let mut theirs = Papers::new(Counts::default());
+    let mut next = Lean::next(Counts::default());
+    let mut spanned = Papers::new(Silent);
+    spanned.whole_span = true;
     let mut measured = Measured {
         name: load.name.clone(),
         of_a_paper: load.of_a_paper,
@@ -137,18 +136,21 @@ fn measure(load: &Load, rounds: usize) -> Measured {
             }
             Err(task) => assert_eq!(ours, Err(*task)),
         }
-        let costs = bytes_of(&sheet.costs.numbers());
+        let text = |placed: &Vec<Placed>| sheets::write(&sheet, placed);
+        let listing = walked.as_ref().map(text);
+        assert_eq!(listing, sheets::walk(&sheet, &mut next).as_ref().map(text));
         if let Ok(placed) = sheets::walk(&sheet, &mut theirs) {
             measured.papers_planned += 1;
-            let rows = rows(&placed, sheet.cores);
-            let passes = |row: &Vec<u8>| ffi::verdict(row, &costs) == 0;
-            measured.papers_wrong += usize::from(!rows.iter().all(passes));
-            let same = walked.map(|mine| sheets::write(&sheet, &mine))
-                == Ok(sheets::write(&sheet, &placed));
-            measured.papers_same += usize::from(same);
+            measured.papers_wrong += usize::from(!all_pass(&sheet, &placed));
+            measured.papers_same += usize::from(listing == Ok(text(&placed)));
+        }
+        if let Ok(placed) = sheets::walk(&sheet, &mut spanned) {
+            measured.spanned_planned += 1;
+            measured.spanned_wrong += usize::from(!all_pass(&sheet, &placed));
         }
     }
     measured.counts = lean.tally;
+    measured.next = next.tally;
     measured.papers = theirs.tally;
     measured.plan = time_plans(&load.sheets, rounds);
     questions.truncate(4_000);
@@ -156,13 +158,14 @@ fn measure(load: &Load, rounds: usize) -> Measured {
     measured
 }
 
-/// The records of each core of a plan.
-fn rows(placed: &[Placed], cores: usize) -> Vec<Vec<u8>> {
-    let mut rows = vec![Vec::new(); cores];
+/// Whether the library passes each core of a plan.
+fn all_pass(sheet: &Sheet<'_>, placed: &[Placed]) -> bool {
+    let costs = bytes_of(&sheet.costs.numbers());
+    let mut rows = vec![Vec::new(); sheet.cores];
     for piece in placed {
         rows[piece.core].extend(record(piece.kind, &piece.fields));
     }
-    rows
+    rows.iter().all(|row| ffi::verdict(row, &costs) == 0)
 }
 
 /// A record as lent bytes.
@@ -221,17 +224,25 @@ fn time_plans(sheets: &[Vec<u8>], rounds: usize) -> Timed {
     let mut buffer = vec![0; 8_192];
     let mut timed = Timed::default();
     for bytes in sheets {
-        let mut times: [Vec<f64>; 4] = Default::default();
+        let sheet = sheets::read(bytes).expect("a sheet that is read");
+        let bad = [&bytes[..], b"fit\tno-task\tno-part\n"].concat();
+        let mut times: [Vec<f64>; COLUMNS] = Default::default();
         for round in 0..=rounds {
             let (ours, a) = clocked(|| library(bytes, &mut buffer));
-            let (theirs, b) = clocked(|| sheets::plan(bytes, &mut Papers { tally: Silent }));
-            let (again, c) = clocked(|| sheets::plan(bytes, &mut Lean { tally: Silent }));
-            let sheet = sheets::read(bytes).expect("a sheet that is read");
-            let (walked, d) = clocked(|| sheets::walk(&sheet, &mut Papers { tally: Silent }));
+            let (theirs, b) = clocked(|| sheets::plan(bytes, &mut Papers::new(Silent)));
+            let (again, c) = clocked(|| sheets::plan(bytes, &mut Lean::new(Silent)));
+            let (walked, d) = clocked(|| sheets::walk(&sheet, &mut Papers::new(Silent)));
+            let (blind, e) = clocked(|| {
+                let mut papers = Papers::new(Silent);
+                papers.asks_usage = false;
+                sheets::plan(bytes, &mut papers)
+            });
+            let (reading, f) = clocked(|| library(&bad, &mut buffer));
             assert_eq!(a, c.map(|listing| listing.len()));
-            assert_eq!(b.is_ok(), d.is_ok());
+            assert_eq!((b.is_ok(), b.is_ok()), (d.is_ok(), e.is_ok()));
+            assert!(f.is_err());
             if round > 0 {
-                let all = [ours, theirs, again, walked];
+                let all = [ours, theirs, again, walked, blind, reading];
                 times
                     .iter_mut()
                     .zip(all)
@@ -248,7 +259,7 @@ fn time_verdicts(questions: &[Question], rounds: usize) -> Timed {
     const CALLS: usize = 4;
     let mut timed = Timed::default();
     for (records, costs) in questions {
-        let mut times: [Vec<f64>; 4] = Default::default();
+        let mut times: [Vec<f64>; COLUMNS] = Default::default();
         for round in 0..=rounds {
             let (ours, a) = clocked(|| {
                 (0..CALLS)
@@ -268,7 +279,7 @@ fn time_verdicts(questions: &[Question], rounds: usize) -> Timed {
             assert_eq!(a, c);
             assert!(b <= CALLS);
             if round > 0 {
-                let all = [ours, theirs, again, 0.0];
+                let all = [ours, theirs, again, 0.0, 0.0, 0.0];
                 times
                     .iter_mut()
                     .zip(all)
@@ -283,13 +294,13 @@ fn time_verdicts(questions: &[Question], rounds: usize) -> Timed {
 /// The papers' answer on lent bytes.
 fn papers_verdict(records: &[u8], costs: &[u8]) -> bool {
     let (core, stall) = sheets::lanes(records, costs);
-    Papers { tally: Silent }.schedulable(&core, stall)
+    Papers::new(Silent).schedulable(&core, stall)
 }
 
 /// The counted copy's answer on lent bytes.
 fn lean_verdict(records: &[u8], costs: &[u8]) -> Verdict {
     let (core, stall) = sheets::lanes(records, costs);
-    Lean { tally: Silent }.judge(&core, stall)
+    Lean::new(Silent).judge(&core, stall)
 }
 
 /// Counts and times the verdict on a core made to be slow, once.
@@ -297,12 +308,8 @@ fn measure_slow(slow: &Slow) -> SlowCore {
     eprintln!("slow core {}", slow.name);
     let costs = [0; 36];
     let (core, stall) = sheets::lanes(&slow.records, &costs);
-    let mut lean = Lean {
-        tally: Counts::default(),
-    };
-    let mut theirs = Papers {
-        tally: Counts::default(),
-    };
+    let mut lean = Lean::new(Counts::default());
+    let mut theirs = Papers::new(Counts::default());
     let verdict = lean.judge(&core, stall);
     let _ = theirs.schedulable(&core, stall);
     let (ours, answer) = clocked(|| configurator::verdict(&slow.records, &costs));

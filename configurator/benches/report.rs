@@ -7,37 +7,71 @@ use std::path::Path;
 
 use crate::tally::Counts;
 
-/// Times in nanoseconds, one for each sheet or core: the library, the papers' program, the
-/// library's algorithms by the Rust compiler, and the papers' program without reading and writing.
+/// What is timed.
+#[derive(Clone, Copy)]
+pub enum Column {
+    /// The library.
+    Library,
+    /// The papers' program.
+    Papers,
+    /// The library's algorithms by the Rust compiler.
+    ByRustc,
+    /// The papers' program without reading and writing.
+    PapersWalk,
+    /// The papers' program without a look at the utilisation.
+    PapersBlind,
+    /// The library on the same sheet with a bad line behind: it reads, and refuses.
+    Reading,
+}
+
+/// How many columns there are.
+pub const COLUMNS: usize = 6;
+
+/// Times in nanoseconds, one for each sheet or core in each column.
 #[derive(Default)]
 pub struct Timed {
-    columns: [Vec<f64>; 4],
+    columns: [Vec<f64>; COLUMNS],
 }
 
 impl Timed {
     /// One more sheet or core.
-    pub fn push(&mut self, times: [f64; 4]) {
+    pub fn push(&mut self, times: [f64; COLUMNS]) {
         for (column, time) in self.columns.iter_mut().zip(times) {
             column.push(time);
         }
     }
 
     /// The median of a column, in microseconds.
-    pub fn micros(&self, column: usize) -> f64 {
-        median(&self.columns[column]) / 1_000.0
+    pub fn micros(&self, column: Column) -> f64 {
+        median(&self.columns[column as usize]) / 1_000.0
     }
 
-    /// The median over sheets of a column's time in the papers' program's.
-    pub fn ratio(&self, column: usize) -> f64 {
-        let pairs = self.columns[column].iter().zip(&self.columns[1]);
+    /// The median over sheets of the one column's time in the other's.
+    pub fn ratio_to(&self, column: Column, other: Column) -> f64 {
+        let ours = &self.columns[column as usize];
+        let pairs = ours.iter().zip(&self.columns[other as usize]);
         let ratios: Vec<f64> = pairs.map(|(ours, theirs)| ours / theirs).collect();
         median(&ratios)
     }
 
-    /// A column's sum in the papers' program's.
-    pub fn sums(&self, column: usize) -> f64 {
-        let sum = |column: usize| self.columns[column].iter().sum::<f64>();
-        sum(column) / sum(1)
+    /// The same in the papers' program's.
+    pub fn ratio(&self, column: Column) -> f64 {
+        self.ratio_to(column, Column::Papers)
+    }
+
+    /// The library's sum in the papers' program's.
+    pub fn sums(&self) -> f64 {
+        let sum = |column: Column| self.columns[column as usize].iter().sum::<f64>();
+        sum(Column::Library) / sum(Column::Papers)
+    }
+
+    /// What the library takes beyond reading in what the papers' program does, the median over
+    /// sheets.
+    pub fn walk_ratio(&self) -> f64 {
+        let [ours, _, _, walk, _, reading] = &self.columns;
+        let rest = ours.iter().zip(reading).map(|(all, read)| all - read);
+        let ratios: Vec<f64> = rest.zip(walk).map(|(ours, walk)| ours / walk).collect();
+        median(&ratios)
     }
 }
 
@@ -56,8 +90,14 @@ pub struct Measured {
     pub papers_planned: usize,
     /// How many of its plans have a core that the library does not pass.
     pub papers_wrong: usize,
+    /// The same where QPA starts at the judged span's top: its plans, and those that do not pass.
+    pub spanned_planned: usize,
+    /// Those that do not pass.
+    pub spanned_wrong: usize,
     /// How many of its plans are the library's.
     pub papers_same: usize,
+    /// What the library's algorithms would do with the next idea.
+    pub next: Counts,
     /// What the library's algorithms do.
     pub counts: Counts,
     /// What the papers' program does.
@@ -152,7 +192,9 @@ pub fn tables(loads: &[Measured], slow: &[SlowCore]) -> String {
         counts_table(loads),
         settled_table(loads),
         work_table(loads),
+        next_table(loads),
         plan_table(loads),
+        wrong_table(loads),
         verdict_table(loads),
         slow_table(slow),
     ]
@@ -171,10 +213,13 @@ fn targets(loads: &[Measured], slow: &[SlowCore]) -> String {
     let climb = all.map(|counts| spread(&counts.steps).most).max();
     let lengths = |load: &&Measured| spread(&load.counts.lengths).median;
     let looked = papers.iter().map(lengths).max().unwrap_or(0);
-    let plans: Vec<f64> = loads.iter().map(|load| load.plan.ratio(0)).collect();
+    let plans: Vec<f64> = loads
+        .iter()
+        .map(|load| load.plan.ratio(Column::Library))
+        .collect();
     let plan_most = plans.iter().copied().fold(0.0, f64::max);
     let plan_median = median(&plans);
-    let verdicts = loads.iter().map(|load| load.verdict.ratio(0));
+    let verdicts = loads.iter().map(|load| load.verdict.ratio(Column::Library));
     let verdict_most = verdicts.fold(0.0, f64::max);
     let climb = climb.unwrap_or(0);
     let mut text = String::from("| target | asked | measured | |\n|---|---|---|---|\n");
@@ -302,22 +347,65 @@ fn work_table(loads: &[Measured]) -> String {
 
 fn plan_table(loads: &[Measured]) -> String {
     let mut text = String::from(
-        "| workload | library, µs | papers' program, µs | of that reading and writing | ratio | ratio of the sums | same algorithms by rustc, ratio | papers' plans that do not pass | that are the library's |\n|---|---|---|---|---|---|---|---|---|\n",
+        "| workload | library, µs | of that reading | papers' program, µs | of that reading and writing | ratio | of the sums | without reading | without a look at the utilisation | same algorithms by rustc |\n|---|---|---|---|---|---|---|---|---|---|\n",
     );
     for load in loads {
         let plan = &load.plan;
         let _ = writeln!(
             text,
-            "| {} | {:.1} | {:.1} | {:.1} | {} | {} | {} | {} | {} |",
+            "| {} | {:.1} | {:.1} | {:.1} | {:.1} | {} | {} | {} | {} | {} |",
             load.name,
-            plan.micros(0),
-            plan.micros(1),
-            plan.micros(1) - plan.micros(3),
-            times(plan.ratio(0)),
-            times(plan.sums(0)),
-            times(plan.ratio(2)),
+            plan.micros(Column::Library),
+            plan.micros(Column::Reading),
+            plan.micros(Column::Papers),
+            plan.micros(Column::Papers) - plan.micros(Column::PapersWalk),
+            times(plan.ratio(Column::Library)),
+            times(plan.sums()),
+            times(plan.walk_ratio()),
+            times(plan.ratio_to(Column::Library, Column::PapersBlind)),
+            times(plan.ratio(Column::ByRustc)),
+        );
+    }
+    text
+}
+
+fn wrong_table(loads: &[Measured]) -> String {
+    let mut text = String::from(
+        "| workload | library's plans | papers' plans | with a core that does not pass | equal to the library's | with a core that does not pass, QPA from t0 + L − 1 |\n|---|---|---|---|---|---|\n",
+    );
+    for load in loads {
+        let _ = writeln!(
+            text,
+            "| {} | {} | {} | {} | {} | {} |",
+            load.name,
+            load.planned,
+            load.papers_planned,
             share(load.papers_wrong, load.papers_planned),
             share(load.papers_same, load.papers_planned),
+            share(load.spanned_wrong, load.spanned_planned),
+        );
+    }
+    text
+}
+
+fn next_table(loads: &[Measured]) -> String {
+    let mut text = String::from(
+        "| workload | candidates, mean (most) | with the next idea | evaluations | with the next idea |\n|---|---|---|---|---|\n",
+    );
+    for load in loads {
+        let now = spread(&load.counts.candidates);
+        let next = spread(&load.next.candidates);
+        let each = |counts: &Counts| counts.evaluations() as f64 / load.sheets as f64;
+        let _ = writeln!(
+            text,
+            "| {} | {:.2} ({}) | {:.2} ({}) | {:.0} | {:.0} |",
+            load.name,
+            now.mean,
+            now.most,
+            next.mean,
+            next.most,
+            each(&load.counts),
+            each(&load.next),
         );
     }
     text
@@ -333,11 +421,11 @@ fn verdict_table(loads: &[Measured]) -> String {
             text,
             "| {} | {:.2} | {:.2} | {} | {} | {} |",
             load.name,
-            verdict.micros(0),
-            verdict.micros(1),
-            times(verdict.ratio(0)),
-            times(verdict.sums(0)),
-            times(verdict.ratio(2)),
+            verdict.micros(Column::Library),
+            verdict.micros(Column::Papers),
+            times(verdict.ratio(Column::Library)),
+            times(verdict.sums()),
+            times(verdict.ratio(Column::ByRustc)),
         );
     }
     text
@@ -379,7 +467,7 @@ pub fn json(loads: &[Measured], slow: &[SlowCore]) -> String {
 
 fn load_json(load: &Measured) -> String {
     format!(
-        "{{\"name\": \"{}\", \"sheets\": {}, \"planned\": {}, \"counts\": {}, \"papers\": {}, \"papers_planned\": {}, \"papers_wrong\": {}, \"papers_same\": {}, \"plan\": {}, \"verdict\": {}}}",
+        "{{\"name\": \"{}\", \"sheets\": {}, \"planned\": {}, \"counts\": {}, \"papers\": {}, \"papers_planned\": {}, \"papers_wrong\": {}, \"papers_same\": {}, \"spanned_planned\": {}, \"spanned_wrong\": {}, \"next\": {}, \"plan\": {}, \"verdict\": {}}}",
         load.name,
         load.sheets,
         load.planned,
@@ -388,6 +476,9 @@ fn load_json(load: &Measured) -> String {
         load.papers_planned,
         load.papers_wrong,
         load.papers_same,
+        load.spanned_planned,
+        load.spanned_wrong,
+        counts_json(&load.next),
         timed_json(&load.plan),
         timed_json(&load.verdict)
     )
@@ -422,12 +513,12 @@ fn counts_json(counts: &Counts) -> String {
 fn timed_json(timed: &Timed) -> String {
     format!(
         "{{\"library_us\": {:.3}, \"papers_us\": {:.3}, \"by_rustc_us\": {:.3}, \"ratio\": {:.3}, \"ratio_of_sums\": {:.3}, \"by_rustc_ratio\": {:.3}}}",
-        timed.micros(0),
-        timed.micros(1),
-        timed.micros(2),
-        number(timed.ratio(0)),
-        number(timed.sums(0)),
-        number(timed.ratio(2))
+        timed.micros(Column::Library),
+        timed.micros(Column::Papers),
+        timed.micros(Column::ByRustc),
+        number(timed.ratio(Column::Library)),
+        number(timed.sums()),
+        number(timed.ratio(Column::ByRustc))
     )
 }
 
@@ -457,8 +548,18 @@ fn slow_json(core: &SlowCore) -> String {
 
 /// The plots: plan times and verdict times in the papers' program's.
 pub fn plots(folder: &Path, loads: &[Measured]) -> io::Result<()> {
-    let plan = |load: &Measured| (load.plan.ratio(0), load.plan.ratio(2));
-    let verdict = |load: &Measured| (load.verdict.ratio(0), load.verdict.ratio(2));
+    let plan = |load: &Measured| {
+        (
+            load.plan.ratio(Column::Library),
+            load.plan.ratio(Column::ByRustc),
+        )
+    };
+    let verdict = |load: &Measured| {
+        (
+            load.verdict.ratio(Column::Library),
+            load.verdict.ratio(Column::ByRustc),
+        )
+    };
     let bars = |of: &dyn Fn(&Measured) -> (f64, f64)| -> Vec<(String, f64, f64)> {
         let bar = |load: &Measured| (load.name.clone(), of(load).0, of(load).1);
         loads.iter().map(bar).collect()
