@@ -14,8 +14,11 @@ const ALL_TIME: u64 = 1 << 32;
 pub struct Lean<T: Tally> {
     /// Who counts.
     pub tally: T,
-    /// Whether the next idea is tried, which the library does not have: see [`Lean::busy_cap`].
-    pub next: bool,
+    /// Whether the next ideas are tried, which the library does not have: nothing is divided for a
+    /// cost of 0, shares are divided once a climb, and a candidate without a busy length
+    /// ([`Lean::busy_cap`]) or within its own blocking ([`Lean::own_cap`]) tells how far down the
+    /// next may stand.
+    next: bool,
 }
 
 impl<T: Tally> Lean<T> {
@@ -24,7 +27,7 @@ impl<T: Tally> Lean<T> {
         Lean { tally, next: false }
     }
 
-    /// The same with the next idea.
+    /// The same with the next ideas.
     pub fn next(tally: T) -> Self {
         Lean { tally, next: true }
     }
@@ -59,6 +62,29 @@ fn jobs_due(q: &Lane, t: u64) -> u64 {
 
 fn interrupts(q: &Lane, t: u64) -> u64 {
     ceil(t + q.jitter, q.period) * q.release + ceil(t + q.ipij, q.period) * q.ipi
+}
+
+/// The same, without a division where the cost is 0.
+fn costly(q: &Lane, t: u64) -> u64 {
+    let calls = |cost: u64, jitter: u64| {
+        if cost == 0 {
+            0
+        } else {
+            ceil(t + jitter, q.period) * cost
+        }
+    };
+    calls(q.release, q.jitter) + calls(q.ipi, q.ipij)
+}
+
+/// How many of the pieces have a job due.
+fn due(core: &[Lane], t: u64) -> usize {
+    core.iter().filter(|q| t + q.jitter >= q.window).count()
+}
+
+/// How many costs of interrupts are not 0.
+fn calls(core: &[Lane]) -> usize {
+    let of = |q: &Lane| usize::from(q.release > 0) + usize::from(q.ipi > 0);
+    core.iter().map(of).sum()
 }
 
 fn largest_window(core: &[Lane]) -> u64 {
@@ -98,10 +124,29 @@ fn lane_start(q: &Lane, t: u64) -> u64 {
 }
 
 impl<T: Tally> Lean<T> {
+    /// The interrupts of all pieces by t.
+    fn calls(&mut self, core: &[Lane], t: u64) -> u64 {
+        if self.next {
+            self.tally.note(Event::Divided(calls(core)));
+            core.iter().map(|q| costly(q, t)).sum()
+        } else {
+            self.tally.note(Event::Divided(2 * core.len()));
+            core.iter().map(|q| interrupts(q, t)).sum()
+        }
+    }
+
     fn demand(&mut self, core: &[Lane], b: u64, w: u64, t: u64) -> u64 {
         self.tally.note(Event::Demand(core.len()));
-        let load = |q| jobs_due(q, t) * q.charge + interrupts(q, t);
-        let loads: u64 = core.iter().map(load).sum();
+        self.tally.note(Event::Divided(due(core, t)));
+        let loads: u64 = if self.next {
+            self.tally.note(Event::Divided(calls(core)));
+            let load = |q| jobs_due(q, t) * q.charge + costly(q, t);
+            core.iter().map(load).sum()
+        } else {
+            self.tally.note(Event::Divided(2 * core.len()));
+            let load = |q| jobs_due(q, t) * q.charge + interrupts(q, t);
+            core.iter().map(load).sum()
+        };
         if t < w {
             b + loads
         } else {
@@ -112,25 +157,41 @@ impl<T: Tally> Lean<T> {
     /// The busy length: each step goes to the busy sum, or as far as the shares of the pieces
     /// reach.
     pub fn busy_length(&mut self, core: &[Lane]) -> Option<u64> {
+        let found = if self.next {
+            self.tally.note(Event::Divided(core.len()));
+            let mut shares = [0; 80];
+            for (share, q) in shares.iter_mut().zip(core) {
+                *share = q.job() * ALL_TIME / q.period;
+            }
+            self.climb(core, |place, _| shares[place])
+        } else {
+            self.climb(core, |_, q| q.job() * ALL_TIME / q.period)
+        };
+        self.tally.note(Event::Climbed);
+        found
+    }
+
+    fn climb(&mut self, core: &[Lane], share_of: impl Fn(usize, &Lane) -> u64) -> Option<u64> {
         let (mut l, mut ahead, mut plain) = (1, 200_000_000, 256_u64);
-        let mut found = None;
         while l <= LIMIT {
             self.tally.note(Event::Climb(core.len()));
             let edge = l + ahead;
-            let (mut asked, mut share, mut work) = (0, 0, 0);
-            for q in core {
+            let (mut asked, mut share, mut work, mut flowing) = (0, 0, 0, 0);
+            for (place, q) in core.iter().enumerate() {
                 let jobs = ceil(l, q.period);
                 let mine = jobs * q.job();
                 asked += mine;
                 if jobs * q.period < edge {
-                    share += q.job() * ALL_TIME / q.period;
+                    flowing += 1;
+                    share += share_of(place, q);
                 } else {
                     work += mine;
                 }
             }
+            let shares = if self.next { 0 } else { flowing };
+            self.tally.note(Event::Divided(core.len() + shares));
             if asked <= l {
-                found = Some(l);
-                break;
+                return Some(l);
             }
             let reach = if work > LIMIT || share > ALL_TIME || (share == ALL_TIME && work > 0) {
                 LIMIT + 1
@@ -147,8 +208,7 @@ impl<T: Tally> Lean<T> {
             plain = plain.saturating_sub(1);
             l = next;
         }
-        self.tally.note(Event::Climbed);
-        found
+        None
     }
 
     fn descend(&mut self, core: &[Lane], b: u64, a: u64, l: u64) -> Verdict {
@@ -179,7 +239,8 @@ impl<T: Tally> Lean<T> {
     /// The greatest charge of q up to f that fits at t, and the end below which the walk goes on.
     fn level(&mut self, core: &[Lane], b: u64, w: u64, q: &Lane, f: u64, t: u64) -> (u64, u64) {
         let g = self.demand(core, b, w, t);
-        let calls = interrupts(q, t);
+        let calls = self.calls(std::slice::from_ref(q), t);
+        self.tally.note(Event::Divided(1));
         if t < g + calls {
             return (0, 0);
         }
@@ -198,6 +259,8 @@ impl<T: Tally> Lean<T> {
             let mut level = self.level(core, b, w, q, charge, t);
             if level.0 < charge {
                 self.tally.note(Event::Stretch(core.len() + 1));
+                self.tally
+                    .note(Event::Divided(due(core, t) + calls(core) + 1));
                 let starts = core.iter().map(|q| lane_start(q, t)).max().unwrap_or(0);
                 let start = starts.max(lane_start(q, t));
                 level = self.level(core, b, w, q, level.0, a.max(start).min(t));
@@ -244,8 +307,25 @@ impl<T: Tally> Lean<T> {
         with
     }
 
+    /// What may be charged for the last of the pieces where its own blocking overloads the length t:
+    /// what fits there, or what has its tight window by then.
+    fn own_cap(&mut self, all: &[Lane], ask: &Ask<'_>, x: u64, t: u64) -> u64 {
+        let (q, core) = match all.split_last() {
+            Some(parted) => parted,
+            None => return 0,
+        };
+        let rest = self.demand(core, ask.stall, t + 1, t) + costly(q, t);
+        let fits = match jobs_due(q, t) {
+            0 => 0,
+            jobs => t.saturating_sub(rest) / jobs,
+        };
+        let tight = t.saturating_sub(q.jitter + ask.least);
+        fits.max(q.charge - x + tight)
+    }
+
     /// What the core tells of the charge of the last of its pieces.
-    fn bound(&mut self, all: &[Lane], b: u64) -> Bound {
+    fn bound(&mut self, all: &[Lane], ask: &Ask<'_>, x: u64) -> Bound {
+        let b = ask.stall;
         let (q, core) = match all.split_last() {
             Some(parted) => parted,
             None => return (None, Settled::Allowed),
@@ -256,8 +336,14 @@ impl<T: Tally> Lean<T> {
             return (Some(cap), Settled::ShortCap);
         }
         let l = match self.busy_length(all) {
-            None if self.next => return (Some(self.busy_cap(all, q)), Settled::NoBusyLength),
-            None => return (Some(q.charge - 1), Settled::NoBusyLength),
+            None => {
+                let cap = if self.next {
+                    self.busy_cap(all, q)
+                } else {
+                    q.charge - 1
+                };
+                return (Some(cap), Settled::NoBusyLength);
+            }
             Some(l) => l,
         };
         let near = self.squeeze(core, b, q, q.charge, a, l);
@@ -267,6 +353,10 @@ impl<T: Tally> Lean<T> {
         let own = a.max(largest_window(core));
         match self.descend(all, b, own, q.window.saturating_sub(own)) {
             Verdict::Passes => (None, Settled::Allowed),
+            Verdict::Overloaded(t) if self.next => {
+                let cap = self.own_cap(all, ask, x, t);
+                (Some(cap.min(q.charge - 1)), Settled::OwnBlocking)
+            }
             _ => (Some(q.charge - 1), Settled::OwnBlocking),
         }
     }
@@ -276,7 +366,7 @@ impl<T: Tally> Lean<T> {
         let mut t = 1;
         while t <= top {
             self.tally.note(Event::Tight(core.len()));
-            let asked = base + core.iter().map(|q| interrupts(q, t)).sum::<u64>();
+            let asked = base + self.calls(core, t);
             if asked <= t {
                 return Some(t);
             }
@@ -339,7 +429,7 @@ impl<T: Tally> Lean<T> {
         }
         let q = ask.first(x, w);
         core.push(q);
-        let (bound, settled) = self.bound(core, ask.stall);
+        let (bound, settled) = self.bound(core, ask, x);
         core.truncate(n);
         let below = |f: u64| f.saturating_sub(q.charge - x);
         (bound.map_or(Ok(w), |f| Err(below(f))), settled)
@@ -385,8 +475,7 @@ impl<T: Tally> Way for Lean<T> {
         };
         let none = ask.first(0, 0);
         self.tally.note(Event::Tight(core.len() + 1));
-        let beside: u64 = core.iter().map(|q| interrupts(q, 1)).sum();
-        ask.least = stall + none.charge + beside + interrupts(&none, 1);
+        ask.least = stall + none.charge + self.calls(core, 1) + self.calls(&[none], 1);
         let mut k = self.start(core, &ask) / grain;
         let mut found = None;
         while k >= 1 {

@@ -1,12 +1,6 @@
 //! What is planned and judged: both papers' workloads, sixteen cores with sixty-four tasks, the
 //! special sheets, and cores made to be slow. Random numbers come from a fixed seed.
 
-#![allow(
-    clippy::cast_possible_truncation,
-    clippy::cast_sign_loss,
-    clippy::cast_precision_loss
-)] // utilisations are drawn as f64 and become ticks below 2^20
-
 use std::fs;
 use std::path::Path;
 

@@ -46,6 +46,7 @@ impl<T: Tally> Papers<T> {
                 break None;
             }
             self.tally.note(Event::Climb(core.len()));
+            self.tally.note(Event::Divided(core.len()));
             let asked = core
                 .iter()
                 .map(|q| (length + q.period - 1) / q.period * q.job())
@@ -62,18 +63,22 @@ impl<T: Tally> Papers<T> {
     /// The demand at t.
     fn demand(&mut self, core: &[Lane], stall: u64, widest: u64, t: u64) -> u64 {
         self.tally.note(Event::Demand(core.len()));
-        let mut sum = if t < widest { stall } else { 0 };
+        let (mut sum, mut divided) = (if t < widest { stall } else { 0 }, 0);
         for q in core {
             if t + q.jitter >= q.window {
                 sum += (1 + (t + q.jitter - q.window) / q.period) * q.charge;
+                divided += 1;
             }
             if q.release > 0 {
                 sum += (t + q.jitter + q.period - 1) / q.period * q.release;
+                divided += 1;
             }
             if q.ipi > 0 {
                 sum += (t + q.ipij + q.period - 1) / q.period * q.ipi;
+                divided += 1;
             }
         }
+        self.tally.note(Event::Divided(divided));
         sum
     }
 
@@ -105,6 +110,7 @@ impl<T: Tally> Papers<T> {
     /// The interrupts of all pieces by t.
     fn interrupts(&mut self, core: &[Lane], t: u64) -> u64 {
         self.tally.note(Event::Tight(core.len()));
+        self.tally.note(Event::Divided(2 * core.len()));
         let of = |q: &Lane| {
             (t + q.jitter + q.period - 1) / q.period * q.release
                 + (t + q.ipij + q.period - 1) / q.period * q.ipi

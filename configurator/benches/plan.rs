@@ -3,6 +3,8 @@
 //! `cargo bench --bench plan` prints tables; behind `--` it takes `--json` (one object instead),
 //! `--quick` (a tenth of the sheets), `--svg DIR` (plots besides), and `--spin NAME`, which only has
 //! the library plan the workload of that name for five seconds, for a profiler to look on.
+//! `--hunt SECONDS` searches for slow inputs instead, from the seed in the environment variable
+//! `SPARDIMPLE_SEED`.
 //!
 //! Every workload is planned by the library, by its algorithms once more in plain Rust
 //! ([`counted`]), which are counted and whose listings must be the library's, and by the papers'
@@ -10,9 +12,14 @@
 //! a sheet to those of its listing.
 
 #![warn(clippy::all, clippy::pedantic)]
-#![allow(clippy::cast_precision_loss)] // counts become means, and nanoseconds ratios
+#![allow(
+    clippy::cast_precision_loss,
+    clippy::cast_possible_truncation,
+    clippy::cast_sign_loss
+)] // counts become means, nanoseconds ratios, and utilisations ticks
 
 mod counted;
+mod hunts;
 mod loads;
 mod papers;
 mod report;
@@ -22,12 +29,12 @@ mod tally;
 use std::env;
 use std::path::PathBuf;
 use std::process;
-use std::time::Instant;
+use std::time::{Duration, Instant};
 
 use configurator::{ffi, plan_into, Answer, Listed};
 
 use counted::{Lean, Verdict};
-use loads::{Load, Slow};
+use loads::{Load, Random, Slow};
 use papers::Papers;
 use report::{median, Measured, SlowCore, Timed, COLUMNS};
 use sheets::{Placed, Sheet};
@@ -40,6 +47,7 @@ struct Options {
     quick: bool,
     svg: Option<PathBuf>,
     spin: Option<String>,
+    hunt: Option<u64>,
 }
 
 fn options() -> Options {
@@ -52,8 +60,9 @@ fn options() -> Options {
             "--quick" => options.quick = true,
             "--svg" => options.svg = words.next().map(PathBuf::from),
             "--spin" => options.spin = words.next(),
+            "--hunt" => options.hunt = words.next().and_then(|word| word.parse().ok()),
             _ => {
-                eprintln!("plan [--json] [--quick] [--svg DIR] [--spin NAME], not {word}");
+                eprintln!("plan [--json] [--quick] [--svg DIR] [--spin NAME] [--hunt SECONDS], not {word}");
                 process::exit(2);
             }
         }
@@ -65,6 +74,9 @@ fn main() {
     let options = options();
     if let Some(name) = options.spin {
         return spin(&name);
+    }
+    if let Some(seconds) = options.hunt {
+        return hunt(Duration::from_secs(seconds));
     }
     let (each, rounds) = if options.quick { (1, 3) } else { (10, 9) };
     let mut measured = Vec::new();
@@ -106,6 +118,19 @@ fn spin(name: &str) {
         }
     }
     println!("{plans} plans");
+}
+
+/// Searches for slow inputs.
+fn hunt(time: Duration) {
+    let seed = env::var("SPARDIMPLE_SEED").ok();
+    let seed = seed.and_then(|seed| seed.parse().ok());
+    let random = &mut Random(seed.unwrap_or(loads::SEED));
+    let (candidates, sheet) = hunts::splits(Lean::new, time / 3, random);
+    println!("{candidates} candidates for one split:\n{sheet}");
+    let (candidates, sheet) = hunts::splits(Lean::next, time / 3, random);
+    println!("{candidates} candidates with the next ideas:\n{sheet}");
+    let (steps, core) = hunts::climbs(time / 3, random);
+    println!("{steps} steps to a busy length, budgets and periods {core:?}");
 }
 
 /// Counts and times one workload.
@@ -237,12 +262,14 @@ fn time_plans(sheets: &[Vec<u8>], rounds: usize) -> Timed {
                 papers.asks_usage = false;
                 sheets::plan(bytes, &mut papers)
             });
+            let (next, g) = clocked(|| sheets::plan(bytes, &mut Lean::next(Silent)));
             let (reading, f) = clocked(|| library(&bad, &mut buffer));
             assert_eq!(a, c.map(|listing| listing.len()));
+            assert_eq!(a, g.map(|listing| listing.len()));
             assert_eq!((b.is_ok(), b.is_ok()), (d.is_ok(), e.is_ok()));
             assert!(f.is_err());
             if round > 0 {
-                let all = [ours, theirs, again, walked, blind, reading];
+                let all = [ours, theirs, again, walked, blind, next, reading];
                 times
                     .iter_mut()
                     .zip(all)
@@ -279,7 +306,7 @@ fn time_verdicts(questions: &[Question], rounds: usize) -> Timed {
             assert_eq!(a, c);
             assert!(b <= CALLS);
             if round > 0 {
-                let all = [ours, theirs, again, 0.0, 0.0, 0.0];
+                let all = [ours, theirs, again, 0.0, 0.0, 0.0, 0.0];
                 times
                     .iter_mut()
                     .zip(all)

@@ -20,12 +20,14 @@ pub enum Column {
     PapersWalk,
     /// The papers' program without a look at the utilisation.
     PapersBlind,
+    /// The same with the next ideas.
+    Next,
     /// The library on the same sheet with a bad line behind: it reads, and refuses.
     Reading,
 }
 
 /// How many columns there are.
-pub const COLUMNS: usize = 6;
+pub const COLUMNS: usize = 7;
 
 /// Times in nanoseconds, one for each sheet or core in each column.
 #[derive(Default)]
@@ -68,7 +70,7 @@ impl Timed {
     /// What the library takes beyond reading in what the papers' program does, the median over
     /// sheets.
     pub fn walk_ratio(&self) -> f64 {
-        let [ours, _, _, walk, _, reading] = &self.columns;
+        let [ours, _, _, walk, _, _, reading] = &self.columns;
         let rest = ours.iter().zip(reading).map(|(all, read)| all - read);
         let ratios: Vec<f64> = rest.zip(walk).map(|(ours, walk)| ours / walk).collect();
         median(&ratios)
@@ -321,7 +323,7 @@ fn settled_table(loads: &[Measured]) -> String {
 
 fn work_table(loads: &[Measured]) -> String {
     let mut text = String::from(
-        "| workload | demands | climb steps (leaps) | tight windows | stretches | papers: demands | climb steps | tight windows | evaluations, ratio | pieces, ratio |\n|---|---|---|---|---|---|---|---|---|---|\n",
+        "| workload | demands | climb steps (leaps) | tight windows | stretches | papers: demands | climb steps | tight windows | evaluations, ratio | divisions, ratio |\n|---|---|---|---|---|---|---|---|---|---|\n",
     );
     for load in loads {
         let (ours, theirs) = (&load.counts, &load.papers);
@@ -339,7 +341,7 @@ fn work_table(loads: &[Measured]) -> String {
             each(theirs.climbs),
             each(theirs.tights),
             ours.evaluations() as f64 / theirs.evaluations().max(1) as f64,
-            ours.pieces as f64 / theirs.pieces.max(1) as f64,
+            ours.divisions as f64 / theirs.divisions.max(1) as f64,
         );
     }
     text
@@ -390,15 +392,16 @@ fn wrong_table(loads: &[Measured]) -> String {
 
 fn next_table(loads: &[Measured]) -> String {
     let mut text = String::from(
-        "| workload | candidates, mean (most) | with the next idea | evaluations | with the next idea |\n|---|---|---|---|---|\n",
+        "| workload | candidates, mean (most) | with the next ideas | evaluations | with the next ideas | divisions, the papers' being 1 | with the next ideas | time by rustc, the papers' being 1 | with the next ideas |\n|---|---|---|---|---|---|---|---|---|\n",
     );
     for load in loads {
         let now = spread(&load.counts.candidates);
         let next = spread(&load.next.candidates);
         let each = |counts: &Counts| counts.evaluations() as f64 / load.sheets as f64;
+        let theirs = load.papers.divisions.max(1) as f64;
         let _ = writeln!(
             text,
-            "| {} | {:.2} ({}) | {:.2} ({}) | {:.0} | {:.0} |",
+            "| {} | {:.2} ({}) | {:.2} ({}) | {:.0} | {:.0} | {:.2} | {:.2} | {} | {} |",
             load.name,
             now.mean,
             now.most,
@@ -406,6 +409,10 @@ fn next_table(loads: &[Measured]) -> String {
             next.most,
             each(&load.counts),
             each(&load.next),
+            load.counts.divisions as f64 / theirs,
+            load.next.divisions as f64 / theirs,
+            times(load.plan.ratio(Column::ByRustc)),
+            times(load.plan.ratio(Column::Next)),
         );
     }
     text
@@ -497,13 +504,14 @@ fn counts_json(counts: &Counts) -> String {
         )
     };
     format!(
-        "{{\"demands\": {}, \"climb_steps\": {}, \"leaps\": {}, \"tight_steps\": {}, \"stretches\": {}, \"pieces\": {}, \"candidates\": {}, \"lengths\": {}, \"climbs\": {}}}",
+        "{{\"demands\": {}, \"climb_steps\": {}, \"leaps\": {}, \"tight_steps\": {}, \"stretches\": {}, \"pieces\": {}, \"divisions\": {}, \"candidates\": {}, \"lengths\": {}, \"climbs\": {}}}",
         counts.demands,
         counts.climbs,
         counts.leaps,
         counts.tights,
         counts.stretches,
         counts.pieces,
+        counts.divisions,
         list(&counts.candidates),
         list(&counts.lengths),
         list(&counts.steps)

@@ -16,6 +16,8 @@ pub enum Event {
     Climbed,
     /// The interrupts of that many pieces were evaluated: one step to a tight window.
     Tight(usize),
+    /// That many divisions were made.
+    Divided(usize),
     /// A split was tried, and that is what settled it.
     Candidate(Settled),
     /// The search for a split ended.
@@ -88,6 +90,8 @@ pub struct Counts {
     pub tights: u64,
     /// Pieces looked at in all of these.
     pub pieces: u64,
+    /// Divisions made in these.
+    pub divisions: u64,
     /// Splits tried, for each search.
     pub candidates: Vec<u64>,
     /// Lengths looked at, for each verdict on a core with a busy length.
@@ -127,6 +131,7 @@ impl Tally for Counts {
                 self.tights += 1;
                 self.pieces += pieces as u64;
             }
+            Event::Divided(times) => self.divisions += times as u64,
             Event::Candidate(how) => {
                 self.tried += 1;
                 for (settled, count) in Settled::ALL.iter().zip(&mut self.settled) {
