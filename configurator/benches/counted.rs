@@ -2,6 +2,8 @@
 //! with care at the largest window, and the lean search for a split. They are written from the
 //! Rattle source to be counted, and to be timed by another compiler; the listings are compared.
 
+#![allow(clippy::many_single_char_names)] // the letters are those of document 01 and of the source
+
 use configurator::plain::piece::Costs;
 
 use crate::sheets::{first_of, last_of, Lane, Way};
@@ -15,9 +17,9 @@ pub struct Lean<T: Tally> {
     /// Who counts.
     pub tally: T,
     /// Whether the next ideas are tried, which the library does not have: nothing is divided for a
-    /// cost of 0, shares are divided once a climb, and a candidate without a busy length
+    /// cost of 0, shares are divided once a climb, a candidate without a busy length
     /// ([`Lean::busy_cap`]) or within its own blocking ([`Lean::own_cap`]) tells how far down the
-    /// next may stand.
+    /// next may stand, and the start knows the stall ([`Lean::tight_end`]).
     next: bool,
 }
 
@@ -375,11 +377,39 @@ impl<T: Tally> Lean<T> {
         None
     }
 
+    /// What the t of each allowed split's tight window is below, up to `room`: the jobs of the core
+    /// that are due by then are charged no more than the stall where the task has no jitter, and
+    /// none is due where it has. What is due never falls, so it may be bisected.
+    fn tight_end(&mut self, core: &[Lane], ask: &Ask<'_>, room: u64) -> u64 {
+        let most = if ask.times[3] == 0 { ask.stall } else { 0 };
+        let soonest = least_live(core);
+        let mut more = |t| {
+            self.tally.note(Event::Demand(core.len()));
+            self.tally.note(Event::Divided(due(core, t)));
+            let charges: u64 = core.iter().map(|q| jobs_due(q, t) * q.charge).sum();
+            charges > most
+        };
+        if room <= soonest || more(soonest) {
+            return room.min(soonest);
+        }
+        let (mut calm, mut end) = (soonest, room);
+        while end - calm > 1 {
+            let middle = (calm + end) / 2;
+            if more(middle) {
+                end = middle;
+            } else {
+                calm = middle;
+            }
+        }
+        end
+    }
+
     /// Where the search starts: no allowed split is above.
     fn start(&mut self, core: &mut Vec<Lane>, ask: &Ask<'_>) -> u64 {
         let room = ask.times[1].saturating_sub(ask.times[3]);
         let end = match core.first() {
             None => room,
+            Some(_) if self.next => self.tight_end(core, ask, room),
             Some(head) if ask.times[3] == 0 && head.charge <= ask.stall => room,
             Some(_) => room.min(least_live(core)),
         };

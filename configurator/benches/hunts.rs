@@ -1,6 +1,7 @@
 //! Searches for inputs that are slow: sheets with many candidates for a split, and cores with a long
 //! climb to the busy length. Each keeps the worst found so far and changes it a little.
 
+use std::fmt::Write as _;
 use std::time::{Duration, Instant};
 
 use configurator::plain::piece::Costs;
@@ -39,6 +40,21 @@ fn times(random: &mut Random) -> [u64; 6] {
     [budget, deadline, period, jitter, preempt, 0]
 }
 
+/// Times brought within their sizes.
+fn within(times: [u64; 6]) -> [u64; 6] {
+    let [budget, deadline, period, jitter, preempt, migrate] = times;
+    let period = period.clamp(1, 1_000_000);
+    let deadline = deadline.clamp(1, period);
+    [
+        budget.clamp(1, deadline),
+        deadline,
+        period,
+        jitter.min(1_000_000),
+        preempt.min(100_000),
+        migrate,
+    ]
+}
+
 /// The sheet's text.
 fn text(sheet: &Sheet<'_>) -> String {
     let row = |numbers: &[u64]| -> String {
@@ -46,12 +62,12 @@ fn text(sheet: &Sheet<'_>) -> String {
         words.join("\t")
     };
     let mut text = format!("machine\t{}\t{}\n", sheet.cores, sheet.grain);
-    text += &format!("cost\t{}\n", row(&sheet.costs.numbers()));
+    let _ = writeln!(text, "cost\t{}", row(&sheet.costs.numbers()));
     for (place, task) in sheet.tasks.iter().enumerate() {
-        text += &format!("part\tp{place}\t{}\n", row(&task.times));
+        let _ = writeln!(text, "part\tp{place}\t{}", row(&task.times));
     }
     for place in 0..sheet.tasks.len() {
-        text += &format!("fit\tt{place}\tp{place}\n");
+        let _ = writeln!(text, "fit\tt{place}\tp{place}");
     }
     text
 }
@@ -95,10 +111,7 @@ pub fn splits(
                     } else {
                         *value + change
                     };
-                    let [c, d, t, j, p, m] = list[place];
-                    let t = t.clamp(1, 1_000_000);
-                    let d = d.clamp(1, t);
-                    list[place] = [c.clamp(1, d), d, t, j.min(1_000_000), p.min(100_000), m];
+                    list[place] = within(list[place]);
                 }
             }
             let sheet = Sheet {

@@ -1,6 +1,7 @@
 //! What is planned and judged: both papers' workloads, sixteen cores with sixty-four tasks, the
 //! special sheets, and cores made to be slow. Random numbers come from a fixed seed.
 
+use std::fmt::Write as _;
 use std::fs;
 use std::path::Path;
 
@@ -31,12 +32,24 @@ impl Random {
     }
 }
 
+/// Where a workload comes from.
+#[derive(Clone, Copy, Debug, Default, PartialEq, Eq)]
+pub enum Source {
+    /// A paper.
+    #[default]
+    Paper,
+    /// Asked for beside the papers'.
+    Asked,
+    /// Made to be slow.
+    Made,
+}
+
 /// A workload: its name and its sheets.
 pub struct Load {
     /// What it is called in the tables.
     pub name: String,
-    /// Whether a paper has it.
-    pub of_a_paper: bool,
+    /// Where it comes from.
+    pub source: Source,
     /// The sheets.
     pub sheets: Vec<Vec<u8>>,
 }
@@ -92,15 +105,18 @@ impl Draw {
                 Deadlines::Implicit => period,
                 Deadlines::Constrained => random.between(budget, period),
             };
-            parts += &format!("part\tp{place}\t{budget}\t{deadline}\t{period}\t0\t{charges}\n");
-            fits += &format!("fit\tt{place}\tp{place}\n");
+            let _ = writeln!(
+                parts,
+                "part\tp{place}\t{budget}\t{deadline}\t{period}\t0\t{charges}"
+            );
+            let _ = writeln!(fits, "fit\tt{place}\tp{place}");
         }
         let head = format!("machine\t{}\t1\ncost\t{costs}\n", self.cores);
         (head + &parts + &fits).into_bytes()
     }
 
     /// A workload of that many sheets for each utilisation.
-    fn load(&self, name: &str, of_a_paper: bool, each: usize, random: &mut Random) -> Load {
+    fn load(&self, name: &str, source: Source, each: usize, random: &mut Random) -> Load {
         let mut sheets = Vec::new();
         for &total in &self.utilisations {
             for _ in 0..each {
@@ -109,7 +125,7 @@ impl Draw {
         }
         Load {
             name: name.to_owned(),
-            of_a_paper,
+            source,
             sheets,
         }
     }
@@ -153,7 +169,12 @@ pub fn loads(each: usize) -> Vec<Load> {
                 costs,
             };
             let with = if costs { "costs" } else { "no costs" };
-            loads.push(draw.load(&format!("000 n={tasks}, {with}"), true, each, random));
+            loads.push(draw.load(
+                &format!("000 n={tasks}, {with}"),
+                Source::Paper,
+                each,
+                random,
+            ));
         }
     }
     for deadlines in [Deadlines::Implicit, Deadlines::Constrained] {
@@ -171,7 +192,12 @@ pub fn loads(each: usize) -> Vec<Load> {
             } else {
                 "D≤T"
             };
-            loads.push(draw.load(&format!("001 n={tasks}, {with}"), true, 12 * each, random));
+            loads.push(draw.load(
+                &format!("001 n={tasks}, {with}"),
+                Source::Paper,
+                12 * each,
+                random,
+            ));
         }
     }
     let third = Draw {
@@ -182,7 +208,7 @@ pub fn loads(each: usize) -> Vec<Load> {
         deadlines: Deadlines::Constrained,
         costs: false,
     };
-    loads.push(third.load("001 m=4, n=12, D≤T", true, (each + 2) / 3, random));
+    loads.push(third.load("001 m=4, n=12, D≤T", Source::Paper, (each + 2) / 3, random));
     for (name, periods, costs) in [
         ("16 × 64, costs", Periods::Uniform, true),
         ("16 × 64, no costs", Periods::Uniform, false),
@@ -201,9 +227,14 @@ pub fn loads(each: usize) -> Vec<Load> {
             deadlines: Deadlines::Implicit,
             costs,
         };
-        loads.push(draw.load(name, false, each, random));
+        loads.push(draw.load(name, Source::Asked, each, random));
     }
     loads.extend(special());
+    loads.extend(MADE.iter().map(|(name, sheet)| Load {
+        name: (*name).to_owned(),
+        source: Source::Made,
+        sheets: vec![sheet.as_bytes().to_vec()],
+    }));
     loads
 }
 
@@ -219,7 +250,7 @@ fn special() -> Vec<Load> {
                 "special, {}",
                 path.file_stem().unwrap_or_default().to_string_lossy()
             ),
-            of_a_paper: false,
+            source: Source::Asked,
             sheets: vec![fs::read(&path).expect("a sheet")],
         })
         .collect();
@@ -229,33 +260,90 @@ fn special() -> Vec<Load> {
 
 /// A core made to be slow.
 pub struct Slow {
-    /// Its periods.
+    /// Its periods, with the budgets that are not 1.
     pub name: String,
     /// Its records.
     pub records: Vec<u8>,
 }
 
-/// The periods of cores made to be slow, each piece with a budget of 1 and D = T, no costs: those
-/// of the study, then the slowest that a search found.
-const SLOW: [&[u32]; 4] = [
-    &[1, 1_000_000],
-    &[2, 3, 7, 43, 1_810, 817_214],
-    &[2, 3, 7, 43, 1_830, 165_615, 817_215],
-    &[2, 3, 240, 11, 668, 352, 17, 247, 230, 30_254],
+/// Sheets with as many candidates for a split as a search by machine and by hand found. A cost
+/// that is no charge, `IpB`, is above the charge of the one piece on the core.
+const MADE: [(&str, &str); 2] = [
+    (
+        "made, own blocking",
+        "machine\t2\t1
+cost\t0\t0\t0\t2\t0\t0\t0\t0\t0
+part\tp0\t1\t1\t1000000\t0\t0\t0
+part\tp1\t999990\t1000000\t1000000\t0\t0\t0
+fit\tt0\tp0
+fit\tt1\tp1
+",
+    ),
+    (
+        "made, short steps",
+        "machine\t2\t1
+cost\t0\t0\t0\t1\t6067\t2353\t3\t1911\t0
+part\tp0\t991398\t1000000\t1000000\t0\t76\t0
+part\tp1\t1\t1\t35801\t0\t0\t0
+fit\tt0\tp0
+fit\tt1\tp1
+",
+    ),
+];
+
+/// Budgets and periods of cores made to be slow, D = T, no costs: those of the study, then the
+/// slowest that searches found.
+const SLOW: [&[(u32, u32)]; 5] = [
+    &[(1, 1), (1, 1_000_000)],
+    &[(1, 2), (1, 3), (1, 7), (1, 43), (1, 1_810), (1, 817_214)],
+    &[
+        (1, 2),
+        (1, 3),
+        (1, 7),
+        (1, 43),
+        (1, 1_830),
+        (1, 165_615),
+        (1, 817_215),
+    ],
+    &[
+        (1, 2),
+        (1, 3),
+        (1, 240),
+        (1, 11),
+        (1, 668),
+        (1, 352),
+        (1, 17),
+        (1, 247),
+        (1, 230),
+        (1, 30_254),
+    ],
+    &[
+        (1, 4552),
+        (1, 12),
+        (3, 85),
+        (3, 20),
+        (14, 275),
+        (16, 523),
+        (1, 365),
+        (2, 13),
+        (1, 116),
+        (3, 75),
+        (36, 81),
+    ],
 ];
 
 /// The cores made to be slow.
 pub fn slow() -> Vec<Slow> {
+    let name = |&(budget, period): &(u32, u32)| match budget {
+        1 => period.to_string(),
+        _ => format!("{budget}/{period}"),
+    };
     SLOW.iter()
-        .map(|periods| Slow {
-            name: periods
+        .map(|pieces| Slow {
+            name: pieces.iter().map(name).collect::<Vec<_>>().join(", "),
+            records: pieces
                 .iter()
-                .map(u32::to_string)
-                .collect::<Vec<_>>()
-                .join(", "),
-            records: periods
-                .iter()
-                .flat_map(|&period| [0, 1, period, period, 0, 0, 0])
+                .flat_map(|&(budget, period)| [0, budget, period, period, 0, 0, 0])
                 .flat_map(u32::to_le_bytes)
                 .collect(),
         })

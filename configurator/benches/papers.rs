@@ -173,7 +173,7 @@ impl<T: Tally> Way for Papers<T> {
             None
         } else {
             let last = Lane::of(costs, 2, &last_of(costs, times, budget, low));
-            self.schedulable(&[last], stall).then(|| (budget, low))
+            self.schedulable(&[last], stall).then_some((budget, low))
         };
         self.tally.note(Event::Searched);
         found

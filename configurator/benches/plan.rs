@@ -143,7 +143,7 @@ fn measure(load: &Load, rounds: usize) -> Measured {
     spanned.whole_span = true;
     let mut measured = Measured {
         name: load.name.clone(),
-        of_a_paper: load.of_a_paper,
+        source: load.source,
         sheets: load.sheets.len(),
         ..Measured::default()
     };
@@ -222,14 +222,14 @@ fn asked(sheet: &Sheet<'_>, placed: &[Placed]) -> Vec<Question> {
     let mut here = 0;
     for piece in placed {
         let whole = record(0, &sheet.tasks[piece.task].times);
-        if piece.kind != 2 {
+        if piece.kind == 2 {
+            row.clear();
+        } else {
             if piece.core != here {
                 questions.push(([&row[..], &whole].concat(), costs.clone()));
                 row.clear();
             }
             questions.push(([&row[..], &whole].concat(), costs.clone()));
-        } else {
-            row.clear();
         }
         here = piece.core;
         row.extend(record(piece.kind, &piece.fields));
@@ -247,75 +247,79 @@ fn clocked<R>(call: impl FnOnce() -> R) -> (f64, R) {
 /// Plans each sheet in turns; the median of the rounds stands for a sheet.
 fn time_plans(sheets: &[Vec<u8>], rounds: usize) -> Timed {
     let mut buffer = vec![0; 8_192];
-    let mut timed = Timed::default();
+    let mut table = Timed::default();
     for bytes in sheets {
         let sheet = sheets::read(bytes).expect("a sheet that is read");
         let bad = [&bytes[..], b"fit\tno-task\tno-part\n"].concat();
-        let mut times: [Vec<f64>; COLUMNS] = Default::default();
+        let mut columns: [Vec<f64>; COLUMNS] = Default::default();
         for round in 0..=rounds {
-            let (ours, a) = clocked(|| library(bytes, &mut buffer));
-            let (theirs, b) = clocked(|| sheets::plan(bytes, &mut Papers::new(Silent)));
-            let (again, c) = clocked(|| sheets::plan(bytes, &mut Lean::new(Silent)));
-            let (walked, d) = clocked(|| sheets::walk(&sheet, &mut Papers::new(Silent)));
-            let (blind, e) = clocked(|| {
+            let (library_took, listed) = clocked(|| library(bytes, &mut buffer));
+            let (papers_took, papers) =
+                clocked(|| sheets::plan(bytes, &mut Papers::new(Silent)).is_ok());
+            let (copy_took, copy) = clocked(|| sheets::plan(bytes, &mut Lean::new(Silent)));
+            let (walk_took, walked) =
+                clocked(|| sheets::walk(&sheet, &mut Papers::new(Silent)).is_ok());
+            let (blind_took, blind) = clocked(|| {
                 let mut papers = Papers::new(Silent);
                 papers.asks_usage = false;
-                sheets::plan(bytes, &mut papers)
+                sheets::plan(bytes, &mut papers).is_ok()
             });
-            let (next, g) = clocked(|| sheets::plan(bytes, &mut Lean::next(Silent)));
-            let (reading, f) = clocked(|| library(&bad, &mut buffer));
-            assert_eq!(a, c.map(|listing| listing.len()));
-            assert_eq!(a, g.map(|listing| listing.len()));
-            assert_eq!((b.is_ok(), b.is_ok()), (d.is_ok(), e.is_ok()));
-            assert!(f.is_err());
+            let (next_took, next) = clocked(|| sheets::plan(bytes, &mut Lean::next(Silent)));
+            let (reading_took, refused) = clocked(|| library(&bad, &mut buffer));
+            assert_eq!(listed, copy.map(|listing| listing.len()));
+            assert_eq!(listed, next.map(|listing| listing.len()));
+            assert_eq!([papers; 2], [walked, blind]);
+            assert!(refused.is_err());
             if round > 0 {
-                let all = [ours, theirs, again, walked, blind, next, reading];
-                times
-                    .iter_mut()
-                    .zip(all)
-                    .for_each(|(to, time)| to.push(time));
+                let all = [
+                    library_took,
+                    papers_took,
+                    copy_took,
+                    walk_took,
+                    blind_took,
+                    next_took,
+                    reading_took,
+                ];
+                put(&mut columns, all);
             }
         }
-        timed.push(times.map(|times| median(&times)));
+        table.push(columns.map(|column| median(&column)));
     }
-    timed
+    table
+}
+
+/// One time more in each column.
+fn put(columns: &mut [Vec<f64>; COLUMNS], took: [f64; COLUMNS]) {
+    for (column, took) in columns.iter_mut().zip(took) {
+        column.push(took);
+    }
 }
 
 /// Judges each core in turns; the median of the rounds stands for a core.
 fn time_verdicts(questions: &[Question], rounds: usize) -> Timed {
     const CALLS: usize = 4;
-    let mut timed = Timed::default();
+    let each = |took: f64| took / CALLS as f64;
+    let mut table = Timed::default();
     for (records, costs) in questions {
-        let mut times: [Vec<f64>; COLUMNS] = Default::default();
+        let mut columns: [Vec<f64>; COLUMNS] = Default::default();
         for round in 0..=rounds {
-            let (ours, a) = clocked(|| {
-                (0..CALLS)
-                    .filter(|_| ffi::verdict(records, costs) == 0)
-                    .count()
-            });
-            let (theirs, b) = clocked(|| {
-                (0..CALLS)
-                    .filter(|_| papers_verdict(records, costs))
-                    .count()
-            });
-            let (again, c) = clocked(|| {
-                (0..CALLS)
-                    .filter(|_| lean_verdict(records, costs) == Verdict::Passes)
-                    .count()
-            });
-            assert_eq!(a, c);
-            assert!(b <= CALLS);
+            let passes = || ffi::verdict(records, costs) == 0;
+            let (library_took, ours) = clocked(|| (0..CALLS).filter(|_| passes()).count());
+            let passes = || papers_verdict(records, costs);
+            let (papers_took, theirs) = clocked(|| (0..CALLS).filter(|_| passes()).count());
+            let passes = || lean_verdict(records, costs) == Verdict::Passes;
+            let (copy_took, copy) = clocked(|| (0..CALLS).filter(|_| passes()).count());
+            assert_eq!(ours, copy);
+            assert!(theirs <= CALLS);
             if round > 0 {
-                let all = [ours, theirs, again, 0.0, 0.0, 0.0, 0.0];
-                times
-                    .iter_mut()
-                    .zip(all)
-                    .for_each(|(to, time)| to.push(time / CALLS as f64));
+                let mut all = [0.0; COLUMNS];
+                all[..3].copy_from_slice(&[each(library_took), each(papers_took), each(copy_took)]);
+                put(&mut columns, all);
             }
         }
-        timed.push(times.map(|times| median(&times)));
+        table.push(columns.map(|column| median(&column)));
     }
-    timed
+    table
 }
 
 /// The papers' answer on lent bytes.

@@ -5,6 +5,7 @@ use std::fs;
 use std::io;
 use std::path::Path;
 
+use crate::loads::Source;
 use crate::tally::Counts;
 
 /// What is timed.
@@ -82,8 +83,8 @@ impl Timed {
 pub struct Measured {
     /// Its name.
     pub name: String,
-    /// Whether a paper has it.
-    pub of_a_paper: bool,
+    /// Where it comes from.
+    pub source: Source,
     /// How many sheets it has.
     pub sheets: usize,
     /// How many of them have a plan.
@@ -204,7 +205,14 @@ pub fn tables(loads: &[Measured], slow: &[SlowCore]) -> String {
 }
 
 fn targets(loads: &[Measured], slow: &[SlowCore]) -> String {
-    let papers: Vec<&Measured> = loads.iter().filter(|load| load.of_a_paper).collect();
+    let papers: Vec<&Measured> = loads
+        .iter()
+        .filter(|load| load.source == Source::Paper)
+        .collect();
+    let asked: Vec<&Measured> = loads
+        .iter()
+        .filter(|load| load.source != Source::Made)
+        .collect();
     let means = |load: &&Measured| spread(&load.counts.candidates).mean;
     let mean = papers.iter().map(means).fold(0.0, f64::max);
     let tried = |load: &Measured| spread(&load.counts.candidates).most;
@@ -215,13 +223,13 @@ fn targets(loads: &[Measured], slow: &[SlowCore]) -> String {
     let climb = all.map(|counts| spread(&counts.steps).most).max();
     let lengths = |load: &&Measured| spread(&load.counts.lengths).median;
     let looked = papers.iter().map(lengths).max().unwrap_or(0);
-    let plans: Vec<f64> = loads
+    let plans: Vec<f64> = asked
         .iter()
         .map(|load| load.plan.ratio(Column::Library))
         .collect();
     let plan_most = plans.iter().copied().fold(0.0, f64::max);
     let plan_median = median(&plans);
-    let verdicts = loads.iter().map(|load| load.verdict.ratio(Column::Library));
+    let verdicts = asked.iter().map(|load| load.verdict.ratio(Column::Library));
     let verdict_most = verdicts.fold(0.0, f64::max);
     let climb = climb.unwrap_or(0);
     let mut text = String::from("| target | asked | measured | |\n|---|---|---|---|\n");
@@ -570,7 +578,8 @@ pub fn plots(folder: &Path, loads: &[Measured]) -> io::Result<()> {
     };
     let bars = |of: &dyn Fn(&Measured) -> (f64, f64)| -> Vec<(String, f64, f64)> {
         let bar = |load: &Measured| (load.name.clone(), of(load).0, of(load).1);
-        loads.iter().map(bar).collect()
+        let asked = loads.iter().filter(|load| load.source != Source::Made);
+        asked.map(bar).collect()
     };
     fs::create_dir_all(folder)?;
     fs::write(

@@ -13,6 +13,8 @@ mod sheets;
 #[path = "../benches/tally.rs"]
 mod tally;
 
+use std::fmt::Write as _;
+
 use common::sheets::{full_load, SheetDraw};
 use common::{bytes, cases, Random};
 use configurator::plan;
@@ -98,8 +100,9 @@ fn long_blocking() {
             let deadline = random.between(1, period);
             let budget = random.between(1, deadline);
             let jitter = random.pick(&[0, 0, 0, 1, 9]);
-            parts += &format!("part\tp{task}\t{budget}\t{deadline}\t{period}\t{jitter}\t0\t0\n");
-            fits += &format!("fit\tt{task}\tp{task}\n");
+            let times = format!("{budget}\t{deadline}\t{period}\t{jitter}\t0\t0");
+            let _ = writeln!(parts, "part\tp{task}\t{times}");
+            let _ = writeln!(fits, "fit\tt{task}\tp{task}");
         }
         let costs = format!("{}\t0\t0\t{blocking}\t0\t0\t0\t0", random.pick(&[0, 0, 1]));
         let sheet = format!("machine\t3\t1\ncost\t{costs}\t0\n{parts}{fits}");
