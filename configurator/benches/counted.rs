@@ -17,9 +17,9 @@ pub struct Lean<T: Tally> {
     /// Who counts.
     pub tally: T,
     /// Whether the next ideas are tried, which the library does not have: nothing is divided for a
-    /// cost of 0, shares are divided once a climb, a candidate without a busy length
-    /// ([`Lean::busy_cap`]) or within its own blocking ([`Lean::own_cap`]) tells how far down the
-    /// next may stand, and the start knows the stall ([`Lean::tight_end`]).
+    /// cost of 0, shares are divided once a climb, every candidate tells how far down the next may
+    /// stand ([`Lean::busy_cap`], [`Lean::own_cap`], [`Lean::last_cap`], [`Lean::window_cap`]), and
+    /// the start knows the stall ([`Lean::tight_end`]).
     next: bool,
 }
 
@@ -321,7 +321,7 @@ impl<T: Tally> Lean<T> {
             0 => 0,
             jobs => t.saturating_sub(rest) / jobs,
         };
-        let tight = t.saturating_sub(q.jitter + ask.least);
+        let tight = self.window_cap(core, ask, x, t.saturating_sub(q.jitter));
         fits.max(q.charge - x + tight)
     }
 
@@ -425,6 +425,45 @@ impl<T: Tally> Lean<T> {
         cap.saturating_sub(q.charge - x)
     }
 
+    /// The greatest budget below x that has a tight window by `top`. A smaller one has a smaller, so
+    /// it may be bisected.
+    fn window_cap(&mut self, core: &[Lane], ask: &Ask<'_>, x: u64, top: u64) -> u64 {
+        let mut all = core.to_vec();
+        all.push(ask.first(0, 0));
+        let free = ask.first(0, 0).charge;
+        let (mut with, mut without) = (0, x);
+        while without - with > 1 {
+            let middle = (with + without) / 2;
+            let found = self.tight(&all, ask.stall + free + middle, top);
+            if found.is_some() {
+                with = middle;
+            } else {
+                without = middle;
+            }
+        }
+        with
+    }
+
+    /// What no smaller budget is above whose last piece passes, where the last piece beside the
+    /// tight t is overloaded by that excess: the interrupts by the smaller one's tight t are fewer
+    /// by as much, and they never fall, so the greatest such t may be bisected.
+    fn last_cap(&mut self, core: &[Lane], ask: &Ask<'_>, x: u64, t: u64, excess: u64) -> u64 {
+        let mut all = core.to_vec();
+        all.push(ask.first(0, 0));
+        let most = self.calls(&all, t).saturating_sub(excess);
+        let (mut fewer, mut more) = (0, t);
+        while more - fewer > 1 {
+            let middle = (fewer + more) / 2;
+            self.tally.note(Event::Tight(all.len()));
+            if self.calls(&all, middle) <= most {
+                fewer = middle;
+            } else {
+                more = middle;
+            }
+        }
+        self.window_cap(core, ask, x, fewer)
+    }
+
     /// One candidate: its window where it is allowed, or how far down the next may stand; and what
     /// settled it.
     fn try_split(
@@ -441,6 +480,9 @@ impl<T: Tally> Lean<T> {
         let tight = self.tight(core, ask.stall + wide.charge, top);
         core.truncate(n);
         let t = match tight {
+            None if self.next => {
+                return (Err(self.window_cap(core, ask, x, top)), Settled::NoWindow);
+            }
             None => return (Err(x - 1), Settled::NoWindow),
             Some(t) => t,
         };
@@ -451,10 +493,16 @@ impl<T: Tally> Lean<T> {
             Verdict::Passes => {}
             Verdict::Undecided => return (Err(0), Settled::LastEnds),
             Verdict::Overloaded(t) => {
-                if t + slack < self.demand(&last, ask.stall, deadline - w, t) {
+                let g = self.demand(&last, ask.stall, deadline - w, t);
+                if t + slack < g {
                     return (Err(0), Settled::LastEnds);
                 }
-                return (Err(x - 1), Settled::LastFalls);
+                let below = if self.next {
+                    self.last_cap(core, ask, x, w - jitter, g - t)
+                } else {
+                    x - 1
+                };
+                return (Err(below), Settled::LastFalls);
             }
         }
         let q = ask.first(x, w);

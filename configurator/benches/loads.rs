@@ -268,7 +268,7 @@ pub struct Slow {
 
 /// Sheets with as many candidates for a split as a search by machine and by hand found. A cost
 /// that is no charge, `IpB`, is above the charge of the one piece on the core.
-const MADE: [(&str, &str); 2] = [
+const MADE: [(&str, &str); 3] = [
     (
         "made, own blocking",
         "machine\t2\t1
@@ -289,11 +289,21 @@ fit\tt0\tp0
 fit\tt1\tp1
 ",
     ),
+    (
+        "made, last falls",
+        "machine\t2\t1
+cost\t1\t0\t0\t29004\t0\t0\t1\t758\t0
+part\tp0\t333\t367\t31460\t0\t0\t0
+part\tp1\t123730\t181194\t956025\t0\t0\t0
+fit\tt0\tp0
+fit\tt1\tp1
+",
+    ),
 ];
 
 /// Budgets and periods of cores made to be slow, D = T, no costs: those of the study, then the
 /// slowest that searches found.
-const SLOW: [&[(u32, u32)]; 5] = [
+const SLOW: [&[(u32, u32)]; 6] = [
     &[(1, 1), (1, 1_000_000)],
     &[(1, 2), (1, 3), (1, 7), (1, 43), (1, 1_810), (1, 817_214)],
     &[
@@ -329,6 +339,18 @@ const SLOW: [&[(u32, u32)]; 5] = [
         (1, 116),
         (3, 75),
         (36, 81),
+    ],
+    &[
+        (1, 12),
+        (1, 96),
+        (1, 163),
+        (1, 35),
+        (6, 159),
+        (1, 10),
+        (7, 222),
+        (1, 62),
+        (1, 11),
+        (25, 42),
     ],
 ];
 
