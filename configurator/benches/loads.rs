@@ -148,10 +148,12 @@ fn uunifast(tasks: usize, total: f64, random: &mut Random) -> Vec<f64> {
     }
 }
 
-/// From `least` to `most` hundredths of that many cores, in steps.
-fn utilisations(cores: f64, least: u32, most: u32, steps: u32) -> Vec<f64> {
-    let step = |k| f64::from(least) + f64::from(most - least) * f64::from(k) / f64::from(steps);
-    (0..=steps).map(|k| cores * step(k) / 100.0).collect()
+/// That many cores used from `least` to `most` thousandths, in steps of 25.
+fn utilisations(cores: u32, least: usize, most: usize) -> Vec<f64> {
+    (least..=most)
+        .step_by(25)
+        .map(|share| f64::from(cores) * share as f64 / 1_000.0)
+        .collect()
 }
 
 /// All workloads; `each` is about how many sheets one has for each twelfth of it.
@@ -163,7 +165,7 @@ pub fn loads(each: usize) -> Vec<Load> {
             let draw = Draw {
                 cores: 8,
                 tasks,
-                utilisations: utilisations(8.0, 70, 97, 11),
+                utilisations: utilisations(8, 700, 975),
                 periods: Periods::Uniform,
                 deadlines: Deadlines::Implicit,
                 costs,
@@ -203,7 +205,7 @@ pub fn loads(each: usize) -> Vec<Load> {
     let third = Draw {
         cores: 4,
         tasks: 12,
-        utilisations: utilisations(4.0, 2, 97, 38),
+        utilisations: utilisations(4, 25, 975),
         periods: Periods::Logarithmic(1_000),
         deadlines: Deadlines::Constrained,
         costs: false,
@@ -222,7 +224,7 @@ pub fn loads(each: usize) -> Vec<Load> {
         let draw = Draw {
             cores: 16,
             tasks: 64,
-            utilisations: utilisations(16.0, 70, 97, 11),
+            utilisations: utilisations(16, 700, 975),
             periods,
             deadlines: Deadlines::Implicit,
             costs,
