@@ -262,7 +262,7 @@ fn special() -> Vec<Load> {
 
 /// A core made to be slow.
 pub struct Slow {
-    /// Its periods, with the budgets that are not 1.
+    /// Its budgets in periods.
     pub name: String,
     /// Its records.
     pub records: Vec<u8>,
@@ -303,73 +303,34 @@ fit\tt1\tp1
     ),
 ];
 
-/// Budgets and periods of cores made to be slow, D = T, no costs: those of the study, then the
-/// slowest that searches found.
-const SLOW: [&[(u32, u32)]; 6] = [
-    &[(1, 1), (1, 1_000_000)],
-    &[(1, 2), (1, 3), (1, 7), (1, 43), (1, 1_810), (1, 817_214)],
-    &[
-        (1, 2),
-        (1, 3),
-        (1, 7),
-        (1, 43),
-        (1, 1_830),
-        (1, 165_615),
-        (1, 817_215),
-    ],
-    &[
-        (1, 2),
-        (1, 3),
-        (1, 240),
-        (1, 11),
-        (1, 668),
-        (1, 352),
-        (1, 17),
-        (1, 247),
-        (1, 230),
-        (1, 30_254),
-    ],
-    &[
-        (1, 4552),
-        (1, 12),
-        (3, 85),
-        (3, 20),
-        (14, 275),
-        (16, 523),
-        (1, 365),
-        (2, 13),
-        (1, 116),
-        (3, 75),
-        (36, 81),
-    ],
-    &[
-        (1, 12),
-        (1, 96),
-        (1, 163),
-        (1, 35),
-        (6, 159),
-        (1, 10),
-        (7, 222),
-        (1, 62),
-        (1, 11),
-        (25, 42),
-    ],
+/// Cores made to be slow, by budgets in periods, D = T, no costs: those of the study; the slowest
+/// that searches found; and small periods that share no factor, whose loads leave almost nothing.
+const SLOW: [&str; 7] = [
+    "1/1, 1/1000000",
+    "1/2, 1/3, 1/7, 1/43, 1/1810, 1/817214",
+    "1/2, 1/3, 1/7, 1/43, 1/1830, 1/165615, 1/817215",
+    "1/2, 1/3, 1/240, 1/11, 1/668, 1/352, 1/17, 1/247, 1/230, 1/30254",
+    "1/4552, 1/12, 3/85, 3/20, 14/275, 16/523, 1/365, 2/13, 1/116, 3/75, 36/81",
+    "1/12, 1/96, 1/163, 1/35, 6/159, 1/10, 7/222, 1/62, 1/11, 25/42",
+    "5/37, 1/32, 5/27, 1/25, 4/35, 4/31, 1/29, 5/23, 1/19, 2/33",
 ];
 
 /// The cores made to be slow.
 pub fn slow() -> Vec<Slow> {
-    let name = |&(budget, period): &(u32, u32)| match budget {
-        1 => period.to_string(),
-        _ => format!("{budget}/{period}"),
-    };
-    SLOW.iter()
-        .map(|pieces| Slow {
-            name: pieces.iter().map(name).collect::<Vec<_>>().join(", "),
-            records: pieces
-                .iter()
-                .flat_map(|&(budget, period)| [0, budget, period, period, 0, 0, 0])
-                .flat_map(u32::to_le_bytes)
-                .collect(),
-        })
-        .collect()
+    SLOW.iter().filter_map(|list| core_of(list)).collect()
+}
+
+/// The core of such pieces as `1/2, 3/7`, a budget in a period.
+pub fn core_of(list: &str) -> Option<Slow> {
+    let mut records = Vec::new();
+    for piece in list.split(", ") {
+        let (budget, period) = piece.split_once('/')?;
+        let (budget, period) = (budget.parse().ok()?, period.parse().ok()?);
+        let fields: [u32; 7] = [0, budget, period, period, 0, 0, 0];
+        records.extend(fields.iter().flat_map(|field| field.to_le_bytes()));
+    }
+    Some(Slow {
+        name: list.to_owned(),
+        records,
+    })
 }

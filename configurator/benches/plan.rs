@@ -3,6 +3,7 @@
 //! `cargo bench --bench plan` prints tables; behind `--` it takes `--json` (one object instead),
 //! `--quick` (a tenth of the sheets), `--svg DIR` (plots besides), and `--spin NAME`, which only has
 //! the library plan the workload of that name for five seconds, for a profiler to look on.
+//! `--core LIST` only looks at the core of such pieces as `1/2, 3/7`, a budget in a period.
 //! `--hunt SECONDS` searches for slow inputs instead, from the seed in the environment variable
 //! `SPARDIMPLE_SEED`.
 //!
@@ -48,6 +49,7 @@ struct Options {
     svg: Option<PathBuf>,
     spin: Option<String>,
     hunt: Option<u64>,
+    core: Option<String>,
 }
 
 fn options() -> Options {
@@ -60,9 +62,10 @@ fn options() -> Options {
             "--quick" => options.quick = true,
             "--svg" => options.svg = words.next().map(PathBuf::from),
             "--spin" => options.spin = words.next(),
+            "--core" => options.core = words.next(),
             "--hunt" => options.hunt = words.next().and_then(|word| word.parse().ok()),
             _ => {
-                eprintln!("plan [--json] [--quick] [--svg DIR] [--spin NAME] [--hunt SECONDS], not {word}");
+                eprintln!("plan [--json] [--quick] [--svg DIR] [--spin NAME] [--core LIST] [--hunt SECONDS], not {word}");
                 process::exit(2);
             }
         }
@@ -74,6 +77,10 @@ fn main() {
     let options = options();
     if let Some(name) = options.spin {
         return spin(&name);
+    }
+    if let Some(list) = options.core {
+        let core = loads::core_of(&list).expect("a list of budgets in periods");
+        return println!("{}", report::tables(&[], &[measure_slow(&core)]));
     }
     if let Some(seconds) = options.hunt {
         return hunt(Duration::from_secs(seconds));

@@ -113,7 +113,7 @@ pub struct Measured {
 
 /// One core made to be slow.
 pub struct SlowCore {
-    /// Its periods.
+    /// Its budgets in periods.
     pub name: String,
     /// What it is.
     pub verdict: String,
@@ -448,7 +448,7 @@ fn verdict_table(loads: &[Measured]) -> String {
 
 fn slow_table(slow: &[SlowCore]) -> String {
     let mut text = String::from(
-        "| periods | verdict | climb (leaps) | lengths | library, ms | papers: climb | lengths | ms |\n|---|---|---|---|---|---|---|---|\n",
+        "| budgets in periods | verdict | climb (leaps) | lengths | library, ms | papers: climb | lengths | ms |\n|---|---|---|---|---|---|---|---|\n",
     );
     for core in slow {
         let _ = writeln!(
@@ -549,7 +549,7 @@ fn number(ratio: f64) -> f64 {
 
 fn slow_json(core: &SlowCore) -> String {
     format!(
-        "{{\"periods\": [{}], \"verdict\": \"{}\", \"climb_steps\": {}, \"leaps\": {}, \"lengths\": {}, \"library_ms\": {:.3}, \"papers_climb_steps\": {}, \"papers_lengths\": {}, \"papers_ms\": {:.3}}}",
+        "{{\"pieces\": \"{}\", \"verdict\": \"{}\", \"climb_steps\": {}, \"leaps\": {}, \"lengths\": {}, \"library_ms\": {:.3}, \"papers_climb_steps\": {}, \"papers_lengths\": {}, \"papers_ms\": {:.3}}}",
         core.name,
         core.verdict,
         core.counts.climbs,
