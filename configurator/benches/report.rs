@@ -179,6 +179,19 @@ fn times(ratio: f64) -> String {
     }
 }
 
+/// A count with its digits in groups of three.
+fn grouped(count: u64) -> String {
+    let digits = count.to_string();
+    let mut text = String::new();
+    for (place, digit) in digits.chars().enumerate() {
+        if place > 0 && (digits.len() - place) % 3 == 0 {
+            text.push(',');
+        }
+        text.push(digit);
+    }
+    text
+}
+
 /// Whether a target is met.
 fn met(yes: bool) -> &'static str {
     if yes {
@@ -246,13 +259,13 @@ fn targets(loads: &[Measured], slow: &[SlowCore]) -> String {
     row(
         "candidates for a split, any input here",
         "50,000",
-        any.to_string(),
+        grouped(any),
         any <= 50_000,
     );
     row(
         "steps to a busy length, any input here",
         "1,000,000",
-        climb.to_string(),
+        grouped(climb),
         climb <= 1_000_000,
     );
     row(
@@ -434,10 +447,10 @@ fn verdict_table(loads: &[Measured]) -> String {
         let verdict = &load.verdict;
         let _ = writeln!(
             text,
-            "| {} | {:.2} | {:.2} | {} | {} | {} |",
+            "| {} | {} | {} | {} | {} | {} |",
             load.name,
-            verdict.micros(Column::Library),
-            verdict.micros(Column::Papers),
+            times(verdict.micros(Column::Library)),
+            times(verdict.micros(Column::Papers)),
             times(verdict.ratio(Column::Library)),
             times(verdict.sums()),
             times(verdict.ratio(Column::ByRustc)),
@@ -456,12 +469,12 @@ fn slow_table(slow: &[SlowCore]) -> String {
             "| {} | {} | {} ({}) | {} | {:.2} | {} | {} | {:.2} |",
             core.name,
             core.verdict,
-            core.counts.climbs,
-            core.counts.leaps,
-            core.counts.demands,
+            grouped(core.counts.climbs),
+            grouped(core.counts.leaps),
+            grouped(core.counts.demands),
             core.ours / 1e6,
-            core.papers.climbs,
-            core.papers.demands,
+            grouped(core.papers.climbs),
+            grouped(core.papers.demands),
             core.theirs / 1e6,
         );
     }
