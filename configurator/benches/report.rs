@@ -609,19 +609,19 @@ pub fn plots(folder: &Path, loads: &[Measured]) -> io::Result<()> {
     )
 }
 
-/// Bars for each workload, on a logarithmic scale from 1/16 to 16, with lines at 1 and the target.
+/// Bars for each workload, on a logarithmic scale from 1/2 to 32, with lines at 1 and the target.
 fn plot(title: &str, bars: &[(String, f64, f64)], target: f64) -> String {
     const LEFT: f64 = 190.0;
     const WIDTH: f64 = 480.0;
     const ROW: f64 = 22.0;
     const TOP: f64 = 52.0;
-    let x = |ratio: f64| LEFT + WIDTH * (ratio.clamp(1.0 / 16.0, 16.0).log2() + 4.0) / 8.0;
+    let x = |ratio: f64| LEFT + WIDTH * (ratio.clamp(0.5, 32.0).log2() + 1.0) / 6.0;
     let bottom = TOP + ROW * bars.len() as f64;
     let mut svg = format!(
-        "<svg xmlns=\"http://www.w3.org/2000/svg\" viewBox=\"0 0 720 {:.0}\" font-family=\"sans-serif\" font-size=\"12\">\n<rect width=\"100%\" height=\"100%\" fill=\"white\"/>\n<text x=\"10\" y=\"18\" font-size=\"14\">{title}</text>\n<rect x=\"10\" y=\"26\" width=\"12\" height=\"8\" fill=\"#2b6cb0\"/><text x=\"26\" y=\"34\">the library</text>\n<rect x=\"110\" y=\"26\" width=\"12\" height=\"8\" fill=\"#cbd5e0\"/><text x=\"126\" y=\"34\">the same algorithms by rustc</text>\n",
+        "<svg xmlns=\"http://www.w3.org/2000/svg\" viewBox=\"0 0 720 {:.0}\" font-family=\"sans-serif\" font-size=\"12\">\n<rect width=\"100%\" height=\"100%\" fill=\"white\"/>\n<text x=\"10\" y=\"18\" font-size=\"14\">{title}</text>\n<rect x=\"10\" y=\"26\" width=\"12\" height=\"8\" fill=\"#2b6cb0\"/><text x=\"26\" y=\"34\">the library</text>\n<rect x=\"110\" y=\"26\" width=\"12\" height=\"8\" fill=\"#cbd5e0\"/><text x=\"126\" y=\"34\">the same algorithms by rustc</text>\n<rect x=\"310\" y=\"26\" width=\"2\" height=\"8\" fill=\"#c53030\"/><text x=\"318\" y=\"34\">the target, {target}</text>\n",
         bottom + 30.0
     );
-    for power in -4..=4_i32 {
+    for power in -1..=5_i32 {
         let ratio = 2_f64.powi(power);
         let at = x(ratio);
         let label = if power < 0 {
