@@ -1,0 +1,113 @@
+//! The benchmark's copy of the library's algorithms against the library, so that what it counts is
+//! what the library does; and the next ideas, which must give the same listings.
+
+#![warn(clippy::all, clippy::pedantic)]
+
+mod common;
+#[path = "../benches/counted.rs"]
+mod counted;
+#[allow(dead_code)] // the benchmark uses all of it
+#[path = "../benches/sheets.rs"]
+mod sheets;
+#[allow(dead_code)] // the benchmark uses all of it
+#[path = "../benches/tally.rs"]
+mod tally;
+
+use std::fmt::Write as _;
+
+use common::sheets::{full_load, SheetDraw};
+use common::{bytes, cases, Random};
+use configurator::plan;
+use counted::Lean;
+use tally::{Counts, Silent};
+
+/// Plans a sheet by the copy, as it is and with the next ideas, and compares; gives the candidates
+/// tried.
+fn compare(sheet: &[u8]) -> usize {
+    let shown = String::from_utf8_lossy(sheet);
+    let expected = plan(sheet).unwrap();
+    let mut lean = Lean::new(Counts::default());
+    let listing = sheets::plan(sheet, &mut lean);
+    let next = sheets::plan(sheet, &mut Lean::next(Silent));
+    assert_eq!(listing, next, "{shown}");
+    match (expected, listing) {
+        (Ok(expected), Ok(listing)) => assert_eq!(listing, expected, "{shown}"),
+        (Err(refusal), Err(0)) => assert_ne!(refusal.number(), 7, "{shown}"),
+        (Err(refusal), Err(task)) => {
+            assert_eq!(refusal.number(), 7, "{shown}");
+            assert_eq!(refusal.carries() as usize, task, "{shown}");
+        }
+        (expected, listing) => panic!("{expected:?} is not {listing:?} for {shown}"),
+    }
+    lean.tally.candidates.len()
+}
+
+#[test]
+fn cases_of_the_data() {
+    let mut compared = 0;
+    for folder in ["plan", "special", "desk"] {
+        for case in cases(folder, ".sheet") {
+            compare(&bytes(folder, &format!("{case}.sheet")));
+            compared += 1;
+        }
+    }
+    assert!(compared > 150, "the cases are there");
+}
+
+#[test]
+fn random_sheets() {
+    let mut random = Random::for_test();
+    let mut splits = 0;
+    for (cores, period, cost, jitter) in [
+        (4, 12, 0, 0),
+        (5, 30, 0, 6),
+        (4, 120, 2, 0),
+        (3, 200, 4, 30),
+        (8, 4_000, 20, 50),
+        (16, 1_000_000, 500, 20_000),
+    ] {
+        let draw = SheetDraw {
+            cores,
+            period,
+            cost,
+            jitter,
+        };
+        for _ in 0..1_000 {
+            splits += compare(&draw.sheet(&mut random));
+        }
+    }
+    for cost in [0, 2, 9] {
+        for _ in 0..1_000 {
+            splits += compare(&full_load(cost, &mut random));
+        }
+    }
+    println!("{splits} splits");
+    assert!(splits > 3_000);
+}
+
+/// Blocking that is long beside the charges: the splits where a candidate can tell of one less only.
+#[test]
+fn long_blocking() {
+    let mut random = Random::for_test();
+    let mut splits = 0;
+    for _ in 0..2_000 {
+        let tasks = random.between(2, 5);
+        let blocking = random.between(1, 60);
+        let mut parts = String::new();
+        let mut fits = String::new();
+        for task in 0..tasks {
+            let period = random.between(1, 150);
+            let deadline = random.between(1, period);
+            let budget = random.between(1, deadline);
+            let jitter = random.pick(&[0, 0, 0, 1, 9]);
+            let times = format!("{budget}\t{deadline}\t{period}\t{jitter}\t0\t0");
+            let _ = writeln!(parts, "part\tp{task}\t{times}");
+            let _ = writeln!(fits, "fit\tt{task}\tp{task}");
+        }
+        let costs = format!("{}\t0\t0\t{blocking}\t0\t0\t0\t0", random.pick(&[0, 0, 1]));
+        let sheet = format!("machine\t3\t1\ncost\t{costs}\t0\n{parts}{fits}");
+        splits += compare(sheet.as_bytes());
+    }
+    println!("{splits} splits");
+    assert!(splits > 500);
+}
