@@ -40,7 +40,12 @@ fn main() {
 
 /// Writes the manual page, where the command takes it from.
 fn write_manual() {
-    for source in ["build.rs", "src/command/cli.rs", "src/command/manual.rs", "src/refusals.rs"] {
+    for source in [
+        "build.rs",
+        "src/command/cli.rs",
+        "src/command/manual.rs",
+        "src/refusals.rs",
+    ] {
         println!("cargo:rerun-if-changed={source}");
     }
     let folder = env::var_os("OUT_DIR").map(PathBuf::from);

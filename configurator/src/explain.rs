@@ -27,7 +27,7 @@ pub struct Explained {
     pub remedy: &'static str,
 }
 
-/// A line of a sheet, cut where the fault in it begins and ends. Tabs are `\t`, so that a wrong
+/// A line of a sheet, cut where the fault in it begins and ends. Tabs are `⇥`, so that a wrong
 /// space can be seen.
 #[derive(Clone, Debug, PartialEq, Eq)]
 pub struct Line {
@@ -53,8 +53,8 @@ pub struct Line {
 /// assert_eq!(
 ///     explain::refused(Refusal::new(5, 5), sheet).message("line.sheet"),
 ///     "line.sheet:5: refused (5): there is no part or task of that name
-///   fit\\tfeed\\tdrv-a2
-///              ^^^^^^
+///   fit⇥feed⇥drv-a2
+///            ^^^^^^
 ///   no part `drv-a2` above; `drv-a` is a different part
 ///   to do: write the name exactly as the line that defines it; upper and lower case differ"
 /// );
@@ -77,14 +77,16 @@ pub fn refused_in(text: Text, refusal: Refusal, sheet: &[u8]) -> Explained {
         (1..=6 | 8, Some(above)) => {
             let fault = fault::find(refusal.number(), text, sheet, above);
             line = lines(sheet).nth(above).map(|bytes| {
-                let part = fault.as_ref().map_or(0..0, |fault: &Fault| fault.part.clone());
+                let part = fault
+                    .as_ref()
+                    .map_or(0..0, |fault: &Fault| fault.part.clone());
                 Line::cut(above + 1, bytes, part.start, part.end)
             });
             why = fault.map(|fault| fault.why);
         }
         (7, Some(above)) => {
-            let fits = lines(sheet).enumerate().filter_map(fitted_task);
-            if let Some((at, bytes, name)) = fits.skip(above).next() {
+            let mut fits = lines(sheet).enumerate().filter_map(fitted_task);
+            if let Some((at, bytes, name)) = fits.nth(above) {
                 let _ = write!(meaning, ", `{}`", shown(name));
                 line = Some(Line::cut(at + 1, bytes, 4, 4 + name.len()));
             }
@@ -109,7 +111,12 @@ impl Explained {
         if let Some(line) = &self.line {
             let _ = write!(text, ":{}", line.number);
         }
-        let _ = write!(text, ": refused ({}): {}", self.refusal.number(), self.meaning);
+        let _ = write!(
+            text,
+            ": refused ({}): {}",
+            self.refusal.number(),
+            self.meaning
+        );
         if let Some(line) = &self.line {
             let _ = write!(text, "\n  {}{}{}", line.before, line.fault, line.behind);
             if !line.fault.is_empty() {
@@ -163,13 +170,13 @@ fn fitted_task((at, line): (usize, &[u8])) -> Option<(usize, &[u8], &[u8])> {
     name.take(1).map(|name| (at, line, name)).next()
 }
 
-/// Bytes as text for people: tabs and what cannot be seen are written out, and so are bytes that are
+/// Bytes as text for people: a tab is `⇥`, what cannot be seen is written out, and so are bytes that are
 /// no text.
 ///
 /// ```
 /// use configurator::explain::shown;
 ///
-/// assert_eq!(shown(b"caf\xc3\xa9\t'\xff'\r"), "café\\t'\\xff'\\r");
+/// assert_eq!(shown(b"caf\xc3\xa9\t'\xff'\r"), "café⇥'\\xff'\\r");
 /// ```
 #[must_use]
 pub fn shown(mut bytes: &[u8]) -> String {
@@ -184,6 +191,7 @@ pub fn shown(mut bytes: &[u8]) -> String {
         };
         for c in str::from_utf8(&bytes[..good]).unwrap_or_default().chars() {
             match c {
+                '\t' => text.push('⇥'),
                 '"' | '\'' => text.push(c),
                 _ => text.extend(c.escape_debug()),
             }
@@ -205,7 +213,7 @@ mod tests {
     fn what_is_wrong_can_be_seen() {
         let message = refused(Refusal::new(8, 1), b"machine\t2\t1\r\n").message("s");
         assert!(
-            message.contains("\n  machine\\t2\\t1\\r\n                ^^\n  a carriage return;"),
+            message.contains("\n  machine⇥2⇥1\\r\n             ^^\n  a carriage return;"),
             "{message}"
         );
         let message = refused(Refusal::new(8, 2), b"machine\t2\t1\ncost 0 0\n").message("s");
@@ -219,7 +227,7 @@ mod tests {
         let sheet = format!("{}\t{}\tx\n", "a".repeat(300), "b".repeat(300));
         let line = Line::cut(1, sheet.as_bytes(), 301, 601);
         assert_eq!(line.before.chars().count(), SHOWN + 1);
-        assert!(line.before.starts_with('…') && line.before.ends_with("\\t"));
+        assert!(line.before.starts_with('…') && line.before.ends_with('⇥'));
         assert_eq!(line.fault, format!("{}…", "b".repeat(SHOWN)));
     }
 

@@ -36,11 +36,7 @@ impl Text {
             (Text::Sheet, 0) => &[Form("machine", 0, 2)],
             (Text::Sheet, 1) | (Text::Table, 0) => &[Form("cost", 0, 9)],
             (Text::Sheet, _) => &[Form("part", 1, 6), Form("fit", 2, 0)],
-            (Text::Table, _) => &[
-                Form("whole", 0, 6),
-                Form("first", 0, 6),
-                Form("last", 0, 6),
-            ],
+            (Text::Table, _) => &[Form("whole", 0, 6), Form("first", 0, 6), Form("last", 0, 6)],
         }
     }
 
@@ -77,8 +73,8 @@ pub fn find(number: u8, text: Text, bytes: &[u8], above: usize) -> Option<Fault>
         1 => machine(&fields),
         2 => costs(&fields),
         3 => times(fields.get(text.names_before_times() + 1..)?),
-        4 => taken(&lines[..above], fields.get(0)?, fields.get(1)?),
-        5 => missing(&lines[..above], fields.get(2)?),
+        4 => taken(&lines[..above], fields.first()?, fields.get(1)?),
+        5 => Some(missing(&lines[..above], fields.get(2)?)),
         8 => form(text.forms(above), &lines, above, &fields),
         _ => None,
     }
@@ -102,9 +98,9 @@ impl Field<'_> {
         str::from_utf8(self.bytes).ok()?.parse().ok()
     }
 
-    fn fault(&self, why: String) -> Option<Fault> {
+    fn fault(&self, why: String) -> Fault {
         let part = self.at.clone();
-        Some(Fault { part, why })
+        Fault { part, why }
     }
 }
 
@@ -129,18 +125,18 @@ fn fields(line: &[u8]) -> Vec<Field<'_>> {
 /// 1: the cores or the grain.
 fn machine(fields: &[Field]) -> Option<Fault> {
     let (cores, grain) = (fields.get(1)?, fields.get(2)?);
-    if !(1..=16).contains(&cores.number()?) {
-        cores.fault(format!("the machine has {} cores here", cores.text()))
-    } else {
+    Some(if (1..=16).contains(&cores.number()?) {
         grain.fault(format!("the grain is {} here", grain.text()))
-    }
+    } else {
+        cores.fault(format!("the machine has {} cores here", cores.text()))
+    })
 }
 
 /// 2: the first cost that is too great.
 fn costs(fields: &[Field]) -> Option<Fault> {
     let mut named = COSTS.iter().zip(fields.get(1..)?);
     let (name, cost) = named.find(|(_, cost)| cost.number() > Some(100_000))?;
-    cost.fault(format!("{name} is {} here", cost.text()))
+    Some(cost.fault(format!("{name} is {} here", cost.text())))
 }
 
 /// 3: the first time that is too great or too small beside the one after it.
@@ -149,8 +145,11 @@ fn times(fields: &[Field]) -> Option<Fault> {
     let most = [1_000_000, 1_000_000, 1_000_000, 1_000_000, 100_000, 100_000];
     let too_great = (0..6).find(|&at| numbers.get(at) > most.get(at));
     match (too_great, &numbers[..]) {
-        (Some(at), _) => fields[at].fault(format!("{} is {} here", TIMES[at], numbers[at])),
-        (None, [0, ..]) => fields[0].fault("C is 0 here".to_owned()),
+        (Some(at), _) => {
+            let why = format!("{} is {} here", TIMES[at], numbers[at]);
+            Some(fields[at].fault(why))
+        }
+        (None, [0, ..]) => Some(fields[0].fault("C is 0 here".to_owned())),
         (None, [c, d, t, ..]) => {
             let at = usize::from(c <= d);
             let (short, long) = (&fields[at], &fields[at + 1]);
@@ -176,13 +175,17 @@ fn taken(above: &[&[u8]], word: &Field, name: &Field) -> Option<Fault> {
         let fields = fields(line);
         fields.len() > 1 && fields[0].bytes == word.bytes && fields[1].bytes == name.bytes
     })?;
-    let thing = if word.bytes == b"part" { "part" } else { "task" };
+    let thing = if word.bytes == b"part" {
+        "part"
+    } else {
+        "task"
+    };
     let (name_text, line) = (name.text(), first + 1);
-    name.fault(format!("line {line} has a {thing} `{name_text}` already"))
+    Some(name.fault(format!("line {line} has a {thing} `{name_text}` already")))
 }
 
 /// 5: the name that no part above has, and the names nearest to it, which are other parts.
-fn missing(above: &[&[u8]], name: &Field) -> Option<Fault> {
+fn missing(above: &[&[u8]], name: &Field) -> Fault {
     let parts = above.iter().filter_map(|line| {
         let fields = fields(line);
         (fields.len() > 1 && fields[0].bytes == b"part").then(|| fields[1].text())
@@ -246,19 +249,22 @@ fn form(forms: &[Form], lines: &[&[u8]], above: usize, fields: &[Field]) -> Opti
     }
     let word = &fields[0];
     let known = forms.iter().find(|form| form.0.as_bytes() == word.bytes);
-    let (names, count) = match known {
-        Some(&Form(_, names, numbers)) => (names, names + numbers),
-        None => return word.fault(format!("the line should begin with {wanted} and a tab")),
+    let (names, count) = if let Some(&Form(_, names, numbers)) = known {
+        (names, names + numbers)
+    } else {
+        let why = format!("the line should begin with {wanted} and a tab");
+        return Some(word.fault(why));
     };
     let fit = |line: &&[u8]| line.starts_with(b"fit\t");
     if word.bytes == b"part" && lines[..above].iter().any(fit) {
-        return word.fault("`part` lines stand above all `fit` lines".to_owned());
+        return Some(word.fault("`part` lines stand above all `fit` lines".to_owned()));
     }
     let has = fields.len() - 1;
     if has != count {
-        let spaces = match line.contains(&b' ') {
-            true => "; there are spaces, and only tabs part fields",
-            false => "",
+        let spaces = if line.contains(&b' ') {
+            "; there are spaces, and only tabs part fields"
+        } else {
+            ""
         };
         let word = word.text();
         return whole(format!(
@@ -266,14 +272,15 @@ fn form(forms: &[Form], lines: &[&[u8]], above: usize, fields: &[Field]) -> Opti
         ));
     }
     let misformed = fields[1..].iter().enumerate().find_map(|(at, field)| {
-        let why = match at < names {
-            true => name_fault(field.bytes),
-            false => number_fault(field.bytes),
+        let why = if at < names {
+            name_fault(field.bytes)
+        } else {
+            number_fault(field.bytes)
         };
         Some((field, why?))
     });
     match misformed {
-        Some((field, why)) => field.fault(why.to_owned()),
+        Some((field, why)) => Some(field.fault(why.to_owned())),
         None if above + 1 == lines.len() => Some(Fault {
             part: line.len()..line.len(),
             why: "the file ends here without a newline".to_owned(),
@@ -416,8 +423,15 @@ mod tests {
     /// No number, line or bytes are too odd.
     #[test]
     fn nothing_is_too_odd() {
-        let long = [0xff; 40_000];
-        for sheet in [&b""[..], b"\n", b"\t", b"part\t", b"\t\t\t\t\t\t\t\t", &long] {
+        let long = vec![0xff; 40_000];
+        for sheet in [
+            &b""[..],
+            b"\n",
+            b"\t",
+            b"part\t",
+            b"\t\t\t\t\t\t\t\t",
+            &long,
+        ] {
             for number in 0..=11 {
                 for above in [0, 1, 2, usize::MAX] {
                     let _ = find(number, Text::Sheet, sheet, above);

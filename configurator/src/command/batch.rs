@@ -1,11 +1,13 @@
 //! `batch`: the plans of all sheets of a folder, several at a time, and a summary. A sheet that is
 //! refused or cannot be read stops no other.
 
+use super::show::counted;
 use super::{columns, files, parsed, planned, Failure, Planned, Status, Streams};
+use std::fmt::Write as _;
 use std::fs;
 use std::path::{Path, PathBuf};
-use std::sync::mpsc;
 use std::sync::atomic::{AtomicUsize, Ordering};
+use std::sync::mpsc;
 use std::thread;
 
 /// What became of one sheet.
@@ -22,7 +24,11 @@ struct Outcome {
 /// # Errors
 ///
 /// The folder cannot be read, or the one for the listings not be made.
-pub fn plan_all(folder: &Path, out: Option<&Path>, streams: &mut Streams) -> Result<Status, Failure> {
+pub fn plan_all(
+    folder: &Path,
+    out: Option<&Path>,
+    streams: &mut Streams,
+) -> Result<Status, Failure> {
     let sheets = sheets(folder)?;
     if let Some(out) = out {
         fs::create_dir_all(out).map_err(|error| Failure::of(out, &error))?;
@@ -38,14 +44,20 @@ pub fn plan_all(folder: &Path, out: Option<&Path>, streams: &mut Streams) -> Res
         }
     }
     let mut text = columns::lines(&["<sheet", "<answer", "tasks", "pieces"], &rows).join("\n");
-    let with = |status| outcomes.iter().filter(|outcome| outcome.status == status).count();
-    text.push_str(&format!(
-        "\n{} sheets: {} planned, {} refused, {} not read or written\n",
-        sheets.len(),
+    let with = |status| {
+        outcomes
+            .iter()
+            .filter(|outcome| outcome.status == status)
+            .count()
+    };
+    let _ = writeln!(
+        text,
+        "\n{}: {} planned, {} refused, {} not read or written",
+        counted(sheets.len(), "sheet"),
         with(Status::Accepted),
         with(Status::Refused),
         with(Status::Failed)
-    ));
+    );
     streams.print(text.as_bytes())?;
     let statuses = outcomes.iter().map(|outcome| outcome.status);
     Ok(statuses.max().unwrap_or(Status::Accepted))
@@ -99,7 +111,11 @@ fn all(sheets: &[PathBuf], out: Option<&Path>, streams: &mut Streams) -> Vec<Out
 fn one(path: &Path, out: Option<&Path>) -> Outcome {
     attempt(path, out).unwrap_or_else(|Failure(why)| Outcome {
         status: Status::Failed,
-        fields: ["not read or written".to_owned(), String::new(), String::new()],
+        fields: [
+            "not read or written".to_owned(),
+            String::new(),
+            String::new(),
+        ],
         said: Some(why),
     })
 }
@@ -122,8 +138,15 @@ fn attempt(path: &Path, out: Option<&Path>) -> Result<Outcome, Failure> {
             }
         }
         Planned::Refused(why) => {
-            let line = why.line.as_ref().map(|line| format!(" at line {}", line.number));
-            let answer = format!("refused ({}){}", why.refusal.number(), line.unwrap_or_default());
+            let line = why
+                .line
+                .as_ref()
+                .map(|line| format!(" at line {}", line.number));
+            let answer = format!(
+                "refused ({}){}",
+                why.refusal.number(),
+                line.unwrap_or_default()
+            );
             Outcome {
                 status: Status::Refused,
                 fields: [answer, String::new(), String::new()],

@@ -94,18 +94,6 @@ Exit status:
 /// The description of the arguments.
 #[must_use]
 pub fn command() -> Command {
-    let sheet = || file("SHEET", "A timing sheet; - reads standard input");
-    let out = |what: &'static str| {
-        Arg::new("out")
-            .short('o')
-            .long("out")
-            .value_name("FILE")
-            .value_parser(value_parser!(PathBuf))
-            .help(what)
-    };
-    let sub = |name: &'static str, about: &'static str, below: &'static str| {
-        Command::new(name).about(about).after_help(below)
-    };
     Command::new("spardimple")
         .version(env!("CARGO_PKG_VERSION"))
         .about("Plans the tasks of a multicore controller. Every plan and verdict is given by a proved library.")
@@ -113,100 +101,129 @@ pub fn command() -> Command {
         .subcommand_required(true)
         .arg_required_else_help(true)
         .disable_help_subcommand(true)
-        .subcommand(
-            sub(
-                "plan",
-                "Prints the listing of a sheet: which core runs which task, whole or in two pieces",
-                "Example: spardimple plan examples/film-line.sheet -o film-line.listing\n\n\
-                 A refused sheet has no listing, and FILE is left as it was. With --json the refusal\n\
-                 is printed as JSON too.",
-            )
-            .arg(sheet())
-            .arg(out("Writes the listing to FILE, whole or not at all"))
-            .arg(
-                Arg::new("json")
-                    .long("json")
-                    .action(ArgAction::SetTrue)
-                    .help("Writes the listing as JSON"),
-            ),
+        .subcommands([plan(), verdict(), show(), report(), desk(), batch(), completions(), man()])
+}
+
+fn plan() -> Command {
+    Command::new("plan")
+        .about("Prints the listing of a sheet: which core runs which task, whole or in two pieces")
+        .after_help(
+            "Example: spardimple plan examples/film-line.sheet -o film-line.listing\n\n\
+             A refused sheet has no listing, and FILE is left as it was. With --json the refusal is\n\
+             printed as JSON too.",
         )
-        .subcommand(
-            sub(
-                "verdict",
-                "Says whether one core keeps every deadline",
-                "Examples: spardimple verdict --table examples/film-core.table\n          \
-                 spardimple verdict examples/film-core.rec examples/film-core.cost\n\n\
-                 A table has a line `cost` with the nine constants, then a line for each piece: whole,\n\
-                 first or last, then x, D, T, J, P, M; fields parted by one tab.\n\
-                 RECORDS has 28 bytes for each piece: seven numbers of four bytes, lowest first (kind 0\n\
-                 whole, 1 first, 2 last; then x, D, T, J, P, M). COSTS has the nine constants, 36 bytes.",
-            )
-            .override_usage("spardimple verdict RECORDS COSTS\n       spardimple verdict --table FILE")
-            .arg(file("RECORDS", "Piece records as bytes").required_unless_present("table"))
-            .arg(file("COSTS", "The nine cost constants as bytes").required_unless_present("table"))
-            .arg(
-                Arg::new("table")
-                    .long("table")
-                    .value_name("FILE")
-                    .value_parser(value_parser!(PathBuf))
-                    .conflicts_with_all(["RECORDS", "COSTS"])
-                    .help("Reads costs and pieces as a table of text"),
-            ),
+        .arg(sheet())
+        .arg(out("FILE", "Writes the listing to FILE, whole or not at all"))
+        .arg(
+            Arg::new("json")
+                .long("json")
+                .action(ArgAction::SetTrue)
+                .help("Writes the listing as JSON"),
         )
-        .subcommand(
-            sub(
-                "show",
-                "Shows a sheet's plan as a table: each core with its pieces, and the split tasks",
-                "Example: spardimple show examples/film-line.sheet\n\n\
-                 There is colour on a terminal only, and none where NO_COLOR is set.",
-            )
-            .arg(sheet()),
+}
+
+fn verdict() -> Command {
+    let bytes = |name, help| file(name, help).required_unless_present("table");
+    Command::new("verdict")
+        .about("Says whether one core keeps every deadline")
+        .after_help(
+            "Examples: spardimple verdict --table examples/film-core.table\n          \
+             spardimple verdict examples/film-core.rec examples/film-core.cost\n\n\
+             A table has a line `cost` with the nine constants, then a line for each piece: whole,\n\
+             first or last, then x, D, T, J, P, M; fields parted by one tab.\n\
+             RECORDS has 28 bytes for each piece: seven numbers of four bytes, lowest first (kind 0\n\
+             whole, 1 first, 2 last; then x, D, T, J, P, M). COSTS has the nine constants, 36 bytes.",
         )
-        .subcommand(
-            sub(
-                "report",
-                "Writes a sheet's plan, or its refusal, as one page for a browser",
-                "Example: spardimple report examples/film-line.sheet -o film-line.html\n\n\
-                 The page needs no network and no script. A refused sheet has a page too, with what was\n\
-                 refused, where and what to do; the exit status is 1 then.",
-            )
-            .arg(sheet())
-            .arg(out("Writes the page to FILE, whole or not at all")),
+        .override_usage("spardimple verdict RECORDS COSTS\n       spardimple verdict --table FILE")
+        .arg(bytes("RECORDS", "Piece records as bytes"))
+        .arg(bytes("COSTS", "The nine cost constants as bytes"))
+        .arg(
+            Arg::new("table")
+                .long("table")
+                .value_name("FILE")
+                .value_parser(value_parser!(PathBuf))
+                .conflicts_with_all(["RECORDS", "COSTS"])
+                .help("Reads costs and pieces as a table of text"),
         )
-        .subcommand(
-            sub(
-                "desk",
-                "Plays edits on a sheet's plan, by the proved desk program",
-                "Example: spardimple desk examples/film-line.sheet < examples/film-line.edits\n\n\
-                 Edits are typed or piped, one a line, fields parted by one tab:\n  \
-                 add NAME C D T J P M, withdraw NAME, retime NAME C D T J P M, list\n\
-                 The answer is ok, the listing, or refusal with its number and what it carries.",
-            )
-            .arg(file("SHEET", "A timing sheet")),
+}
+
+fn show() -> Command {
+    Command::new("show")
+        .about("Shows a sheet's plan as a table: each core with its pieces, and the split tasks")
+        .after_help(
+            "Example: spardimple show examples/film-line.sheet\n\n\
+             There is colour on a terminal only, and none where NO_COLOR is set.",
         )
-        .subcommand(
-            sub(
-                "batch",
-                "Plans every *.sheet of a folder and prints a summary",
-                "Example: spardimple batch examples -o listings\n\n\
-                 A refused sheet stops nothing. The exit status is that of the worst sheet.",
-            )
-            .arg(file("DIR", "The folder"))
-            .arg(out("Writes each listing into the folder FILE").value_name("OUT")),
+        .arg(sheet())
+}
+
+fn report() -> Command {
+    Command::new("report")
+        .about("Writes a sheet's plan, or its refusal, as one page for a browser")
+        .after_help(
+            "Example: spardimple report examples/film-line.sheet -o film-line.html\n\n\
+             The page needs no network and no script. A refused sheet has a page too, with what was\n\
+             refused, where and what to do; the exit status is 1 then.",
         )
-        .subcommand(
-            sub(
-                "completions",
-                "Prints the completions for a shell",
-                "Example: spardimple completions bash > ~/.local/share/bash-completion/completions/spardimple",
-            )
-            .arg(Arg::new("SHELL").required(true).value_parser(SHELLS).help("The shell")),
+        .arg(sheet())
+        .arg(out("FILE", "Writes the page to FILE, whole or not at all"))
+}
+
+fn desk() -> Command {
+    Command::new("desk")
+        .about("Plays edits on a sheet's plan, by the proved desk program")
+        .after_help(
+            "Example: spardimple desk examples/film-line.sheet < examples/film-line.edits\n\n\
+             Edits are typed or piped, one a line, fields parted by one tab:\n  \
+             add NAME C D T J P M, withdraw NAME, retime NAME C D T J P M, list\n\
+             The answer is ok, the listing, or refusal with its number and what it carries.",
         )
-        .subcommand(sub(
-            "man",
-            "Prints the manual page",
-            "Example: spardimple man | man -l -",
-        ))
+        .arg(file("SHEET", "A timing sheet"))
+}
+
+fn batch() -> Command {
+    Command::new("batch")
+        .about("Plans every *.sheet of a folder and prints a summary")
+        .after_help(
+            "Example: spardimple batch examples -o listings\n\n\
+             A refused sheet stops nothing. The exit status is that of the worst sheet.",
+        )
+        .arg(file("DIR", "The folder"))
+        .arg(out("OUT", "Writes each listing into the folder OUT"))
+}
+
+fn completions() -> Command {
+    Command::new("completions")
+        .about("Prints the completions for a shell")
+        .after_help(
+            "Example: spardimple completions bash > ~/.local/share/bash-completion/completions/spardimple",
+        )
+        .arg(
+            Arg::new("SHELL")
+                .required(true)
+                .value_parser(SHELLS)
+                .help("The shell"),
+        )
+}
+
+fn man() -> Command {
+    Command::new("man")
+        .about("Prints the manual page")
+        .after_help("Example: spardimple man | man -l -")
+}
+
+fn sheet() -> Arg {
+    file("SHEET", "A timing sheet; - reads standard input")
+}
+
+/// Where the answer goes.
+fn out(value: &'static str, help: &'static str) -> Arg {
+    Arg::new("out")
+        .short('o')
+        .long("out")
+        .value_name(value)
+        .value_parser(value_parser!(PathBuf))
+        .help(help)
 }
 
 /// A file or folder that stands by its place.

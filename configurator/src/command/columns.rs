@@ -21,9 +21,12 @@ pub fn lines(head: &[&str], rows: &[Vec<String>]) -> Vec<String> {
     let line = |row: &Vec<String>| {
         let fields = row.iter().zip(&widths).zip(&named);
         let fields: Vec<String> = fields
-            .map(|((field, &width), &named)| match named {
-                true => format!("{field:<width$}"),
-                false => format!("{field:>width$}"),
+            .map(|((field, &width), &named)| {
+                if named {
+                    format!("{field:<width$}")
+                } else {
+                    format!("{field:>width$}")
+                }
             })
             .collect();
         fields.join("  ").trim_end().to_owned()

@@ -59,11 +59,11 @@ pub fn play(sheet: &Path, streams: &mut Streams) -> Result<Status, Failure> {
 fn program() -> Result<PathBuf, Failure> {
     let built = || PathBuf::from(concat!(env!("CARGO_MANIFEST_DIR"), "/../target/bin/desk"));
     let program = env::var_os("SPARDIMPLE_DESK").map_or_else(built, PathBuf::from);
-    match program.is_file() {
-        true => Ok(program),
-        false => Err(Failure::new(format!(
-            "{}: the desk program is missing; `rt check desk` at the project's root writes it",
-            program.display()
-        ))),
+    if program.is_file() {
+        return Ok(program);
     }
+    Err(Failure::new(format!(
+        "{}: the desk program is missing; `rt check desk` at the project's root writes it",
+        program.display()
+    )))
 }

@@ -213,8 +213,16 @@ fn patterns(name: &str) -> String {
     format!(
         "<defs>\n{}{}{}</defs>\n",
         pattern(Kind::Whole, "#2b5d8f", ""),
-        pattern(Kind::First, "#b4540a", &stripes("M-1 1 l2 -2 M0 6 l6 -6 M5 7 l2 -2")),
-        pattern(Kind::Last, "#2e7d4f", &stripes("M-1 5 l2 2 M0 0 l6 6 M5 -1 l2 2"))
+        pattern(
+            Kind::First,
+            "#b4540a",
+            &stripes("M-1 1 l2 -2 M0 6 l6 -6 M5 7 l2 -2")
+        ),
+        pattern(
+            Kind::Last,
+            "#2e7d4f",
+            &stripes("M-1 5 l2 2 M0 0 l6 6 M5 -1 l2 2")
+        )
     )
 }
 

@@ -39,9 +39,15 @@ pub fn refused(file: &str, explained: &Explained) -> String {
         ("number", explained.refusal.number().to_string()),
         ("carries", explained.refusal.carries().to_string()),
         ("file", text(file)),
-        ("line", line.map_or("null".to_owned(), |line| line.number.to_string())),
+        (
+            "line",
+            line.map_or("null".to_owned(), |line| line.number.to_string()),
+        ),
         ("meaning", text(&explained.meaning)),
-        ("why", explained.why.as_deref().map_or("null".to_owned(), text)),
+        (
+            "why",
+            explained.why.as_deref().map_or("null".to_owned(), text),
+        ),
         ("remedy", text(explained.remedy)),
     ];
     let fields: Vec<String> = fields

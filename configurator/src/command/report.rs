@@ -21,8 +21,12 @@ pub fn plan(name: &str, sheet: &Sheet, listing: &Listing, bytes: &[u8]) -> Strin
     parts(&mut body, sheet);
     machine(&mut body, sheet);
     let listing = escaped(&String::from_utf8_lossy(bytes));
-    let _ = write!(body, "<h2>Listing</h2>\n<pre class=\"listing\">{listing}</pre>\n");
-    page(&format!("Plan of {name}"), &body)
+    let _ = write!(
+        body,
+        "<h2>Listing</h2>\n<pre class=\"listing\">{listing}</pre>\n"
+    );
+    let source = "The plan and every figure in it come";
+    page(&format!("Plan of {name}"), &body, source)
 }
 
 /// The page of a refused sheet: what was refused, where, and what to do.
@@ -36,9 +40,9 @@ pub fn refused(name: &str, sheet: &[u8], why: &Explained) -> String {
     let _ = write!(
         body,
         "<p class=\"sum\">There is no plan for this sheet as it stands.</p>\n\
-         <section class=\"refusal\">\n<h2>Refused ({}){place}</h2>\n<p>{}.</p>\n",
+         <section class=\"refusal\">\n<h2>Refused ({}){place}</h2>\n{}",
         why.refusal.number(),
-        escaped(&why.meaning)
+        sentence("", &why.meaning)
     );
     if let Some(line) = &why.line {
         let _ = writeln!(
@@ -51,17 +55,27 @@ pub fn refused(name: &str, sheet: &[u8], why: &Explained) -> String {
         );
     }
     if let Some(why) = &why.why {
-        let _ = writeln!(body, "<p class=\"why\">{}.</p>", escaped(why));
+        body.push_str(&sentence("", why));
     }
-    let _ = write!(
-        body,
-        "<p><strong>What to do:</strong> {}.</p>\n</section>\n",
-        escaped(why.remedy)
-    );
+    body.push_str(&sentence("<strong>What to do.</strong> ", why.remedy));
+    body.push_str("</section>\n");
     if why.refusal.number() != 9 {
         sheet_lines(&mut body, sheet, why);
     }
-    page(&format!("{name} is refused"), &body)
+    page(&format!("{name} is refused"), &body, "The refusal comes")
+}
+
+/// A paragraph: a sentence with its first letter great and what it quotes set as such.
+fn sentence(before: &str, words: &str) -> String {
+    let mut letters = words.chars();
+    let first = letters.next().map(|c| c.to_ascii_uppercase());
+    let words: String = first.into_iter().chain(letters).collect();
+    let parts: Vec<String> = words.split('`').map(escaped).collect();
+    let quoted = parts.iter().enumerate().map(|(at, part)| match at % 2 {
+        0 => part.clone(),
+        _ => format!("<code>{part}</code>"),
+    });
+    format!("<p>{before}{}.</p>\n", quoted.collect::<String>())
 }
 
 /// The sheet's own lines, numbered, the refused one marked.
@@ -72,13 +86,12 @@ fn sheet_lines(body: &mut String, sheet: &[u8], why: &Explained) {
     for (number, line) in (1..).zip(sheet.split(|&byte| byte == b'\n')) {
         let fields: Vec<String> = line.split(|&byte| byte == b'\t').map(shown).collect();
         let text = escaped(&fields.join("\t"));
-        let _ = match refused == Some(number) {
-            true => writeln!(
-                body,
-                "<span class=\"bad\"><span class=\"at\">{number:>4}  </span>{text}</span>"
-            ),
-            false => writeln!(body, "<span class=\"at\">{number:>4}  </span>{text}"),
-        };
+        let line = format!("<span class=\"at\">{number:>4}  </span>{text}");
+        if refused == Some(number) {
+            let _ = writeln!(body, "<span class=\"bad\">{line}</span>");
+        } else {
+            let _ = writeln!(body, "{line}");
+        }
     }
     body.push_str("</pre>\n");
 }
@@ -124,9 +137,10 @@ fn splits(body: &mut String, listing: &Listing) {
     if !rows.is_empty() {
         let halves = ["core", "budget", "window", "jitter", "charged"];
         let mut head = vec!["<task".to_owned()];
-        head.extend(halves.map(|name| format!("first: {name}")));
-        head.extend(halves.map(|name| format!("last: {name}")));
-        table(body, "Split tasks", &head, &rows);
+        head.extend(halves.iter().chain(&halves).map(ToString::to_string));
+        let above = "<tr><th></th><th class=\"g\" colspan=\"5\">first piece</th>\
+                     <th class=\"g\" colspan=\"5\">last piece</th></tr>\n";
+        table(body, "Split tasks", above, &head, &rows);
     }
 }
 
@@ -146,7 +160,7 @@ fn tasks(body: &mut String, sheet: &Sheet, listing: &Listing) {
         row
     };
     let rows: Vec<Vec<String>> = sheet.fits.iter().map(row).collect();
-    table(body, "Tasks", &head, &rows);
+    table(body, "Tasks", "", &head, &rows);
 }
 
 /// Where a piece is placed.
@@ -171,7 +185,7 @@ fn parts(body: &mut String, sheet: &Sheet) {
         row
     };
     let rows: Vec<Vec<String>> = sheet.parts.iter().map(row).collect();
-    table(body, "Parts", &head, &rows);
+    table(body, "Parts", "", &head, &rows);
     body.push_str(
         "<p class=\"note\">C the work, D the deadline, T the period, J the jitter, P and M the cache charges of a \
          preemption and a migration.</p>\n",
@@ -184,17 +198,18 @@ fn machine(body: &mut String, sheet: &Sheet) {
     head.extend(COSTS.map(str::to_owned));
     let mut row = vec![sheet.cores.to_string(), sheet.grain.to_owned()];
     row.extend(sheet.costs.map(str::to_owned));
-    table(body, "Machine and costs", &head, &[row]);
+    table(body, "Machine and costs", "", &head, &[row]);
 }
 
-/// A table under its title. A header that begins with `<` is a column of names, set to the left.
-fn table(body: &mut String, title: &str, head: &[String], rows: &[Vec<String>]) {
+/// A table under its title, with a row `above` its header's if there is to be one. A header that begins
+/// with `<` is a column of names, set to the left.
+fn table(body: &mut String, title: &str, above: &str, head: &[String], rows: &[Vec<String>]) {
     let class = |at: usize| match (head[at].starts_with('<'), at) {
         (true, 0) => " class=\"name\"",
-        (true, _) => "",
+        (true, _) => " class=\"t\"",
         (false, _) => " class=\"n\"",
     };
-    let _ = write!(body, "<h2>{}</h2>\n<table>\n<tr>", escaped(title));
+    let _ = write!(body, "<h2>{}</h2>\n<table>\n{above}<tr>", escaped(title));
     for (at, name) in head.iter().enumerate() {
         let name = escaped(name.trim_start_matches('<'));
         let _ = write!(body, "<th{}>{name}</th>", class(at));
@@ -211,13 +226,13 @@ fn table(body: &mut String, title: &str, head: &[String], rows: &[Vec<String>]) 
 }
 
 /// The whole page around its body. The policy forbids the browser to fetch or run anything.
-fn page(title: &str, body: &str) -> String {
+fn page(title: &str, body: &str, source: &str) -> String {
     format!(
         "<!DOCTYPE html>\n<html lang=\"en\">\n<head>\n<meta charset=\"utf-8\">\n\
          <meta http-equiv=\"Content-Security-Policy\" content=\"default-src 'none'; style-src 'unsafe-inline'\">\n\
          <meta name=\"viewport\" content=\"width=device-width, initial-scale=1\">\n\
          <title>{}</title>\n<style>\n{}</style>\n</head>\n<body>\n{body}\
-         <footer>Written by spardimple {}. The plan and every figure in it come from a proved library.</footer>\n\
+         <footer>Written by spardimple {}. {source} from a proved library.</footer>\n\
          </body>\n</html>\n",
         escaped(title),
         include_str!("report.css"),

@@ -17,9 +17,10 @@ impl Paint {
 
     /// A text in a terminal's colour, or as it is.
     fn on(self, colour: &str, text: &str) -> String {
-        match self.0 {
-            true => format!("\u{1b}[{colour}m{text}\u{1b}[0m"),
-            false => text.to_owned(),
+        if self.0 {
+            format!("\u{1b}[{colour}m{text}\u{1b}[0m")
+        } else {
+            text.to_owned()
         }
     }
 }
@@ -47,10 +48,8 @@ pub fn plan(name: &str, sheet: &Sheet, listing: &Listing, paint: Paint) -> Strin
             let _ = writeln!(text, "  {}", paint.on(Paint::DIM, &table[0]));
         }
         for (piece, line) in pieces {
-            let _ = match piece.is_half() {
-                true => writeln!(text, "  {}", paint.on(Paint::SPLIT, line)),
-                false => writeln!(text, "  {line}"),
-            };
+            let paint = Paint(paint.0 && piece.is_half());
+            let _ = writeln!(text, "  {}", paint.on(Paint::SPLIT, line));
         }
     }
     splits(&mut text, listing, paint);
@@ -120,8 +119,18 @@ fn splits(text: &mut String, listing: &Listing, paint: Paint) {
         })
         .collect();
     let head = [
-        "<task", "first: core", "budget", "window", "jitter", "charged", "│", "last: core",
-        "budget", "window", "jitter", "charged",
+        "<task",
+        "first: core",
+        "budget",
+        "window",
+        "jitter",
+        "charged",
+        "│",
+        "last: core",
+        "budget",
+        "window",
+        "jitter",
+        "charged",
     ];
     let table = columns::lines(&head, &rows);
     let title = paint.on(Paint::BOLD, "split");
