@@ -36,7 +36,12 @@ fn subcommand(page: &mut String, sub: &Command) {
     let _ = write!(page, ".SS {}", sub.get_name());
     let arguments: Vec<&Arg> = sub.get_arguments().filter(|arg| !standard(arg)).collect();
     for argument in &arguments {
-        let _ = write!(page, " {}", escaped(&called(argument)));
+        let name = escaped(&called(argument));
+        let _ = if argument.is_positional() {
+            write!(page, " {name}")
+        } else {
+            write!(page, " [{name}]")
+        };
     }
     let about = plain(sub.get_about().map(ToString::to_string));
     let _ = writeln!(page, "\n{about}.");
@@ -59,7 +64,6 @@ fn called(argument: &Arg) -> String {
     let value = argument.get_value_names().and_then(|names| names.first());
     match (argument.get_short(), argument.get_long(), value) {
         (Some(short), _, Some(value)) => format!("-{short} {value}"),
-        (None, Some("json"), _) => "--json".to_owned(),
         (None, Some(long), Some(value)) => format!("--{long} {value}"),
         (_, Some(long), None) => format!("--{long}"),
         _ => argument.get_id().to_string(),
