@@ -6,7 +6,8 @@ mod common;
 
 use common::command::{file, folder, names, program, spardimple, spardimple_fed, text};
 use std::fs;
-use std::path::Path;
+use std::os::unix::fs::{symlink, PermissionsExt};
+use std::path::{Path, PathBuf};
 use std::process::Command;
 
 #[test]
@@ -64,6 +65,56 @@ fn readme_has_what_is_printed() {
     assert!(readme.contains(&format!("```\n{listing}```\n")));
     let refused = spardimple(&["plan", "examples/film-line-mistyped.sheet"]);
     assert!(readme.contains(&format!("```\n{}```\n", text(&refused.stderr))));
+}
+
+/// The tour of README, as a new user types it: every command runs, and none ends in wrong use or in a
+/// file that is missing. `bash .ci/run` is left out, and the desk where it has not been built.
+#[test]
+fn the_tour_can_be_gone() {
+    let folder = folder("tour");
+    let root = concat!(env!("CARGO_MANIFEST_DIR"), "/..");
+    symlink(format!("{root}/examples"), folder.join("examples")).unwrap();
+    let runner = std::env::var("CARGO_TARGET_X86_64_UNKNOWN_LINUX_GNU_RUNNER").unwrap_or_default();
+    let script = format!(
+        "#!/bin/sh\nexec {runner} '{}' \"$@\"\n",
+        env!("CARGO_BIN_EXE_spardimple")
+    );
+    fs::write(folder.join("spardimple"), script).unwrap();
+    fs::set_permissions(folder.join("spardimple"), fs::Permissions::from_mode(0o755)).unwrap();
+    let readme = file("README.md");
+    let tour = readme
+        .split("\n## ")
+        .find(|part| part.starts_with("Ten minutes"))
+        .unwrap();
+    let typed = |line: &&str| {
+        ["./spardimple", "sed", "diff"]
+            .iter()
+            .any(|word| line.starts_with(word))
+    };
+    let lines: Vec<&str> = tour.lines().filter(typed).collect();
+    assert!(lines.len() >= 10, "{lines:?}");
+    for line in lines {
+        if line.contains(" desk ") && !desk().is_file() {
+            println!("no desk program here: left out");
+            continue;
+        }
+        let gone = Command::new("bash")
+            .args(["-c", line])
+            .current_dir(&folder)
+            .env("SPARDIMPLE_DESK", desk())
+            .env("SPARDIMPLE_EMULATOR", &runner)
+            .output()
+            .unwrap();
+        let refused =
+            line.contains("mistyped") && !line.starts_with("sed") || line.contains("batch");
+        assert_eq!(gone.status.code(), Some(i32::from(refused)), "{line}");
+    }
+}
+
+/// Where the desk program is, if it is built.
+fn desk() -> PathBuf {
+    let built = Path::new(env!("CARGO_MANIFEST_DIR")).join("../target/bin/desk");
+    std::env::var_os("SPARDIMPLE_DESK").map_or(built, PathBuf::from)
 }
 
 #[test]
@@ -226,30 +277,34 @@ fn show_has_the_listing() {
     assert!(refused.stdout.is_empty());
 }
 
-/// On a terminal there are colours, but not where `NO_COLOR` is set; `script` makes the terminal.
+/// On a terminal there are colours, but not where `NO_COLOR` is set, and a progress bar; `script`
+/// makes the terminal.
 #[test]
-fn colours_on_a_terminal() {
+fn colours_and_progress_on_a_terminal() {
     let emulated = std::env::var_os("CARGO_TARGET_X86_64_UNKNOWN_LINUX_GNU_RUNNER").is_some();
     if emulated || !Path::new("/usr/bin/script").exists() {
         println!("no terminal can be made here; colours are not tested");
         return;
     }
-    let shown = |no_color: &str| {
-        let show = format!(
-            "'{}' show examples/film-line.sheet",
-            env!("CARGO_BIN_EXE_spardimple")
-        );
+    let shown = |words: &str, no_color: &str| {
+        let command = format!("'{}' {words}", env!("CARGO_BIN_EXE_spardimple"));
         let shown = Command::new("/usr/bin/script")
-            .args(["-qec", &show, "/dev/null"])
+            .args(["-qec", &command, "/dev/null"])
             .current_dir(concat!(env!("CARGO_MANIFEST_DIR"), "/.."))
             .env("NO_COLOR", no_color)
             .output()
             .unwrap();
         text(&shown.stdout)
     };
-    assert!(shown("").contains("\u{1b}[1mcore 1\u{1b}[0m"));
-    let plain = shown("1");
+    let show = "show examples/film-line.sheet";
+    assert!(shown(show, "").contains("\u{1b}[1mcore 1\u{1b}[0m"));
+    let plain = shown(show, "1");
     assert!(plain.contains("core 1") && !plain.contains('\u{1b}'));
+    let batch = shown("batch examples", "");
+    assert!(
+        batch.contains(&format!("\r[{}] 4 of 4\r\u{1b}[K", "=".repeat(40))),
+        "{batch}"
+    );
 }
 
 /// All sheets are planned, whatever becomes of one; the worst status is the command's.
@@ -309,8 +364,7 @@ labeller.sheet            planned                     9       9
 /// The proved desk program answers, where it has been built; its words pass through.
 #[test]
 fn desk_plays_edits() {
-    let desk = Path::new(env!("CARGO_MANIFEST_DIR")).join("../target/bin/desk");
-    let desk = std::env::var_os("SPARDIMPLE_DESK").map_or(desk, Into::into);
+    let desk = desk();
     let edits = fs::File::open(format!(
         "{}/../examples/film-line.edits",
         env!("CARGO_MANIFEST_DIR")

@@ -7,9 +7,9 @@ mod common;
 use common::command::{folder, spardimple};
 use common::sheets::{damaged, SheetDraw, SHEET};
 use common::Random;
-use configurator::command::{run, Status, Streams};
+use configurator::command::cli::Task;
+use configurator::command::{perform, Status, Streams};
 use configurator::plan;
-use std::ffi::OsString;
 use std::fs;
 
 /// A file: bytes of any kind, bytes that sheets are made of, a damaged sheet, or a good one.
@@ -36,7 +36,7 @@ fn random_file(random: &mut Random) -> Vec<u8> {
 }
 
 /// What the command says in this process.
-fn said(words: &[&str]) -> (Status, Vec<u8>, String) {
+fn said(task: &Task) -> (Status, Vec<u8>, String) {
     let (mut out, mut err) = (Vec::new(), Vec::new());
     let mut streams = Streams {
         out: &mut out,
@@ -44,7 +44,7 @@ fn said(words: &[&str]) -> (Status, Vec<u8>, String) {
         colour: true,
         progress: true,
     };
-    let status = run(words.iter().map(OsString::from), &mut streams);
+    let status = perform(task, &mut streams);
     (
         status,
         out,
@@ -52,27 +52,43 @@ fn said(words: &[&str]) -> (Status, Vec<u8>, String) {
     )
 }
 
-/// 10,000 files through `plan`, and each also through one of the other commands that read a sheet.
+/// 10,000 files through `plan`, and each also through another command.
 #[test]
 fn ten_thousand_files() {
     let mut random = Random::for_test();
     let folder = folder("random");
-    let path = folder.join("s.sheet");
-    let path = path.to_str().unwrap();
+    let sheet = folder.join("s.sheet");
+    let path = sheet.to_str().unwrap();
+    let (out, table, records, costs) = (None, sheet.clone(), sheet.clone(), sheet.clone());
+    let all = Task::Plan {
+        sheet: sheet.clone(),
+        out: None,
+        json: false,
+    };
+    let others = [
+        Task::Show {
+            sheet: sheet.clone(),
+        },
+        Task::Report {
+            sheet: sheet.clone(),
+            out: None,
+        },
+        Task::Batch {
+            folder: folder.clone(),
+            out,
+        },
+        Task::VerdictTable { table },
+        Task::Verdict { records, costs },
+    ];
     let mut planned = 0;
-    for _ in 0..10_000 {
+    for count in 0..10_000 {
         let bytes = random_file(&mut random);
-        fs::write(path, &bytes).unwrap();
-        let (status, out, err) = said(&["plan", path]);
-        let other = random.pick(&["show", "report", "batch"]);
-        let place = if other == "batch" {
-            folder.to_str().unwrap()
-        } else {
-            path
-        };
-        let (second, text, _) = said(&[other, place]);
-        assert_eq!(status, second, "{other}");
-        assert!(!text.is_empty() || status == Status::Refused);
+        fs::write(&sheet, &bytes).unwrap();
+        let (status, out, err) = said(&all);
+        let other = &others[count % others.len()];
+        let (second, ..) = said(other);
+        let of_the_sheet = !matches!(other, Task::VerdictTable { .. } | Task::Verdict { .. });
+        assert!(second == status || !of_the_sheet && second <= Status::Refused);
         match plan(&bytes).unwrap() {
             Ok(listing) => {
                 assert_eq!((status, out, err.as_str()), (Status::Accepted, listing, ""));
@@ -92,10 +108,6 @@ fn ten_thousand_files() {
                 );
             }
         }
-        let (status, ..) = said(&["verdict", "--table", path]);
-        assert!(status <= Status::Refused);
-        let (status, ..) = said(&["verdict", path, path]);
-        assert!(status <= Status::Refused);
     }
     println!("{planned} of 10000 planned");
     assert!(planned > 1_000);

@@ -92,6 +92,14 @@ impl Streams<'_> {
         let _ = writeln!(self.err, "{sentence}");
     }
 
+    /// How the run ended; a failure is told.
+    fn end(&mut self, done: Result<Status, Failure>) -> Status {
+        done.unwrap_or_else(|Failure(why)| {
+            self.say(&why);
+            Status::Failed
+        })
+    }
+
     /// Writes to a file, or where there is none to standard output.
     fn deliver(&mut self, out: Option<&Path>, bytes: &[u8]) -> Result<Status, Failure> {
         match out {
@@ -105,14 +113,19 @@ impl Streams<'_> {
 
 /// Runs the command on the words behind its name.
 pub fn run(words: impl IntoIterator<Item = OsString>, streams: &mut Streams) -> Status {
-    let done = match cli::parse(words) {
+    match cli::parse(words) {
         Ok(task) => perform(&task, streams),
-        Err(error) => answer_words(&error, streams),
-    };
-    done.unwrap_or_else(|Failure(why)| {
-        streams.say(&why);
-        Status::Failed
-    })
+        Err(error) => {
+            let answered = answer_words(&error, streams);
+            streams.end(answered)
+        }
+    }
+}
+
+/// Runs the command on what its words ask for.
+pub fn perform(task: &Task, streams: &mut Streams) -> Status {
+    let done = attempt(task, streams);
+    streams.end(done)
 }
 
 /// Help and the version go to standard output, wrong use to standard error.
@@ -127,7 +140,7 @@ fn answer_words(error: &clap::Error, streams: &mut Streams) -> Result<Status, Fa
     }
 }
 
-fn perform(task: &Task, streams: &mut Streams) -> Result<Status, Failure> {
+fn attempt(task: &Task, streams: &mut Streams) -> Result<Status, Failure> {
     match task {
         Task::Plan { sheet, out, json } => {
             let (name, bytes) = (files::shown(sheet), files::sheet(sheet)?);
