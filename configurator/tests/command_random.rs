@@ -11,6 +11,7 @@ use configurator::command::cli::Task;
 use configurator::command::{perform, Status, Streams};
 use configurator::plan;
 use std::fs;
+use std::path::Path;
 
 /// A file: bytes of any kind, bytes that sheets are made of, a damaged sheet, or a good one.
 fn random_file(random: &mut Random) -> Vec<u8> {
@@ -33,6 +34,12 @@ fn random_file(random: &mut Random) -> Vec<u8> {
         3 => damaged(&draw.sheet(random), random),
         _ => draw.sheet(random),
     }
+}
+
+/// Writes a new file. (One that is only emptied first would wait for the disk.)
+fn put(path: &Path, bytes: &[u8]) {
+    let _ = fs::remove_file(path);
+    fs::write(path, bytes).unwrap();
 }
 
 /// What the command says in this process.
@@ -83,7 +90,7 @@ fn ten_thousand_files() {
     let mut planned = 0;
     for count in 0..10_000 {
         let bytes = random_file(&mut random);
-        fs::write(&sheet, &bytes).unwrap();
+        put(&sheet, &bytes);
         let (status, out, err) = said(&all);
         let other = &others[count % others.len()];
         let (second, ..) = said(other);
@@ -120,7 +127,7 @@ fn as_processes() {
     let path = folder("random-processes").join("s.sheet");
     for _ in 0..200 {
         let bytes = random_file(&mut random);
-        fs::write(&path, &bytes).unwrap();
+        put(&path, &bytes);
         let ended = spardimple(&["plan".as_ref(), path.as_os_str()]);
         match plan(&bytes).unwrap() {
             Ok(listing) => assert_eq!((ended.status.code(), ended.stdout), (Some(0), listing)),
