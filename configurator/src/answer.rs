@@ -180,6 +180,12 @@ impl Refusal {
         }
     }
 
+    /// What to do, by the table of refusals.
+    #[must_use]
+    pub fn remedy(self) -> &'static str {
+        refusals::entry(self.number).map_or("", |entry| entry.remedy)
+    }
+
     /// The sentence for people, where a place that a rule is broken at is a `place`.
     fn write(self, f: &mut fmt::Formatter<'_>, place: &str) -> fmt::Result {
         write!(f, "refused ({})", self.number)?;

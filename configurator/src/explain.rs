@@ -5,7 +5,6 @@
 
 use crate::answer::Refusal;
 use crate::fault::{self, Fault, Text};
-use crate::refusals;
 use std::fmt::Write;
 use std::str;
 
@@ -69,7 +68,6 @@ pub fn refused(refusal: Refusal, sheet: &[u8]) -> Explained {
 /// The refusal of a sheet or a table, with its words.
 #[must_use]
 pub fn refused_in(text: Text, refusal: Refusal, sheet: &[u8]) -> Explained {
-    let entry = refusals::entry(refusal.number());
     let mut meaning = refusal.meaning();
     let place = usize::try_from(refusal.carries()).unwrap_or(usize::MAX);
     let (mut line, mut why) = (None, None);
@@ -98,7 +96,7 @@ pub fn refused_in(text: Text, refusal: Refusal, sheet: &[u8]) -> Explained {
         meaning,
         line,
         why,
-        remedy: entry.map_or("", |entry| entry.remedy),
+        remedy: refusal.remedy(),
     }
 }
 

@@ -40,6 +40,15 @@ impl Text {
         }
     }
 
+    /// What the times of a line are called.
+    fn times(self) -> [&'static str; 6] {
+        let mut names = TIMES;
+        if self == Text::Table {
+            names[0] = "x";
+        }
+        names
+    }
+
     /// The names between a line's word and its times.
     fn names_before_times(self) -> usize {
         match self {
@@ -72,7 +81,7 @@ pub fn find(number: u8, text: Text, bytes: &[u8], above: usize) -> Option<Fault>
     match number {
         1 => machine(&fields),
         2 => costs(&fields),
-        3 => times(fields.get(text.names_before_times() + 1..)?),
+        3 => times(text.times(), fields.get(text.names_before_times() + 1..)?),
         4 => taken(&lines[..above], fields.first()?, fields.get(1)?),
         5 => Some(missing(&lines[..above], fields.get(2)?)),
         8 => form(text.forms(above), &lines, above, &fields),
@@ -140,16 +149,16 @@ fn costs(fields: &[Field]) -> Option<Fault> {
 }
 
 /// 3: the first time that is too great or too small beside the one after it.
-fn times(fields: &[Field]) -> Option<Fault> {
+fn times(names: [&str; 6], fields: &[Field]) -> Option<Fault> {
     let numbers: Vec<u32> = fields.iter().filter_map(Field::number).collect();
     let most = [1_000_000, 1_000_000, 1_000_000, 1_000_000, 100_000, 100_000];
     let too_great = (0..6).find(|&at| numbers.get(at) > most.get(at));
     match (too_great, &numbers[..]) {
         (Some(at), _) => {
-            let why = format!("{} is {} here", TIMES[at], numbers[at]);
+            let why = format!("{} is {} here", names[at], numbers[at]);
             Some(fields[at].fault(why))
         }
-        (None, [0, ..]) => Some(fields[0].fault("C is 0 here".to_owned())),
+        (None, [0, ..]) => Some(fields[0].fault(format!("{} is 0 here", names[0]))),
         (None, [c, d, t, ..]) => {
             let at = usize::from(c <= d);
             let (short, long) = (&fields[at], &fields[at + 1]);
@@ -158,9 +167,9 @@ fn times(fields: &[Field]) -> Option<Fault> {
                 part: short.at.start..long.at.end,
                 why: format!(
                     "{} is {} here and {} is {}",
-                    TIMES[at],
+                    names[at],
                     broken[at],
-                    TIMES[at + 1],
+                    names[at + 1],
                     broken[at + 1]
                 ),
             })

@@ -191,7 +191,7 @@ fn verdicts_of_tables() {
         (
             format!("{costs}whole\t6\t5\t10\t0\t0\t0\n"),
             ":2: refused (3)",
-            "C is 6 here and D is 5",
+            "x is 6 here and D is 5",
         ),
         (
             format!("{costs}half\t6\t5\t10\t0\t0\t0\n"),

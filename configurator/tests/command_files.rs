@@ -127,7 +127,7 @@ fn bytes_that_are_no_text() {
     assert_eq!(spardimple(&words).status.code(), Some(0));
     assert!(fs::read_to_string(&page)
         .unwrap()
-        .contains("line-\u{fffd}.sheet"));
+        .contains("line-\\xff.sheet"));
     for word in [&b"\xff"[..], b"--\xff", b"-\xff"] {
         let wrong = spardimple(&[OsStr::from_bytes(word)]);
         assert_eq!(wrong.status.code(), Some(2));

@@ -172,6 +172,5 @@ fn progress(done: usize, all: usize, streams: &mut Streams) {
 
 /// A file's name without its folder.
 fn short(path: &Path) -> String {
-    let name = path.file_name().unwrap_or_default();
-    name.to_string_lossy().into_owned()
+    files::shown(path.file_name().map_or(path, Path::new))
 }

@@ -50,7 +50,7 @@ pub fn play(sheet: &Path, streams: &mut Streams) -> Result<Status, Failure> {
             Ok(Status::Refused)
         }
         None if ended.success() => Ok(Status::Accepted),
-        None => Err(Failure::new(format!("{}: {ended}", program.display()))),
+        None => Err(Failure::new(format!("{}: {ended}", files::shown(&program)))),
     }
 }
 
@@ -64,6 +64,6 @@ fn program() -> Result<PathBuf, Failure> {
     }
     Err(Failure::new(format!(
         "{}: the desk program is missing; `rt check desk` at the project's root writes it",
-        program.display()
+        files::shown(&program)
     )))
 }

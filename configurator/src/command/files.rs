@@ -2,8 +2,10 @@
 //! all. Names may be any bytes that the system allows.
 
 use super::Failure;
+use crate::explain;
 use std::fs::{self, File};
 use std::io::{self, Read, Write};
+use std::os::unix::ffi::OsStrExt;
 use std::path::{Path, PathBuf};
 
 /// The longest sheet that is accepted: document 01, "Sizes".
@@ -16,13 +18,13 @@ const COSTS: usize = 36;
 /// The most records that are judged.
 const RECORDS_MOST: usize = 79;
 
-/// How a file is called in messages.
+/// How a file is called in messages; what cannot be seen of its name is written out.
 #[must_use]
 pub fn shown(path: &Path) -> String {
     if is_stdin(path) {
         "standard input".to_owned()
     } else {
-        path.display().to_string()
+        explain::shown(path.as_os_str().as_bytes())
     }
 }
 
@@ -111,7 +113,7 @@ pub fn write(path: &Path, bytes: &[u8]) -> Result<(), Failure> {
         return fs::write(&target, bytes).map_err(failed);
     }
     let beside = beside(&target)
-        .ok_or_else(|| Failure::new(format!("{}: this is no file's name", path.display())))?;
+        .ok_or_else(|| Failure::new(format!("{}: this is no file's name", shown(path))))?;
     let written = File::create(&beside)
         .and_then(|mut file| {
             file.write_all(bytes)?;

@@ -181,17 +181,18 @@ fn attempt(task: &Task, streams: &mut Streams) -> Result<Status, Failure> {
                     streams.deliver(out.as_deref(), page.as_bytes())
                 }
                 Planned::Refused(why) => {
+                    streams.say(&why.message(&name));
                     let page = report::refused(&name, &bytes, &why);
                     streams.deliver(out.as_deref(), page.as_bytes())?;
-                    streams.say(&why.message(&name));
                     Ok(Status::Refused)
                 }
             }
         }
         Task::Verdict { records, costs } => {
             match verdict(&files::records(records)?, &files::costs(costs)?)? {
-                refused @ Answer::Refused(_) => {
+                refused @ Answer::Refused(why) => {
                     streams.say(&format!("{}: {refused}", files::shown(records)));
+                    streams.say(&format!("  to do: {}", why.remedy()));
                     Ok(Status::Refused)
                 }
                 answer => streams.print(format!("{answer}\n").as_bytes()),
