@@ -238,7 +238,7 @@ pub fn key(name: &str) -> String {
         )
     };
     format!(
-        "<p class=\"key\">{}{}{}<span class=\"sample\">filled: the budget; outlined: the window that it is done in</span></p>\n",
+        "<p class=\"key\">{}{}{}<span class=\"sample\">filled: the budget; outlined: the window that it is done in; a last piece begins where the first one's window ends</span></p>\n",
         sample(Kind::Whole, "whole task"),
         sample(Kind::First, "first piece of a split task"),
         sample(Kind::Last, "last piece")
