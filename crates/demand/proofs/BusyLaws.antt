@@ -5,8 +5,9 @@
 --   clear-one, clear-step         a climb passes nothing over
 --   least-holding-finds           `leastHolding` finds it
 --   finds-unique                  what is found is one
---   busy-length-asked, tight-window-asked      both as the code climbs to them
-use mathlib.Core.Path.{_≡_, refl, sym, ap, subst, fun-ext}
+--   busy-length-is, -within       what holds the busy sum least is the busy length, within the limit
+--   tight-window-asked            the tight window as the code climbs to it
+use mathlib.Core.Path.{_≡_, refl, sym, ap, subst}
 use mathlib.Core.Bool.{Bool, true, false}
 use mathlib.Core.List.{List, [], _∷_, _++_}
 use Prim.Native.Nat.{ℕ, zero, suc, _+_, _-_, _≤_, _<_}
@@ -18,13 +19,14 @@ use Rattle.demand.specs.declared.Charged.{Charged}
 use Rattle.demand.specs.declared.Found.{Found}
 use Rattle.demand.specs.declared.Found.the-variants.{At, Nothing}
 use Rattle.demand.specs.declared.Sum.{Sum}
-use Rattle.demand.specs.declared.Sum.the-variants.{Busy, Interrupts}
+use Rattle.demand.specs.declared.Sum.the-variants.{Interrupts}
 use Rattle.demand.specs.Sizes.{Each, busyMost}
-use Rattle.demand.specs.Busy.{Least, Holds, Finds, climbing, leastHolding, busySum, busyLength, later, tightSum, tightWindow}
+use Rattle.demand.specs.Busy.{Least, Holds, Finds, climbing, leastHolding, busyLoad, busySum, busyLength, later, tightSum, tightWindow}
 use Rattle.demand.specs.Demand.{total}
 use Rattle.demand.specs.Answer.{tightOfLast}
 use Rattle.demand.specs.Lanes.{term}
-use Rattle.demand.proofs.DemandLaws.{Recurs, sum-mono}
+use Rattle.demand.proofs.Sums.{total-mono}
+use Rattle.demand.proofs.DemandLaws.{Recurs, sum-mono, busy-load-mono}
 
 pub least-le : {P : ℕ → Type 0} {n : ℕ} → Least P n → (k : ℕ) → P k → n ≤ k
 least-le {P} {n} m k p = elim (decLt k n) [ yes h ↦ absurd (m .none-below k h p) | no h ↦ omega arith ]
@@ -72,7 +74,7 @@ module _ (f : ℕ → ℕ) (mono : (m n : ℕ) → m ≤ n → f m ≤ f n) wher
   pub found-within : (top n : ℕ) → leastHolding f top ≡ At n → n ≤ top
   found-within top n e = subst (λ (r : Found). Finds f top r) e (least-holding-finds top) .1
 
--- what the code climbs by: a base and one of the three sums
+-- what the code climbs by: a base and one of the two sums
 abbrev pub asked : Sum → ℕ → List Charged → ℕ → ℕ
 asked s base qs t = base + total (term s t) qs
 
@@ -81,7 +83,7 @@ asked-mono s base qs recurs m n h = omega (arith, sum-mono qs recurs s h)
 
 pub busy-sum-mono : (qs : List Charged) → Each Recurs qs → (m n : ℕ) → m ≤ n → busySum qs m ≤ busySum qs n
 unfolding busySum
-busy-sum-mono qs recurs m n h = sum-mono qs recurs Busy h
+busy-sum-mono qs recurs m n h = total-mono Recurs (busyLoad m) (busyLoad n) (λ q pos. busy-load-mono pos h) qs recurs
 
 pub busy-length-finds : (qs : List Charged) → Each Recurs qs → Finds (busySum qs) busyMost (busyLength qs)
 unfolding busyLength
@@ -92,10 +94,6 @@ busy-length-is qs recurs r found = finds-unique (busySum qs) busyMost r (busyLen
 
 pub busy-length-within : (qs : List Charged) → Each Recurs qs → (l : ℕ) → busyLength qs ≡ At l → l ≤ busyMost
 busy-length-within qs recurs l e = subst (λ (r : Found). Finds (busySum qs) busyMost r) e (busy-length-finds qs recurs) .1
-
-pub busy-length-asked : (qs : List Charged) → busyLength qs ≡ leastHolding (asked Busy 0 qs) busyMost
-unfolding busyLength busySum
-busy-length-asked qs = ap (λ (f : ℕ → ℕ). leastHolding f busyMost) (fun-ext (λ l. omega arith))
 
 -- ---- the tight window
 

@@ -19,7 +19,7 @@ use native.Mathlib.Omega.{arith}
 use borrow.Author.Tests.{lt-ltb, le-ltb}
 use Rattle.demand.specs.declared.Charged.{Charged}
 use Rattle.demand.specs.declared.Sum.{Sum}
-use Rattle.demand.specs.declared.Sum.the-variants.{Load, Busy, Interrupts}
+use Rattle.demand.specs.declared.Sum.the-variants.{Load, Interrupts}
 use Rattle.demand.specs.Sizes.{Each}
 use Rattle.demand.specs.Demand.{ceil, total, jobsDue, interrupts, largestWindow, blocking, load, demand, Some, Live, earliest, leastLive}
 use Rattle.demand.specs.Busy.{Least, busyLoad, busySum}
@@ -85,7 +85,6 @@ busy-load-mono {q} pos h = mul-le-mul-right (q .charge + q .release + q .ipi) (c
 
 pub term-mono : (s : Sum) {q : Charged} → Recurs q → {t u : ℕ} → t ≤ u → term s t q ≤ term s u q
 term-mono Load pos h = load-mono pos h
-term-mono Busy pos h = busy-load-mono pos h
 term-mono Interrupts pos h = interrupts-mono pos h
 
 ceil-shifted : (s l j : ℕ) {k : ℕ} → 0 < k → ceil (s + l + j) k ≤ ceil (s + j) k + ceil l k

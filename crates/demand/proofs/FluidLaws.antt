@@ -1,25 +1,23 @@
 -- Laws of the busy climb's leaps: what a pass tells of every length from l on.
 -- Assumes nothing.
 --
---   share-below, work-below       a piece asks for its share of a length, and for the jobs it has by a shorter one
---   flow-share, flow-work         the pass over one piece
+--   flow-share, flow-work         the pass over one piece: every length asks for its share, or for the jobs it has by l
 --   flow-none, flow-more          the pass over a core, one piece more
---   reach-work, -part, -over, -full, -free     how far a length must reach
+--   reach-part, -over, -full      how far a length must reach, where the shares leave time, are more than all time, or are all
 --   clear-leap                    a leap passes nothing over
-use mathlib.Core.Path.{_≡_, refl, sym, ap, _∙_}
-use mathlib.Core.List.{List, [], _∷_, _++_}
-use Prim.Native.Nat.{ℕ, zero, suc, _+_, _*_, _-_, _/_, _≤_, _<_, zero-le, max}
+use mathlib.Core.Path.{_≡_, ap}
+use mathlib.Core.List.{List, []}
+use Prim.Native.Nat.{ℕ, _+_, _*_, _-_, _/_, _≤_, _<_, max}
 use native.Mathlib.Nat.{div-mul-le-self, lt-div-mul-add, div-lt-iff-lt-mul, mul-le-mul-left, mul-le-mul-right, mul-comm, mul-assoc, mul-left-comm}
 use native.Mathlib.Decide.{decLt}
 use native.Mathlib.Omega.{arith}
 use Rattle.demand.specs.declared.Charged.{Charged}
 use Rattle.demand.specs.declared.leaps.Flow.{Flow}
 use Rattle.demand.specs.Busy.{Holds, busyLoad, busySum}
-use Rattle.demand.specs.Demand.{ceil, total}
+use Rattle.demand.specs.Demand.{ceil}
 use Rattle.demand.specs.Lanes.{rows, lane}
 use Rattle.demand.specs.Leaps.{allTime, Flows, Reaches}
 use Rattle.demand.proofs.BusyLaws.{Clear}
-use Rattle.demand.proofs.Division.{ceil-mono}
 use Rattle.demand.proofs.DemandLaws.{Recurs, busy-load-mono}
 use Rattle.demand.proofs.LaneLaws.{total-more}
 
@@ -74,9 +72,6 @@ flow-more a i l u v w before here asked share work =
 -- ---- how far
 
 module _ (v : Flow) where
-  pub reach-work : 100000000 < v .work → Reaches v 100000001
-  reach-work much m some room = omega arith
-
   pub reach-part : v .share < allTime → Reaches v (v .work * allTime / (allTime - v .share))
   reach-part part m some room = left (allTime - v .share) (omega arith) (omega arith)
     where

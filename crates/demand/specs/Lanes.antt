@@ -8,9 +8,8 @@ use Prim.Native.Nat.{ℕ, zero, suc, _+_, _*_}
 use lib.ListN.{getD}
 use Rattle.demand.specs.declared.Charged.{Charged}
 use Rattle.demand.specs.declared.Sum.{Sum}
-use Rattle.demand.specs.declared.Sum.the-variants.{Load, Busy, Interrupts}
+use Rattle.demand.specs.declared.Sum.the-variants.{Load, Interrupts}
 use Rattle.demand.specs.Demand.{load, interrupts}
-use Rattle.demand.specs.Busy.{busyLoad}
 
 unfoldable pub lane : List ℕ → ℕ → Charged
 lane a i = record {
@@ -29,5 +28,4 @@ rows a (suc n) = rows a n ++ (lane a n ∷ [])
 
 abbrev pub term : Sum → ℕ → Charged → ℕ
 term Load t q = load t q
-term Busy t q = busyLoad t q
 term Interrupts t q = interrupts q t

@@ -1,10 +1,9 @@
-// Jobs due, interrupts, the three sums and the demand g(t), over charged pieces. Nothing wraps: lengths are at most 101,000,000.
+// Jobs due, interrupts, the two sums and the demand g(t), over charged pieces. Nothing wraps: lengths are at most 101,000,000.
 use crate::Charged;
 use crate::Sum;
 use crate::lanes::lane_at;
 ghost use mathlib.Core.Path.{_≡_};
 ghost use Prim.Native.Nat.{_+_, _*_, _-_, _<_, _≤_, min, max};
-ghost use Rattle.demand.specs.Busy.{busyLoad};
 ghost use Rattle.demand.specs.Demand.{ceil, jobsDue, interrupts, load, total, largestWindow, leastLive, demand};
 ghost use Rattle.demand.specs.Lanes.{rows, term};
 ghost use Rattle.demand.specs.Sizes.{Ranged, Each, lengthMost, timeMost};
@@ -65,14 +64,6 @@ pub fn load_of(q: Charged, t: u64) -> u64
     jobs_due(q, t) * q.charge + interrupts_of(q, t)
 }
 
-pub fn busy_load(q: Charged, l: u64) -> u64
-    requires { ⌜ Ranged q ⌝ }
-    requires { ⌜ l ≤ lengthMost ⌝ }
-    ensures { λ r. ⌜ (r ≡ busyLoad l q) × (r ≤ 1000000000000000) ⌝ }
-{
-    ceil_div(l, q.period) * (q.charge + q.release + q.ipi)
-}
-
 pub fn term_of(sum: Sum, q: Charged, t: u64) -> u64
     requires { ⌜ Ranged q ⌝ }
     requires { ⌜ t ≤ lengthMost ⌝ }
@@ -80,12 +71,11 @@ pub fn term_of(sum: Sum, q: Charged, t: u64) -> u64
 {
     match sum {
         Sum::Load => load_of(q, t),
-        Sum::Busy => busy_load(q, t),
         Sum::Interrupts => interrupts_of(q, t),
     }
 }
 
-// One of the three sums over the first n pieces.
+// One of the two sums over the first n pieces.
 pub fn sum_at(core: &[u64; 553], n: usize, sum: Sum, t: u64) -> u64
     requires { ⌜ (n ≤ 79) × Each Ranged (rows (now core) n) ⌝ }
     requires { ⌜ t ≤ lengthMost ⌝ }

@@ -1,4 +1,4 @@
-// The least length that holds a sum: the busy length and the tight window alike.
+// The least length that holds a sum, and the tight window by it.
 use crate::Found;
 use crate::Sum;
 use crate::demands::less;

@@ -96,7 +96,6 @@ pub enum Split {
 /// Which figure of the pieces is summed.
 pub enum Sum {
     Load,
-    Busy,
     Interrupts,
 }
 

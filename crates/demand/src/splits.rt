@@ -3,7 +3,6 @@
 // one array, the last piece alone in another; each candidate writes one lane of each.
 use crate::Costs;
 use crate::Found;
-use crate::Kind;
 use crate::Piece;
 use crate::Run;
 use crate::Split;
@@ -14,9 +13,11 @@ use crate::charges::charged_of;
 use crate::charges::stall_of;
 use crate::demands::demand_at;
 use crate::demands::less;
+use crate::first_piece;
 use crate::lanes::lane_at;
 use crate::lanes::lay_out;
 use crate::lanes::put_lane;
+use crate::last_piece;
 use crate::lengths::tight_of;
 use crate::spans::judge_core;
 use crate::starts::least_sum;
@@ -39,35 +40,6 @@ pub enum Step {
     Below(u64),
 }
 
-pub fn first_of(task: Piece, x: u64, w: u64) -> Piece
-    ensures { λ r. ⌜ r ≡ firstPiece task x w ⌝ }
-{
-    Piece {
-        kind: Kind::First,
-        budget: x,
-        window: w,
-        period: task.period,
-        jitter: task.jitter,
-        preempt: task.preempt,
-        migrate: task.migrate,
-    }
-}
-
-pub fn last_of(costs: Costs, task: Piece, x: u64, w: u64) -> Piece
-    requires { ⌜ (x ≤ task .budget) × (w ≤ task .window) ⌝ }
-    ensures { λ r. ⌜ r ≡ lastPiece costs task x w ⌝ }
-{
-    Piece {
-        kind: Kind::Last,
-        budget: task.budget - x,
-        window: task.window - w,
-        period: task.period,
-        jitter: costs.precision,
-        preempt: task.preempt,
-        migrate: task.migrate,
-    }
-}
-
 // The first piece of x, in the window w, goes behind the n pieces of the core.
 pub fn lay_first(core: &mut [u64; 553], n: usize, costs: Costs, task: Piece, x: u64, w: u64)
     requires { ⌜ SizedCosts costs ⌝ }
@@ -76,7 +48,7 @@ pub fn lay_first(core: &mut [u64; 553], n: usize, costs: Costs, task: Piece, x: 
     requires { ⌜ (x ≤ task .budget) × (w ≤ task .window) ⌝ }
     ensures { λ r. ⌜ (rows (now (core .exit)) (n + 1) ≡ withFirst costs (rows (now (core .entry)) n) task x w) × Kept (now (core .entry)) (now (core .exit)) n × Each Ranged (rows (now (core .exit)) (n + 1)) ⌝ }
 {
-    put_lane(core, n, charged_of(costs, first_of(task, x, w)));
+    put_lane(core, n, charged_of(costs, first_piece(task, x, w)));
 }
 
 // The tight window of the first piece of x, where it leaves the last piece one: looked for up to one less than the task's own window.
@@ -99,7 +71,7 @@ pub fn lay_last(alone: &mut [u64; 553], costs: Costs, task: Piece, x: u64, w: u6
     requires { ⌜ (x ≤ task .budget) × (w ≤ task .window) ⌝ }
     ensures { λ r. ⌜ (rows (now (alone .exit)) 1 ≡ lastAlone costs task x w) × Each Ranged (rows (now (alone .exit)) 1) × (length (now (alone .exit)) ≡ 553) ⌝ }
 {
-    put_lane(alone, 0, charged_of(costs, last_of(costs, task, x, w)));
+    put_lane(alone, 0, charged_of(costs, last_piece(costs, task, x, w)));
 }
 
 // What the last piece of x alone tells. Where it has no busy length no longer one has; where it is overloaded by more than the slack, so is each longer one,

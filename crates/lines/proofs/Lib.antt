@@ -3,4 +3,6 @@ pub mod LineLaws
 pub mod FieldLaws
 pub mod RunLaws
 pub mod FormLaws
+pub mod OrderLaws
 pub mod SaysLaws
+pub mod LongLaws

@@ -3,6 +3,7 @@
 --
 --   SaysPart l, says-part    a `part` line: the word, a name, the numbers behind it
 --   SaysFit l, says-fit      a `fit` line: the word, and two names
+--   name-short               a name has at most 24 bytes
 --   name-exact               two fields that give one name are equal in length and in all bytes
 use mathlib.Core.Path.{_≡_, refl, sym, ap, _∙_}
 use mathlib.Core.Bool.{Bool, true, false, cond, _&&_}
@@ -131,7 +132,7 @@ says-fit l word = by-word (wordOf (upTo tab l)) refl (beyond tab l) refl word
 
 -- ---- names
 
-name-short : (f : List ℕ) → isName f ≡ true → length f ≤ nameMost
+pub name-short : (f : List ℕ) → isName f ≡ true → length f ≤ nameMost
 unfolding isName formed nameOf
 name-short f good =
     elim (decLe (length f) nameMost) [

@@ -1,4 +1,5 @@
 -- What the contracts of `lines` cite.
 pub mod Lines
 pub mod Forms
+pub mod Orders
 pub mod Answers

@@ -1,6 +1,7 @@
-// One line of a timing sheet, by its form alone: document 01, "Sheet" and "Sizes".
+// One line of a timing sheet, or of a script of edits, by its form alone: document 01, "Sheet", "Sizes" and "Edits on a held plan".
 mod fields;
 mod forms;
+mod orders;
 
 use demand::Costs;
 use forms::cost_form;
@@ -12,6 +13,10 @@ use forms::no_name;
 use forms::part_form;
 use forms::untimed;
 use forms::word_of;
+use orders::bare_order;
+use orders::deed_of;
+use orders::timed_order;
+use orders::withdraw_order;
 use task::Machine;
 use task::Name;
 use task::Task;
@@ -19,6 +24,7 @@ ghost use mathlib.Core.Path.{_≡_};
 ghost use lib.ListN.{length};
 ghost use Rattle.lines.specs.Lines.{upTo};
 ghost use Rattle.lines.specs.Forms.{noLine, lineOf};
+ghost use Rattle.lines.specs.Orders.{noOrder, orderOf};
 
 /// The kind of a line, by its first field.
 pub enum Word {
@@ -36,6 +42,21 @@ pub struct Line {
     pub costs: Costs,
     pub task: Task,
     pub part: Name,
+}
+
+/// What a line of a script asks for, by its first field.
+pub enum Deed {
+    Add,
+    Withdraw,
+    Retime,
+    List,
+    Other,
+}
+
+/// What a line of a script says by its form alone. What it does not say is zero.
+pub struct Order {
+    pub deed: Deed,
+    pub task: Task,
 }
 
 /// The answer on a field that is to be a number.
@@ -97,5 +118,36 @@ pub fn line_of(line: &[u8]) -> Line
         Word::Part => part_form(rest),
         Word::Fit => fit_form(rest),
         Word::Other => no_line(),
+    }
+}
+
+/// A line of a script of no form.
+pub fn no_order() -> Order
+    ensures exact { λ r. ⌜ r ≡ noOrder ⌝ }
+{
+    let name = no_name();
+    let task = untimed(name);
+    Order {
+        deed: Deed::Other,
+        task,
+    }
+}
+
+/// What a line of a script says.
+pub fn order_of(line: &[u8]) -> Order
+    ensures exact { λ r. ⌜ r ≡ orderOf (now (line .entry)) ⌝ }
+{
+    let e = until(line, 9);
+    let deed = deed_of(&line[..e]);
+    if e == line.len() {
+        return bare_order(deed);
+    }
+    let rest = &line[e + 1..];
+    match deed {
+        Deed::Add => timed_order(Deed::Add, rest),
+        Deed::Withdraw => withdraw_order(rest),
+        Deed::Retime => timed_order(Deed::Retime, rest),
+        Deed::List => no_order(),
+        Deed::Other => no_order(),
     }
 }

@@ -7,3 +7,4 @@ pub mod ArrowLaws
 pub mod RuleLaws
 pub mod Examples
 pub mod SmallLaws
+pub mod FirstLaws

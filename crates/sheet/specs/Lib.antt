@@ -2,3 +2,4 @@
 pub mod Sheet
 pub mod Held
 pub mod Fitted
+pub mod Refusing

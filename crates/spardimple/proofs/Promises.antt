@@ -9,7 +9,8 @@
 --
 -- Demand 1, each input answered:
 --   one-verdict, one-listing        no two answers share a number
---   nine, seven, ten                those refusals come exactly when document 01 says; a line's are `lineFault`, a record's `checkRun`, an edit's `editFault`
+--   nine, by-line, seven, ten       a sheet's refusals come exactly when document 01 says, in its order; what is wrong with one line is `lineFault`,
+--                                   with records `checkRun`, with an edit `editFault`
 --   refused-buffer, refused-state   a refusal changes no lent byte and no held plan
 --   written-buffer                  an accepted listing stands at the front of the buffer, and the bytes beyond stay
 -- Demand 2, verdict and plan:
@@ -24,7 +25,7 @@
 --   edit-made                       where an accepted edit has the tasks that it should
 --   kept-before, kept-after         what an accepted edit keeps
 -- Assumes nothing.
-use mathlib.Core.Path.{_≡_, sym, _∙_}
+use mathlib.Core.Path.{_≡_, refl, sym, _∙_}
 use mathlib.Core.Logic.{_⊎_, _↔_}
 use mathlib.Core.List.{List, [], _∷_, _++_, map}
 use Prim.Native.Nat.{ℕ, suc, _≤_, _<_}
@@ -47,8 +48,10 @@ use Rattle.plan.specs.Walk.{Stand, Placed, fine, stuck, onCore, rowOf}
 use Rattle.plan.specs.Plan.{wholeAt, walked, planOf}
 use Rattle.plan.specs.Shares.{ofTask, sumBy, Shared}
 use Rattle.plan.proofs.Theorems.{plan-comes, no-room, all-placed, budgets-add, windows-add, cores-pass, cores-keep-up}
-use Rattle.sheet.specs.Sheet.{sheetMost, readOf}
+use Rattle.sheet.specs.Sheet.{top, sheetMost, readOf}
 use Rattle.sheet.specs.Fitted.{Fitted, linesOf}
+use Rattle.sheet.specs.Refusing.{tailOf, Refusing}
+use Rattle.sheet.proofs.FirstLaws.{first-bad}
 use Rattle.sheet.proofs.ArrowLaws.{first-arrow}
 use Rattle.sheet.proofs.RuleLaws.{breaks-no-rule}
 use Rattle.listing.specs.Listing.{rowEntries, entries, listingOf}
@@ -62,6 +65,7 @@ use Rattle.spardimple.specs.Numbers.{Reply, said, replyOf, verdictNumber
 use Rattle.spardimple.specs.Sheets.{Paper, refused, written, machineIn, costsIn, tasksIn, planIn, paperOf, refusal, toldPaper, listingNumber, listingLeft}
 use Rattle.spardimple.proofs.NumberLaws.{verdict-number-one}
 use Rattle.spardimple.proofs.PaperLaws.{listing-number-one, paper-nine, paper-seven, paper-ten, paper-read, paper-comes, paper-alike, buffer-refused, buffer-written}
+use Rattle.spardimple.proofs.SheetLaws.{paper-unread}
 use Rattle.spardimple.proofs.JudgedLaws.{judged-sized, judged-verdict}
 
 -- ---- demand 1: each input answered
@@ -74,6 +78,12 @@ one-listing sheet sheet′ room room′ = listing-number-one sheet sheet′ room
 
 pub nine : (sheet : List ℕ) → (sheetMost < length sheet) ↔ (paperOf sheet ≡ refused 9 0)
 nine sheet = paper-nine sheet
+
+pub by-line : (sheet : List ℕ) → length sheet ≤ sheetMost → (k j : ℕ) → ((readOf sheet .number ≡ suc k) × (readOf sheet .carries ≡ j)) ↔ Refusing top 1 (linesOf sheet) (tailOf sheet) (suc k) j
+by-line sheet few k j = first-bad sheet few k j
+
+pub by-line-then : (sheet : List ℕ) → (readOf sheet .number ≡ 0 → ⊥) → paperOf sheet ≡ refused (readOf sheet .number) (readOf sheet .carries)
+by-line-then sheet = paper-unread sheet (readOf sheet) refl
 
 pub seven : (sheet : List ℕ) → readOf sheet .number ≡ 0 → (k : ℕ) → (paperOf sheet ≡ refused 7 (suc k)) ↔ (walked (machineIn sheet) (costsIn sheet) (tasksIn sheet) ≡ stuck k)
 seven sheet whole k = paper-seven sheet whole k

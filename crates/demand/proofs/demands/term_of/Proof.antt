@@ -5,7 +5,6 @@ use Rattle.demand.proofs.demands.term_of.Statement.{statement}
 use Rattle.demand.proofs.demands.term_of.Tie as tie
 use Rattle.demand.proofs.demands.term_of.Reads as reads
 use Rattle.demand.proofs.demands.term_of.Lts as lts
-use Rattle.demand.proofs.demands.busy_load.Reads as busy-load-reads
 use Rattle.demand.proofs.demands.interrupts_of.Reads as interrupts-of-reads
 use Rattle.demand.proofs.demands.load_of.Reads as load-of-reads
 
@@ -18,12 +17,6 @@ load-of-requires c κs = search needs
 enum-told-2 : tie.Need-enum-told-2
 enum-told-2 c = search needs
 
-busy-load-requires : tie.Need-busy-load-requires
-busy-load-requires c κs = search needs
-
-enum-told-3 : tie.Need-enum-told-3
-enum-told-3 c = search needs
-
 interrupts-of-requires : tie.Need-interrupts-of-requires
 interrupts-of-requires c κs = search needs
 
@@ -31,10 +24,7 @@ returns : tie.Need-returns
 returns c = (rw (c .before .enum-told .given .1) (c .load-of .ensures .0), search needs)
 
 returns-2 : tie.Need-returns-2
-returns-2 c = (rw (c .before .enum-told2 .given .1) (c .busy-load .ensures .0), search needs)
-
-returns-3 : tie.Need-returns-3
-returns-3 c = (rw (c .before .enum-told3 .given .1) (c .interrupts-of .ensures .0), search needs)
+returns-2 c = (rw (c .before .enum-told2 .given .1) (c .interrupts-of .ensures .0), search needs)
 
 pub term-of-spec : {M : Type 1} → statement M
 term-of-spec =
@@ -43,9 +33,6 @@ term-of-spec =
     enum-told
     load-of-requires
     enum-told-2
-    busy-load-requires
-    enum-told-3
     interrupts-of-requires
     returns
-    returns-2
-    returns-3)
+    returns-2)

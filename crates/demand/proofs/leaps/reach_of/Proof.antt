@@ -1,6 +1,6 @@
 -- `leaps::reach_of` meets its contract: the quotient where the share leaves room, and past the limit where it leaves none.
 use Prim.Native.Nat.{_+_, _*_, _-_, _/_, _≤_}
-use mathlib.Core.Path.{_≡_, refl}
+use mathlib.Core.Path.{_≡_}
 use native.Mathlib.Nat.{div-le-self}
 use native.Mathlib.Omega.{arith}
 use Rattle.demand.specs.Leaps.{allTime}

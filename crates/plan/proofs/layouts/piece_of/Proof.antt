@@ -4,7 +4,7 @@ use Rattle.plan.proofs.layouts.piece_of.Statement.{statement}
 use Rattle.plan.proofs.layouts.piece_of.Tie as tie
 use Rattle.plan.proofs.layouts.piece_of.Reads as reads
 use Rattle.plan.proofs.layouts.piece_of.Lts as lts
-use Rattle.plan.proofs.layouts.kind_of.Reads as kind-of-reads
+use Rattle.demand.proofs.kind_of.Reads as kind-of-reads
 
 kind-of-requires : tie.Need-kind-of-requires
 kind-of-requires c κs = search needs

@@ -4,7 +4,7 @@ use Rattle.plan.proofs.layouts.store.Statement.{statement}
 use Rattle.plan.proofs.layouts.store.Tie as tie
 use Rattle.plan.proofs.layouts.store.Reads as reads
 use Rattle.plan.proofs.layouts.store.Lts as lts
-use Rattle.plan.proofs.layouts.kind_number.Reads as kind-number-reads
+use Rattle.demand.proofs.kind_number.Reads as kind-number-reads
 
 kind-number-requires : tie.Need-kind-number-requires
 kind-number-requires c κs = search needs

@@ -1,0 +1,66 @@
+-- What one line of a script of edits says by its form alone: document 01, "Edits on a held plan". A line of no form says `noOrder`.
+--
+--   deedOf f              what the first field asks for
+--   timedForm d fs        name, C, D, T, J, P, M, as in a `part` line: a task to add, or other times for one
+--   withdrawForm fs       task name
+--   listForm fs           nothing beyond the word
+--   orderOf l             the line l: its word, and the fields beyond it
+use mathlib.Core.Bool.{cond}
+use mathlib.Core.List.{List, [], _∷_}
+use Prim.Native.Nat.{ℕ}
+use Rattle.task.specs.declared.Task.{Task}
+use Rattle.task.specs.Names.{sameBytes}
+use Rattle.lines.specs.declared.Word.{Word}
+use Rattle.lines.specs.declared.Deed.{Deed}
+use Rattle.lines.specs.declared.Order.{Order}
+use Rattle.lines.specs.Lines.{bytesOf, tab, upTo, beyond, isName, nameOf}
+use Rattle.lines.specs.Forms.{untimed, noTask, partForm}
+
+-- ---- what a line says; what it does not say is zero
+
+abbrev pub noOrder : Order
+noOrder = record { deed = Deed.Other; task = noTask }
+
+abbrev pub listOrder : Order
+listOrder = record { deed = Deed.List; task = noTask }
+
+-- ---- the forms
+
+-- the order for the task of a `part` line, and none for any other line
+abbrev pub forPart : Deed → Word → Task → Order
+forPart d Word.Machine t = noOrder
+forPart d Word.Cost t = noOrder
+forPart d Word.Part t = record { deed = d; task = t }
+forPart d Word.Fit t = noOrder
+forPart d Word.Other t = noOrder
+
+unfoldable pub timedForm : Deed → List (List ℕ) → Order
+timedForm d fs = forPart d (partForm fs .word) (partForm fs .task)
+
+unfoldable pub withdrawForm : List (List ℕ) → Order
+withdrawForm [] = noOrder
+withdrawForm (f ∷ []) = cond (isName f) (record { deed = Deed.Withdraw; task = untimed (nameOf f) }) noOrder
+withdrawForm (f ∷ g ∷ fs) = noOrder
+
+unfoldable pub listForm : List (List ℕ) → Order
+listForm [] = listOrder
+listForm (f ∷ fs) = noOrder
+
+-- ---- a line
+
+unfoldable pub deedOf : List ℕ → Deed
+deedOf f =
+    cond (sameBytes f (bytesOf "add")) Deed.Add
+    (cond (sameBytes f (bytesOf "withdraw")) Deed.Withdraw
+    (cond (sameBytes f (bytesOf "retime")) Deed.Retime
+    (cond (sameBytes f (bytesOf "list")) Deed.List Deed.Other)))
+
+abbrev pub orderForm : Deed → List (List ℕ) → Order
+orderForm Deed.Add fs = timedForm Deed.Add fs
+orderForm Deed.Withdraw fs = withdrawForm fs
+orderForm Deed.Retime fs = timedForm Deed.Retime fs
+orderForm Deed.List fs = listForm fs
+orderForm Deed.Other fs = noOrder
+
+unfoldable pub orderOf : List ℕ → Order
+orderOf l = orderForm (deedOf (upTo tab l)) (beyond tab l)
