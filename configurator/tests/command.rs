@@ -6,7 +6,7 @@ mod common;
 
 use common::command::{file, folder, names, program, spardimple, spardimple_fed, text};
 use std::fs;
-use std::os::unix::fs::{symlink, PermissionsExt};
+use std::os::unix::fs::symlink;
 use std::path::{Path, PathBuf};
 use std::process::Command;
 
@@ -75,12 +75,7 @@ fn the_tour_can_be_gone() {
     let root = concat!(env!("CARGO_MANIFEST_DIR"), "/..");
     symlink(format!("{root}/examples"), folder.join("examples")).unwrap();
     let runner = std::env::var("CARGO_TARGET_X86_64_UNKNOWN_LINUX_GNU_RUNNER").unwrap_or_default();
-    let script = format!(
-        "#!/bin/sh\nexec {runner} '{}' \"$@\"\n",
-        env!("CARGO_BIN_EXE_spardimple")
-    );
-    fs::write(folder.join("spardimple"), script).unwrap();
-    fs::set_permissions(folder.join("spardimple"), fs::Permissions::from_mode(0o755)).unwrap();
+    let program = format!("{runner} '{}'", env!("CARGO_BIN_EXE_spardimple"));
     let readme = file("README.md");
     let tour = readme
         .split("\n## ")
@@ -99,7 +94,7 @@ fn the_tour_can_be_gone() {
             continue;
         }
         let gone = Command::new("bash")
-            .args(["-c", line])
+            .args(["-c", &line.replace("./spardimple", &program)])
             .current_dir(&folder)
             .env("SPARDIMPLE_DESK", desk())
             .env("SPARDIMPLE_EMULATOR", &runner)

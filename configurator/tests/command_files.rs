@@ -9,8 +9,11 @@ use common::command::{file, folder, names, program, spardimple, spardimple_fed, 
 use common::sheets::{LISTING, SHEET};
 use std::ffi::OsStr;
 use std::fs::{self, File};
+use std::net::Shutdown;
 use std::os::unix::ffi::OsStrExt;
 use std::os::unix::fs::symlink;
+use std::os::unix::io::OwnedFd;
+use std::os::unix::net::UnixStream;
 use std::process::Stdio;
 
 #[test]
@@ -151,37 +154,28 @@ fn closed_pipes() {
         &["completions", "bash"],
         &["--help"],
     ] {
-        let (reader, writer) = pipe();
-        drop(reader);
-        let ended = program().args(words).stdout(writer).output().unwrap();
+        let ended = program().args(words).stdout(closed()).output().unwrap();
         assert_eq!(ended.status.code(), Some(3), "{words:?}");
         let said = text(&ended.stderr);
         assert!(said.contains("standard output: Broken pipe"), "{said}");
         let full = File::options().write(true).open("/dev/full").unwrap();
         let ended = program().args(words).stdout(full).output().unwrap();
         assert_eq!(ended.status.code(), Some(3), "{words:?}");
-        let (reader, writer) = pipe();
-        drop(reader);
-        let quiet = program()
-            .args(["plan", "examples/film-line-mistyped.sheet"])
-            .stderr(writer)
-            .output()
-            .unwrap();
-        assert_eq!(quiet.status.code(), Some(1));
     }
+    let quiet = program()
+        .args(["plan", "examples/film-line-mistyped.sheet"])
+        .stderr(closed())
+        .output()
+        .unwrap();
+    assert_eq!(quiet.status.code(), Some(1));
 }
 
-/// The two ends of a pipe, by way of a process that reads nothing.
-fn pipe() -> (std::process::ChildStdout, Stdio) {
-    let mut cat = std::process::Command::new("true")
-        .stdin(Stdio::piped())
-        .stdout(Stdio::piped())
-        .spawn()
-        .unwrap();
-    let writer = cat.stdin.take().unwrap();
-    let reader = cat.stdout.take().unwrap();
-    cat.wait().unwrap();
-    (reader, Stdio::from(writer))
+/// A stream whose reader is gone. It is shut down and not only dropped: a process that another test
+/// starts at that moment may still hold a copy of the reader's end.
+fn closed() -> Stdio {
+    let (reader, writer) = UnixStream::pair().unwrap();
+    reader.shutdown(Shutdown::Both).unwrap();
+    Stdio::from(OwnedFd::from(writer))
 }
 
 /// What is written is whole; where the sheet is refused or the file cannot be written, it is as it
