@@ -9,6 +9,7 @@ use common::sheets::{damaged, SheetDraw, SHEET};
 use common::Random;
 use configurator::command::cli::Task;
 use configurator::command::{perform, Status, Streams};
+use configurator::explain::refused;
 use configurator::plan;
 use std::fs;
 use std::path::Path;
@@ -59,7 +60,8 @@ fn said(task: &Task) -> (Status, Vec<u8>, String) {
     )
 }
 
-/// 10,000 files through `plan`, and each also through another command.
+/// 10,000 files through `plan`, and each also through another command. Where a line or its words are
+/// refused, what is wrong with them is found.
 #[test]
 fn ten_thousand_files() {
     let mut random = Random::for_test();
@@ -103,6 +105,8 @@ fn ten_thousand_files() {
             }
             Err(refusal) => {
                 assert_eq!((status, out.len()), (Status::Refused, 0));
+                let found = refused(refusal, &bytes).why.is_some();
+                assert_eq!(found, matches!(refusal.number(), 1..=5 | 8), "{err}");
                 let line = match refusal.number() {
                     1..=6 | 8 => format!(":{}: ", refusal.carries()),
                     7 => ":".to_owned(),
