@@ -1,9 +1,20 @@
 //! Links the proved library. The archive is what `rt staticlib spardimple` writes at the project's
-//! root; the environment variable `SPARDIMPLE_ARCHIVE` may name another.
+//! root; the environment variable `SPARDIMPLE_ARCHIVE` may name another. Writes the manual page from
+//! the command's own description.
 
 #![warn(clippy::all, clippy::pedantic)]
 
+#[allow(dead_code)] // the page needs the description, and not what reads the words by it
+#[path = "src/command/cli.rs"]
+mod cli;
+#[path = "src/command/manual.rs"]
+mod manual;
+#[allow(dead_code)] // the page needs the whole table only
+#[path = "src/refusals.rs"]
+mod refusals;
+
 use std::env;
+use std::fs;
 use std::path::{Path, PathBuf};
 use std::process;
 
@@ -23,6 +34,27 @@ fn main() {
             println!("cargo:rustc-link-lib=static={name}");
         }
         _ => stop(&format!("{} is not named libNAME.a", archive.display())),
+    }
+    write_manual();
+}
+
+/// Writes the manual page, where the command takes it from.
+fn write_manual() {
+    for source in [
+        "build.rs",
+        "src/command/cli.rs",
+        "src/command/manual.rs",
+        "src/refusals.rs",
+    ] {
+        println!("cargo:rerun-if-changed={source}");
+    }
+    let folder = env::var_os("OUT_DIR").map(PathBuf::from);
+    let page = folder.map(|folder| folder.join("spardimple.1"));
+    let written = page.map(|page| fs::write(page, manual::page()));
+    match written {
+        Some(Ok(())) => {}
+        Some(Err(error)) => stop(&format!("the manual page: {error}")),
+        None => stop("cargo gives no OUT_DIR"),
     }
 }
 

@@ -13,6 +13,7 @@
 //! | 0 | the listing is written | its length |
 //! | 100 + N | refusal N | what it carries |
 
+use crate::refusals;
 use std::error::Error;
 use std::fmt;
 
@@ -164,6 +165,27 @@ impl Refusal {
         self.carries
     }
 
+    /// What it means, by the table of refusals.
+    ///
+    /// ```
+    /// use configurator::Refusal;
+    ///
+    /// assert_eq!(Refusal::new(7, 3).meaning(), "no core has room for task 3");
+    /// ```
+    #[must_use]
+    pub fn meaning(self) -> String {
+        match refusals::entry(self.number) {
+            Some(entry) => entry.meaning.replace("{}", &self.carries.to_string()),
+            None => "a rule that this program does not know".to_owned(),
+        }
+    }
+
+    /// What to do, by the table of refusals.
+    #[must_use]
+    pub fn remedy(self) -> &'static str {
+        refusals::entry(self.number).map_or("", |entry| entry.remedy)
+    }
+
     /// The sentence for people, where a place that a rule is broken at is a `place`.
     fn write(self, f: &mut fmt::Formatter<'_>, place: &str) -> fmt::Result {
         write!(f, "refused ({})", self.number)?;
@@ -171,22 +193,7 @@ impl Refusal {
         if at_a_place && self.carries > 0 {
             write!(f, " at {place} {}", self.carries)?;
         }
-        match self.number {
-            1 => write!(f, ": the cores must be 1 to 16 and the grain 1 to 1,000,000"),
-            2 => write!(f, ": a cost must be at most 100,000"),
-            3 => write!(
-                f,
-                ": a time must be at most 1,000,000, a cache charge at most 100,000, and 1 ≤ C ≤ D ≤ T"
-            ),
-            4 => write!(f, ": that name is already taken"),
-            5 => write!(f, ": there is no part or task of that name"),
-            6 => write!(f, ": one too many; at most 64 parts, 64 tasks, 79 records"),
-            7 => write!(f, ": no core has room for task {}", self.carries),
-            8 => write!(f, ": not formed as it should be, or cut short"),
-            9 => write!(f, ": the sheet is longer than 16,384 bytes"),
-            10 => write!(f, ": the listing needs {} bytes", self.carries),
-            _ => write!(f, ": a rule that this program does not know"),
-        }
+        write!(f, ": {}", self.meaning())
     }
 }
 

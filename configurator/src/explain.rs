@@ -1,15 +1,46 @@
-//! A refused sheet's sentence for people, with the words of the sheet that it is about.
+//! A refused sheet's sentences for people, with the words of the sheet that they are about.
 //!
 //! The refusal is the library's. What stands here only looks its line or its task up in the sheet's
 //! text, so that nobody has to count lines, and gives no figure of its own.
 
 use crate::answer::Refusal;
+use crate::fault::{self, Fault, Text};
+use std::fmt::Write;
+use std::str;
 
-/// The most characters of a line that are shown.
-const SHOWN: usize = 120;
+/// The most characters that are shown of a line's fault, and of what stands on each side of it.
+const SHOWN: usize = 60;
 
-/// The refusal's sentence. Below it stands the line that it carries, with tabs as `\t`, so that a
-/// wrong space can be seen; for 7 the task has its name behind its place.
+/// A refusal over a sheet, in the parts that a message or a page is made of.
+#[derive(Clone, Debug, PartialEq, Eq)]
+pub struct Explained {
+    /// What was refused.
+    pub refusal: Refusal,
+    /// What it means; for 7 with the task's name.
+    pub meaning: String,
+    /// The line that it is about.
+    pub line: Option<Line>,
+    /// What is wrong with the line's words, and the hint where there is one.
+    pub why: Option<String>,
+    /// What to do.
+    pub remedy: &'static str,
+}
+
+/// A line of a sheet, cut where the fault in it begins and ends. Tabs are `⇥`, so that a wrong
+/// space can be seen.
+#[derive(Clone, Debug, PartialEq, Eq)]
+pub struct Line {
+    /// Its number, from 1.
+    pub number: usize,
+    /// What stands before the fault.
+    pub before: String,
+    /// What is wrong; empty where nothing can be pointed at.
+    pub fault: String,
+    /// What stands behind it.
+    pub behind: String,
+}
+
+/// The refusal of a sheet, with the sheet's words.
 ///
 /// ```
 /// use configurator::{explain, Refusal};
@@ -19,42 +50,156 @@ const SHOWN: usize = 120;
 /// fit\tfeed\tdrv-a2
 /// ";
 /// assert_eq!(
-///     explain::refused(Refusal::new(5, 5), sheet),
-///     "refused (5) at line 5: there is no part or task of that name\n  fit\\tfeed\\tdrv-a2"
+///     explain::refused(Refusal::new(5, 5), sheet).message("line.sheet"),
+///     "line.sheet:5: refused (5): there is no part or task of that name
+///   fit⇥feed⇥drv-a2
+///            ^^^^^^
+///   no part `drv-a2` above; `drv-a` is a different part
+///   to do: write the name exactly as the line that defines it; upper and lower case differ"
 /// );
-/// assert_eq!(
-///     explain::refused(Refusal::new(7, 2), sheet),
-///     "refused (7): no core has room for task 2, feed"
-/// );
+/// let stuck = explain::refused(Refusal::new(7, 2), sheet);
+/// assert_eq!(stuck.meaning, "no core has room for task 2, `feed`");
 /// ```
 #[must_use]
-pub fn refused(refusal: Refusal, sheet: &[u8]) -> String {
-    let mut lines = sheet.split(|&byte| byte == b'\n');
+pub fn refused(refusal: Refusal, sheet: &[u8]) -> Explained {
+    refused_in(Text::Sheet, refusal, sheet)
+}
+
+/// The refusal of a sheet or a table, with its words.
+#[must_use]
+pub fn refused_in(text: Text, refusal: Refusal, sheet: &[u8]) -> Explained {
+    let mut meaning = refusal.meaning();
     let place = usize::try_from(refusal.carries()).unwrap_or(usize::MAX);
-    let words = match (refusal.number(), place.checked_sub(1)) {
-        (1..=6 | 8, Some(above)) => lines.nth(above).map(|line| match line {
-            [] => "\n  (nothing stands there)".to_owned(),
-            _ => format!("\n  {}", shown(line).escape_debug()),
-        }),
-        (7, Some(above)) => lines
-            .filter_map(fitted_task)
-            .nth(above)
-            .map(|name| format!(", {}", shown(name).escape_debug())),
-        _ => None,
-    };
-    format!("{refusal}{}", words.unwrap_or_default())
+    let (mut line, mut why) = (None, None);
+    match (refusal.number(), place.checked_sub(1)) {
+        (1..=6 | 8, Some(above)) => {
+            let fault = fault::find(refusal.number(), text, sheet, above);
+            line = lines(sheet).nth(above).map(|bytes| {
+                let part = fault
+                    .as_ref()
+                    .map_or(0..0, |fault: &Fault| fault.part.clone());
+                Line::cut(above + 1, bytes, part.start, part.end)
+            });
+            why = fault.map(|fault| fault.why);
+        }
+        (7, Some(above)) => {
+            let mut fits = lines(sheet).enumerate().filter_map(fitted_task);
+            if let Some((at, bytes, name)) = fits.nth(above) {
+                let _ = write!(meaning, ", `{}`", shown(name));
+                line = Some(Line::cut(at + 1, bytes, 4, 4 + name.len()));
+            }
+        }
+        _ => {}
+    }
+    Explained {
+        refusal,
+        meaning,
+        line,
+        why,
+        remedy: refusal.remedy(),
+    }
 }
 
-/// The task that a line fits to a part.
-fn fitted_task(line: &[u8]) -> Option<&[u8]> {
-    line.strip_prefix(b"fit\t")?
-        .split(|&byte| byte == b'\t')
-        .next()
+impl Explained {
+    /// The message for a terminal: the file and the line, the refusal, the line's words with the
+    /// fault underlined, and what to do.
+    #[must_use]
+    pub fn message(&self, file: &str) -> String {
+        let mut text = file.to_owned();
+        if let Some(line) = &self.line {
+            let _ = write!(text, ":{}", line.number);
+        }
+        let _ = write!(
+            text,
+            ": refused ({}): {}",
+            self.refusal.number(),
+            self.meaning
+        );
+        if let Some(line) = &self.line {
+            let _ = write!(text, "\n  {}{}{}", line.before, line.fault, line.behind);
+            if !line.fault.is_empty() {
+                let (indent, length) = (line.before.chars().count(), line.fault.chars().count());
+                let _ = write!(text, "\n  {:indent$}{:^<length$}", "", "");
+            }
+        }
+        if let Some(why) = &self.why {
+            let _ = write!(text, "\n  {why}");
+        }
+        if !self.remedy.is_empty() {
+            let _ = write!(text, "\n  to do: {}", self.remedy);
+        }
+        text
+    }
 }
 
-/// The beginning of some bytes as text.
-fn shown(bytes: &[u8]) -> String {
-    String::from_utf8_lossy(bytes).chars().take(SHOWN).collect()
+impl Line {
+    /// A line cut at two of its bytes.
+    fn cut(number: usize, bytes: &[u8], from: usize, to: usize) -> Self {
+        let before = shown(&bytes[..from]);
+        let skipped = before.chars().count().saturating_sub(SHOWN);
+        Line {
+            number,
+            before: match skipped {
+                0 => before,
+                _ => format!("…{}", before.chars().skip(skipped).collect::<String>()),
+            },
+            fault: begun(shown(&bytes[from..to])),
+            behind: begun(shown(&bytes[to..])),
+        }
+    }
+}
+
+/// The beginning of a text, with a sign where it is cut.
+fn begun(text: String) -> String {
+    match text.char_indices().nth(SHOWN) {
+        Some((end, _)) => format!("{}…", &text[..end]),
+        None => text,
+    }
+}
+
+/// A sheet's lines; behind the last newline there is one more, empty in a good sheet.
+fn lines(sheet: &[u8]) -> impl Iterator<Item = &[u8]> {
+    sheet.split(|&byte| byte == b'\n')
+}
+
+/// The task that a line fits to a part, behind its place and its bytes.
+fn fitted_task((at, line): (usize, &[u8])) -> Option<(usize, &[u8], &[u8])> {
+    let name = line.strip_prefix(b"fit\t")?.split(|&byte| byte == b'\t');
+    name.take(1).map(|name| (at, line, name)).next()
+}
+
+/// Bytes as text for people: a tab is `⇥`, what cannot be seen is written out, and so are bytes that are
+/// no text.
+///
+/// ```
+/// use configurator::explain::shown;
+///
+/// assert_eq!(shown(b"caf\xc3\xa9\t'\xff'\r"), "café⇥'\\xff'\\r");
+/// ```
+#[must_use]
+pub fn shown(mut bytes: &[u8]) -> String {
+    let mut text = String::new();
+    while !bytes.is_empty() {
+        let (good, bad) = match str::from_utf8(bytes) {
+            Ok(_) => (bytes.len(), 0),
+            Err(error) => {
+                let good = error.valid_up_to();
+                (good, error.error_len().unwrap_or(bytes.len() - good))
+            }
+        };
+        for c in str::from_utf8(&bytes[..good]).unwrap_or_default().chars() {
+            match c {
+                '\t' => text.push('⇥'),
+                '"' | '\'' => text.push(c),
+                _ => text.extend(c.escape_debug()),
+            }
+        }
+        for byte in &bytes[good..good + bad] {
+            let _ = write!(text, "\\x{byte:02x}");
+        }
+        bytes = &bytes[good + bad..];
+    }
+    text
 }
 
 #[cfg(test)]
@@ -64,28 +209,36 @@ mod tests {
     /// A sheet made on another system: the carriage return is what is wrong, and is to be seen.
     #[test]
     fn what_is_wrong_can_be_seen() {
-        let sentence = refused(Refusal::new(8, 1), b"machine\t2\t1\r\n");
-        assert!(sentence.ends_with("\n  machine\\t2\\t1\\r"), "{sentence}");
-        let sentence = refused(Refusal::new(8, 2), b"machine\t2\t1\ncost 0 0\n");
-        assert!(sentence.ends_with("\n  cost 0 0"), "{sentence}");
-        let sentence = refused(Refusal::new(8, 2), b"machine\t2\t1\n");
+        let message = refused(Refusal::new(8, 1), b"machine\t2\t1\r\n").message("s");
         assert!(
-            sentence.ends_with("\n  (nothing stands there)"),
-            "{sentence}"
+            message.contains("\n  machine⇥2⇥1\\r\n             ^^\n  a carriage return;"),
+            "{message}"
         );
+        let message = refused(Refusal::new(8, 2), b"machine\t2\t1\ncost 0 0\n").message("s");
+        assert!(message.contains("\n  cost 0 0\n  ^^^^^^^^\n"), "{message}");
+        let message = refused(Refusal::new(8, 2), b"machine\t2\t1\n").message("s");
+        assert!(message.contains("the `cost` line is missing"), "{message}");
     }
 
-    /// Any refusal over any bytes has a sentence that begins as the refusal's own.
+    #[test]
+    fn a_long_line_is_cut_on_both_sides() {
+        let sheet = format!("{}\t{}\tx\n", "a".repeat(300), "b".repeat(300));
+        let line = Line::cut(1, sheet.as_bytes(), 301, 601);
+        assert_eq!(line.before.chars().count(), SHOWN + 1);
+        assert!(line.before.starts_with('…') && line.before.ends_with('⇥'));
+        assert_eq!(line.fault, format!("{}…", "b".repeat(SHOWN)));
+    }
+
+    /// Any refusal over any bytes has a message of some length, with the refusal's number.
     #[test]
     fn nothing_is_too_odd() {
         let long = vec![0xff; 40_000];
-        for sheet in [&b""[..], b"\n", b"fit\t", b"fit\tt", &long] {
+        for sheet in [&b""[..], b"\n", b"fit\t", b"fit\tt", b"part\t\xff", &long] {
             for number in 0..=11 {
                 for carries in [0, 1, 2, u32::MAX] {
-                    let refusal = Refusal::new(number, carries);
-                    let sentence = refused(refusal, sheet);
-                    assert!(sentence.starts_with(&refusal.to_string()));
-                    assert!(sentence.chars().count() < 400);
+                    let message = refused(Refusal::new(number, carries), sheet).message("s");
+                    assert!(message.contains(&format!(": refused ({number}): ")));
+                    assert!(message.chars().count() < 800, "{message}");
                 }
             }
         }

@@ -1,5 +1,5 @@
-//! The C functions of the proved library, each behind a safe function. The only `unsafe` of the
-//! package stands here.
+//! The C functions of the proved library, each behind a safe function, and one of the C library. The
+//! only `unsafe` of the package stands here.
 //!
 //! Nothing checks these declarations against the Rattle source, so each import has the signature
 //! that it copies. At the C boundary a number passes as itself and a slice as a pointer and then a
@@ -24,6 +24,9 @@ mod imports {
             listing: *mut u8,
             listing_len: usize,
         ) -> u64;
+
+        /// The C library's `int isatty(int fd)`
+        pub fn isatty(fd: i32) -> i32;
     }
 }
 
@@ -66,4 +69,12 @@ pub fn plan_listing(sheet: &[u8], listing: &mut [u8]) -> u64 {
             listing.len(),
         )
     }
+}
+
+/// Whether a file descriptor is a terminal: 1 for standard output, 2 for standard error. (Rust's own
+/// library has this from 1.70 on.)
+#[must_use]
+pub fn is_terminal(fd: i32) -> bool {
+    // SAFETY: the function takes any number, and touches no memory but `errno`.
+    unsafe { imports::isatty(fd) == 1 }
 }

@@ -7,7 +7,11 @@
 //! - [`verdict`]: the verdict on one core, asked on lent bytes and decoded into an [`Answer`].
 //! - [`ffi`]: the C functions of the library, the only place with `unsafe`.
 //! - [`answer`]: what the library's numbers mean, and the sentences for them.
-//! - [`explain`]: a refused sheet's sentence, with the words of the sheet that it is about.
+//! - [`refusals`]: the table of refusals, each with what it means and what to do.
+//! - [`explain`]: a refused sheet's sentences, with the words of the sheet that they are about, which
+//!   [`fault`] finds.
+//! - [`listing`], [`quoted`]: the lines of a listing and of an accepted sheet, for tables and drawings.
+//! - [`command`]: the command for people.
 //! - [`plain`]: the oracle, document 01 done the naive way. Tests compare the library with it; it
 //!   never calls the library.
 //!
@@ -47,9 +51,14 @@
 #![warn(clippy::all, clippy::pedantic)]
 
 pub mod answer;
+pub mod command;
 pub mod explain;
+pub mod fault;
 pub mod ffi;
+pub mod listing;
 pub mod plain;
+pub mod quoted;
+pub mod refusals;
 
 pub use answer::{Answer, Listed, Refusal, UnknownNumber};
 

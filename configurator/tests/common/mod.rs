@@ -2,6 +2,7 @@
 
 #![allow(dead_code)] // no test uses all of it
 
+pub mod command;
 pub mod compare;
 pub mod cores;
 pub mod listings;

@@ -1,0 +1,287 @@
+//! The command's arguments, described once: `--help`, the completions and, at build, the manual page
+//! are made from this description.
+
+use clap::{value_parser, Arg, ArgAction, ArgMatches, Command};
+use std::ffi::OsString;
+use std::path::PathBuf;
+
+/// What the command is asked to do.
+#[derive(Clone, Debug, PartialEq, Eq)]
+pub enum Task {
+    /// The listing of a sheet.
+    Plan {
+        /// The sheet's file.
+        sheet: PathBuf,
+        /// Where the listing goes, if not to standard output.
+        out: Option<PathBuf>,
+        /// As JSON.
+        json: bool,
+    },
+    /// The verdict on records and costs as bytes.
+    Verdict {
+        /// The records' file.
+        records: PathBuf,
+        /// The costs' file.
+        costs: PathBuf,
+    },
+    /// The verdict on a table of costs and records.
+    VerdictTable {
+        /// The table's file.
+        table: PathBuf,
+    },
+    /// The plan as a table that a person reads.
+    Show {
+        /// The sheet's file.
+        sheet: PathBuf,
+    },
+    /// The plan as a page.
+    Report {
+        /// The sheet's file.
+        sheet: PathBuf,
+        /// Where the page goes, if not to standard output.
+        out: Option<PathBuf>,
+    },
+    /// Edits, played by the proved desk program.
+    Desk {
+        /// The sheet's file.
+        sheet: PathBuf,
+    },
+    /// The plans of all sheets of a folder.
+    Batch {
+        /// The folder.
+        folder: PathBuf,
+        /// The folder where the listings go, if they are wanted.
+        out: Option<PathBuf>,
+    },
+    /// The completions of a shell.
+    Completions {
+        /// The shell's name.
+        shell: String,
+    },
+    /// The manual page.
+    Man,
+}
+
+/// The shells that have completions.
+pub const SHELLS: [&str; 5] = ["bash", "elvish", "fish", "powershell", "zsh"];
+
+/// What stands below the command's own help.
+const BELOW: &str = "\
+Examples:
+  spardimple plan examples/film-line.sheet
+  spardimple verdict --table examples/film-core.table
+  spardimple show examples/film-line.sheet
+  spardimple report examples/film-line.sheet -o film-line.html
+  spardimple desk examples/film-line.sheet < examples/film-line.edits
+  spardimple batch examples
+  spardimple completions bash > ~/.local/share/bash-completion/completions/spardimple
+  spardimple man | man -l -
+
+A sheet has lines of fields parted by one tab, in this order:
+  machine  cores, grain
+  cost     RelO, SchedO, TsetO, IpB, BetO, MigrO, IpiO, IpiJ, precision
+  part     name, C, D, T, J, P, M      up to 64 of them
+  fit      task name, part name        up to 64 of them
+
+Where a file is read, - stands for standard input.
+
+Exit status:
+  0  accepted: planned, or judged, whatever the verdict
+  1  refused: the message has the number, the line and what to do
+  2  wrong use
+  3  a file could not be read or written";
+
+/// The description of the arguments.
+#[must_use]
+pub fn command() -> Command {
+    Command::new("spardimple")
+        .version(env!("CARGO_PKG_VERSION"))
+        .about("Plans the tasks of a multicore controller. Every plan and verdict is given by a proved library.")
+        .after_help(BELOW)
+        .subcommand_required(true)
+        .arg_required_else_help(true)
+        .disable_help_subcommand(true)
+        .subcommands([plan(), verdict(), show(), report(), desk(), batch(), completions(), man()])
+}
+
+fn plan() -> Command {
+    Command::new("plan")
+        .about("Prints the listing of a sheet: which core runs which task, whole or in two pieces")
+        .after_help(
+            "Example: spardimple plan examples/film-line.sheet -o film-line.listing\n\n\
+             A refused sheet has no listing, and FILE is left as it was. With --json the refusal is\n\
+             printed as JSON too.",
+        )
+        .arg(sheet())
+        .arg(out("FILE", "Writes the listing to FILE, whole or not at all"))
+        .arg(
+            Arg::new("json")
+                .long("json")
+                .action(ArgAction::SetTrue)
+                .help("Writes the listing as JSON"),
+        )
+}
+
+fn verdict() -> Command {
+    let bytes = |name, help| file(name, help).required_unless_present("table");
+    Command::new("verdict")
+        .about("Says whether one core keeps every deadline")
+        .after_help(
+            "Examples: spardimple verdict --table examples/film-core.table\n          \
+             spardimple verdict examples/film-core.rec examples/film-core.cost\n\n\
+             A table has a line `cost` with the nine constants, then a line for each piece: whole,\n\
+             first or last, then x, D, T, J, P, M; fields parted by one tab.\n\
+             RECORDS has 28 bytes for each piece: seven numbers of four bytes, lowest first (kind 0\n\
+             whole, 1 first, 2 last; then x, D, T, J, P, M). COSTS has the nine constants, 36 bytes.",
+        )
+        .override_usage("spardimple verdict RECORDS COSTS\n       spardimple verdict --table FILE")
+        .arg(bytes("RECORDS", "Piece records as bytes"))
+        .arg(bytes("COSTS", "The nine cost constants as bytes"))
+        .arg(
+            Arg::new("table")
+                .long("table")
+                .value_name("FILE")
+                .value_parser(value_parser!(PathBuf))
+                .conflicts_with_all(["RECORDS", "COSTS"])
+                .help("Reads costs and pieces as a table of text"),
+        )
+}
+
+fn show() -> Command {
+    Command::new("show")
+        .about("Shows a sheet's plan as a table: each core with its pieces, and the split tasks")
+        .after_help(
+            "Example: spardimple show examples/film-line.sheet\n\n\
+             There is colour on a terminal only, and none where NO_COLOR is set.",
+        )
+        .arg(sheet())
+}
+
+fn report() -> Command {
+    Command::new("report")
+        .about("Writes a sheet's plan, or its refusal, as one page for a browser")
+        .after_help(
+            "Example: spardimple report examples/film-line.sheet -o film-line.html\n\n\
+             The page needs no network and no script. A refused sheet has a page too, with what was\n\
+             refused, where and what to do; the exit status is 1 then.",
+        )
+        .arg(sheet())
+        .arg(out("FILE", "Writes the page to FILE, whole or not at all"))
+}
+
+fn desk() -> Command {
+    Command::new("desk")
+        .about("Plays edits on a sheet's plan, by the proved desk program")
+        .after_help(
+            "Example: spardimple desk examples/film-line.sheet < examples/film-line.edits\n\n\
+             Edits are typed or piped, one a line, fields parted by one tab:\n  \
+             add NAME C D T J P M, withdraw NAME, retime NAME C D T J P M, list\n\
+             The answer is ok, the listing, or refusal with its number and what it carries.",
+        )
+        .arg(file("SHEET", "A timing sheet"))
+}
+
+fn batch() -> Command {
+    Command::new("batch")
+        .about("Plans every *.sheet of a folder and prints a summary")
+        .after_help(
+            "Example: spardimple batch examples -o listings\n\n\
+             A refused sheet stops nothing. The exit status is that of the worst sheet.",
+        )
+        .arg(file("DIR", "The folder"))
+        .arg(out("OUT", "Writes each listing into the folder OUT"))
+}
+
+fn completions() -> Command {
+    Command::new("completions")
+        .about("Prints the completions for a shell")
+        .after_help(
+            "Example: spardimple completions bash > ~/.local/share/bash-completion/completions/spardimple",
+        )
+        .arg(
+            Arg::new("SHELL")
+                .required(true)
+                .value_parser(SHELLS)
+                .help("The shell"),
+        )
+}
+
+fn man() -> Command {
+    Command::new("man")
+        .about("Prints the manual page")
+        .after_help("Example: spardimple man | man -l -")
+}
+
+fn sheet() -> Arg {
+    file("SHEET", "A timing sheet; - reads standard input")
+}
+
+/// Where the answer goes.
+fn out(value: &'static str, help: &'static str) -> Arg {
+    Arg::new("out")
+        .short('o')
+        .long("out")
+        .value_name(value)
+        .value_parser(value_parser!(PathBuf))
+        .help(help)
+}
+
+/// A file or folder that stands by its place.
+fn file(name: &'static str, help: &'static str) -> Arg {
+    Arg::new(name)
+        .required(true)
+        .value_parser(value_parser!(PathBuf))
+        .help(help)
+}
+
+/// What the words behind the command's name ask for.
+///
+/// # Errors
+///
+/// The words ask for nothing, or for help or the version.
+pub fn parse(words: impl IntoIterator<Item = OsString>) -> Result<Task, clap::Error> {
+    let name = OsString::from("spardimple");
+    let matches = command().try_get_matches_from(std::iter::once(name).chain(words))?;
+    let (sub, given) = matches.subcommand().unwrap_or(("man", &matches));
+    let needed = |id| path(given, id).unwrap_or_default();
+    Ok(match sub {
+        "plan" => Task::Plan {
+            sheet: needed("SHEET"),
+            out: path(given, "out"),
+            json: given.get_flag("json"),
+        },
+        "verdict" => match path(given, "table") {
+            Some(table) => Task::VerdictTable { table },
+            None => Task::Verdict {
+                records: needed("RECORDS"),
+                costs: needed("COSTS"),
+            },
+        },
+        "show" => Task::Show {
+            sheet: needed("SHEET"),
+        },
+        "report" => Task::Report {
+            sheet: needed("SHEET"),
+            out: path(given, "out"),
+        },
+        "desk" => Task::Desk {
+            sheet: needed("SHEET"),
+        },
+        "batch" => Task::Batch {
+            folder: needed("DIR"),
+            out: path(given, "out"),
+        },
+        "completions" => Task::Completions {
+            shell: given
+                .get_one::<String>("SHELL")
+                .cloned()
+                .unwrap_or_default(),
+        },
+        _ => Task::Man,
+    })
+}
+
+/// The file that an argument names.
+fn path(given: &ArgMatches, id: &str) -> Option<PathBuf> {
+    given.get_one::<PathBuf>(id).cloned()
+}

@@ -1,0 +1,138 @@
+//! Reading and writing files: what is read is bounded, what is written is written whole or not at
+//! all. Names may be any bytes that the system allows.
+
+use super::Failure;
+use crate::explain;
+use std::fs::{self, File};
+use std::io::{self, Read, Write};
+use std::os::unix::ffi::OsStrExt;
+use std::path::{Path, PathBuf};
+
+/// The longest sheet that is accepted: document 01, "Sizes".
+pub const SHEET_MOST: usize = 16_384;
+
+/// The bytes of a piece record, and of the costs.
+const RECORD: usize = 28;
+const COSTS: usize = 36;
+
+/// The most records that are judged.
+const RECORDS_MOST: usize = 79;
+
+/// How a file is called in messages; what cannot be seen of its name is written out.
+#[must_use]
+pub fn shown(path: &Path) -> String {
+    if is_stdin(path) {
+        "standard input".to_owned()
+    } else {
+        explain::shown(path.as_os_str().as_bytes())
+    }
+}
+
+/// A sheet's bytes. Of a longer file one byte more than a sheet may have is read: the library
+/// refuses it all the same, however long it is.
+///
+/// # Errors
+///
+/// The file cannot be read.
+pub fn sheet(path: &Path) -> Result<Vec<u8>, Failure> {
+    beginning(path, SHEET_MOST + 1)
+}
+
+/// The bytes of nine costs, or one byte more, which is refused however many follow.
+///
+/// # Errors
+///
+/// The file cannot be read.
+pub fn costs(path: &Path) -> Result<Vec<u8>, Failure> {
+    beginning(path, COSTS + 1)
+}
+
+/// The bytes of piece records. Of a file of more than 79 records whole records are left out behind
+/// the 80th: what is lent then has too many records still, or as before a length that is no
+/// multiple of 28, and the library's answer depends on nothing else.
+///
+/// # Errors
+///
+/// The file cannot be read.
+pub fn records(path: &Path) -> Result<Vec<u8>, Failure> {
+    let failed = |error| Failure::of(path, &error);
+    let mut file = open(path)?;
+    let most = (RECORDS_MOST + 1) * RECORD;
+    let mut bytes = Vec::new();
+    file.by_ref()
+        .take(most as u64)
+        .read_to_end(&mut bytes)
+        .map_err(failed)?;
+    let mut more = 0;
+    let mut buffer = [0; 8_192];
+    loop {
+        match file.read(&mut buffer) {
+            Ok(0) => break,
+            Ok(read) => more = (more + read) % RECORD,
+            Err(error) if error.kind() == io::ErrorKind::Interrupted => {}
+            Err(error) => return Err(failed(error)),
+        }
+    }
+    bytes.resize(bytes.len() + more, 0);
+    Ok(bytes)
+}
+
+/// At most so many bytes of a file.
+fn beginning(path: &Path, most: usize) -> Result<Vec<u8>, Failure> {
+    let mut bytes = Vec::new();
+    open(path)?
+        .take(most as u64)
+        .read_to_end(&mut bytes)
+        .map_err(|error| Failure::of(path, &error))?;
+    Ok(bytes)
+}
+
+fn open(path: &Path) -> Result<Box<dyn Read>, Failure> {
+    if is_stdin(path) {
+        return Ok(Box::new(io::stdin()));
+    }
+    let file = File::open(path).map_err(|error| Failure::of(path, &error))?;
+    Ok(Box::new(file))
+}
+
+fn is_stdin(path: &Path) -> bool {
+    path == Path::new("-")
+}
+
+/// Writes a file whole or not at all: to a file beside it, which then takes its name. A link is
+/// followed; what is no ordinary file, as `/dev/null`, is written to as it is.
+///
+/// # Errors
+///
+/// The file cannot be written. Then it is as it was.
+pub fn write(path: &Path, bytes: &[u8]) -> Result<(), Failure> {
+    let failed = |error: io::Error| Failure::of(path, &error);
+    let target = fs::canonicalize(path).unwrap_or_else(|_| path.to_owned());
+    let there = fs::metadata(&target).ok();
+    if there.as_ref().map_or(false, |there| !there.is_file()) {
+        return fs::write(&target, bytes).map_err(failed);
+    }
+    let beside = beside(&target)
+        .ok_or_else(|| Failure::new(format!("{}: this is no file's name", shown(path))))?;
+    let written = File::create(&beside)
+        .and_then(|mut file| {
+            file.write_all(bytes)?;
+            if let Some(there) = there {
+                file.set_permissions(there.permissions())?;
+            }
+            file.sync_all()
+        })
+        .and_then(|()| fs::rename(&beside, &target));
+    written.map_err(|error| {
+        let _ = fs::remove_file(&beside);
+        failed(error)
+    })
+}
+
+/// The name of the file that is written first.
+fn beside(target: &Path) -> Option<PathBuf> {
+    let mut name = std::ffi::OsString::from(".");
+    name.push(target.file_name()?);
+    name.push(format!(".{}.part", std::process::id()));
+    Some(target.with_file_name(name))
+}

@@ -1,0 +1,257 @@
+//! The command for people, as one function from words to an exit status. Each subcommand has a file
+//! of its own, or a few lines here.
+//!
+//! Every figure that is printed stands in an answer of the proved library or in the sheet itself.
+
+pub mod batch;
+pub mod cli;
+pub mod columns;
+pub mod desk;
+pub mod drawing;
+pub mod files;
+pub mod json;
+pub mod report;
+pub mod show;
+pub mod table;
+
+use crate::explain::{self, Explained};
+use crate::fault::Text;
+use crate::listing::Listing;
+use crate::quoted::Sheet;
+use crate::{plan, verdict, Answer, UnknownNumber};
+use clap::error::ErrorKind;
+use cli::Task;
+use std::ffi::OsString;
+use std::io::{self, Write};
+use std::path::Path;
+
+/// The manual page, as the build has written it.
+pub const MANUAL: &str = include_str!(concat!(env!("OUT_DIR"), "/spardimple.1"));
+
+/// How a run ended, with its exit status. The greater is the worse.
+#[derive(Clone, Copy, Debug, PartialEq, Eq, PartialOrd, Ord)]
+pub enum Status {
+    /// Planned or judged.
+    Accepted = 0,
+    /// Refused.
+    Refused = 1,
+    /// The words ask for nothing that there is.
+    WrongUse = 2,
+    /// A file could not be read or written.
+    Failed = 3,
+}
+
+/// Why a run ended without an answer.
+#[derive(Clone, Debug, PartialEq, Eq)]
+pub struct Failure(String);
+
+impl Failure {
+    /// The failure that a sentence tells.
+    #[must_use]
+    pub fn new(why: String) -> Self {
+        Failure(why)
+    }
+
+    /// An error of the system about a file.
+    #[must_use]
+    pub fn of(path: &Path, error: &io::Error) -> Self {
+        Failure(format!("{}: {error}", files::shown(path)))
+    }
+}
+
+impl From<UnknownNumber> for Failure {
+    fn from(unknown: UnknownNumber) -> Self {
+        Failure(unknown.to_string())
+    }
+}
+
+/// Where a run writes, and whether standard output takes colours.
+pub struct Streams<'a> {
+    /// Standard output.
+    pub out: &'a mut dyn Write,
+    /// Standard error.
+    pub err: &'a mut dyn Write,
+    /// Standard output is a terminal that may have colours.
+    pub colour: bool,
+    /// Standard error is a terminal.
+    pub progress: bool,
+}
+
+impl Streams<'_> {
+    /// Writes to standard output.
+    fn print(&mut self, bytes: &[u8]) -> Result<Status, Failure> {
+        let printed = self.out.write_all(bytes).and_then(|()| self.out.flush());
+        match printed {
+            Ok(()) => Ok(Status::Accepted),
+            Err(error) => Err(Failure(format!("standard output: {error}"))),
+        }
+    }
+
+    /// Says something on standard error. Where nobody can hear it, the exit status still tells.
+    fn say(&mut self, sentence: &str) {
+        let _ = writeln!(self.err, "{sentence}");
+    }
+
+    /// How the run ended; a failure is told.
+    fn end(&mut self, done: Result<Status, Failure>) -> Status {
+        done.unwrap_or_else(|Failure(why)| {
+            self.say(&why);
+            Status::Failed
+        })
+    }
+
+    /// Writes to a file, or where there is none to standard output.
+    fn deliver(&mut self, out: Option<&Path>, bytes: &[u8]) -> Result<Status, Failure> {
+        match out {
+            Some(path) if path != Path::new("-") => {
+                files::write(path, bytes).map(|()| Status::Accepted)
+            }
+            _ => self.print(bytes),
+        }
+    }
+}
+
+/// Runs the command on the words behind its name.
+pub fn run(words: impl IntoIterator<Item = OsString>, streams: &mut Streams) -> Status {
+    match cli::parse(words) {
+        Ok(task) => perform(&task, streams),
+        Err(error) => {
+            let answered = answer_words(&error, streams);
+            streams.end(answered)
+        }
+    }
+}
+
+/// Runs the command on what its words ask for.
+pub fn perform(task: &Task, streams: &mut Streams) -> Status {
+    let done = attempt(task, streams);
+    streams.end(done)
+}
+
+/// Help and the version go to standard output, wrong use to standard error.
+fn answer_words(error: &clap::Error, streams: &mut Streams) -> Result<Status, Failure> {
+    let text = error.to_string();
+    match error.kind() {
+        ErrorKind::DisplayHelp | ErrorKind::DisplayVersion => streams.print(text.as_bytes()),
+        _ => {
+            streams.say(text.trim_end());
+            Ok(Status::WrongUse)
+        }
+    }
+}
+
+fn attempt(task: &Task, streams: &mut Streams) -> Result<Status, Failure> {
+    match task {
+        Task::Plan { sheet, out, json } => {
+            let (name, bytes) = (files::shown(sheet), files::sheet(sheet)?);
+            match (planned(&bytes)?, json) {
+                (Planned::Listing(listing), false) => streams.deliver(out.as_deref(), &listing),
+                (Planned::Listing(listing), true) => {
+                    let text = json::listing(&parsed(&listing)?);
+                    streams.deliver(out.as_deref(), text.as_bytes())
+                }
+                (Planned::Refused(why), json) => {
+                    streams.say(&why.message(&name));
+                    if *json && out.is_none() {
+                        streams.print(json::refused(&name, &why).as_bytes())?;
+                    }
+                    Ok(Status::Refused)
+                }
+            }
+        }
+        Task::Show { sheet } => {
+            let (name, bytes) = (files::shown(sheet), files::sheet(sheet)?);
+            match planned(&bytes)? {
+                Planned::Listing(listing) => {
+                    let paint = show::Paint(streams.colour);
+                    let text = show::plan(&name, &quoted(&bytes)?, &parsed(&listing)?, paint);
+                    streams.print(text.as_bytes())
+                }
+                Planned::Refused(why) => {
+                    streams.say(&why.message(&name));
+                    Ok(Status::Refused)
+                }
+            }
+        }
+        Task::Report { sheet, out } => {
+            let (name, bytes) = (files::shown(sheet), files::sheet(sheet)?);
+            match planned(&bytes)? {
+                Planned::Listing(listing) => {
+                    let page = report::plan(&name, &quoted(&bytes)?, &parsed(&listing)?, &listing);
+                    streams.deliver(out.as_deref(), page.as_bytes())
+                }
+                Planned::Refused(why) => {
+                    streams.say(&why.message(&name));
+                    let page = report::refused(&name, &bytes, &why);
+                    streams.deliver(out.as_deref(), page.as_bytes())?;
+                    Ok(Status::Refused)
+                }
+            }
+        }
+        Task::Verdict { records, costs } => {
+            match verdict(&files::records(records)?, &files::costs(costs)?)? {
+                refused @ Answer::Refused(why) => {
+                    streams.say(&format!("{}: {refused}", files::shown(records)));
+                    streams.say(&format!("  to do: {}", why.remedy()));
+                    Ok(Status::Refused)
+                }
+                answer => streams.print(format!("{answer}\n").as_bytes()),
+            }
+        }
+        Task::VerdictTable { table } => {
+            let (name, bytes) = (files::shown(table), files::sheet(table)?);
+            let answer = table::verdict(&bytes)?;
+            match answer {
+                Answer::Refused(refusal) => {
+                    let why = explain::refused_in(Text::Table, refusal, &bytes);
+                    streams.say(&why.message(&name));
+                    Ok(Status::Refused)
+                }
+                answer => streams.print(format!("{answer}\n").as_bytes()),
+            }
+        }
+        Task::Desk { sheet } => desk::play(sheet, streams),
+        Task::Batch { folder, out } => batch::plan_all(folder, out.as_deref(), streams),
+        Task::Completions { shell } => streams.print(&completions(shell)),
+        Task::Man => streams.print(MANUAL.as_bytes()),
+    }
+}
+
+/// What the library makes of a sheet.
+pub enum Planned {
+    /// Its listing.
+    Listing(Vec<u8>),
+    /// Its refusal, for people.
+    Refused(Explained),
+}
+
+/// The library's answer to a sheet's bytes.
+///
+/// # Errors
+///
+/// The library answers a number that stands for nothing, which a proved library never does.
+pub fn planned(sheet: &[u8]) -> Result<Planned, Failure> {
+    Ok(match plan(sheet)? {
+        Ok(listing) => Planned::Listing(listing),
+        Err(refusal) => Planned::Refused(explain::refused(refusal, sheet)),
+    })
+}
+
+/// A listing's rows.
+fn parsed(listing: &[u8]) -> Result<Listing<'_>, Failure> {
+    Listing::parse(listing).ok_or_else(|| Failure("the library's listing has no known form".into()))
+}
+
+/// An accepted sheet's words.
+fn quoted(sheet: &[u8]) -> Result<Sheet<'_>, Failure> {
+    Sheet::parse(sheet).ok_or_else(|| Failure("the accepted sheet has no known form".into()))
+}
+
+/// The completions of a shell that the description of the arguments allows.
+fn completions(shell: &str) -> Vec<u8> {
+    let mut script = Vec::new();
+    if let Ok(shell) = shell.parse::<clap_complete::Shell>() {
+        clap_complete::generate(shell, &mut cli::command(), "spardimple", &mut script);
+    }
+    script
+}

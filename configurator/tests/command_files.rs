@@ -1,0 +1,231 @@
+//! The command's files: standard input, files that are long, missing or no files, names that are no
+//! text, closed pipes, and output that is written whole or not at all.
+
+#![warn(clippy::all, clippy::pedantic)]
+
+mod common;
+
+use common::command::{file, folder, names, program, spardimple, spardimple_fed, text};
+use common::sheets::{LISTING, SHEET};
+use std::ffi::OsStr;
+use std::fs::{self, File};
+use std::net::Shutdown;
+use std::os::unix::ffi::OsStrExt;
+use std::os::unix::fs::symlink;
+use std::os::unix::io::OwnedFd;
+use std::os::unix::net::UnixStream;
+use std::process::Stdio;
+
+#[test]
+fn standard_input() {
+    let planned = spardimple_fed(&["plan", "-"], SHEET.as_bytes());
+    assert_eq!(planned.status.code(), Some(0));
+    assert_eq!(text(&planned.stdout), LISTING);
+    let shown = spardimple_fed(&["show", "-"], SHEET.as_bytes());
+    assert!(text(&shown.stdout).starts_with("standard input: 3 tasks in 4 pieces on 2 cores"));
+    let refused = spardimple_fed(&["plan", "-"], b"");
+    assert_eq!(refused.status.code(), Some(1));
+    assert!(text(&refused.stderr).starts_with("standard input:1: refused (8)"));
+    let records = fs::read(format!(
+        "{}/../examples/film-core.rec",
+        env!("CARGO_MANIFEST_DIR")
+    ))
+    .unwrap();
+    let judged = spardimple_fed(&["verdict", "-", "examples/film-core.cost"], &records);
+    assert!(text(&judged.stdout).starts_with("passes"));
+}
+
+/// A gigabyte is refused at once: as a sheet and as a table with 9, as records with 6 or 8, as costs
+/// with 8. (The file has no blocks; its length is what counts.)
+#[test]
+fn long_files() {
+    let folder = folder("long");
+    let path = folder.join("gigabyte");
+    let gigabyte = 1_u64 << 30;
+    File::create(&path).unwrap().set_len(gigabyte).unwrap();
+    let long = path.to_str().unwrap();
+    let costs = "examples/film-core.cost";
+    let refused = |words: &[&str], number: u8| {
+        let refused = spardimple(words);
+        assert_eq!(refused.status.code(), Some(1), "{words:?}");
+        let said = text(&refused.stderr);
+        assert!(said.contains(&format!(": refused ({number})")), "{said}");
+    };
+    for sub in ["plan", "show", "report"] {
+        let answered = spardimple(&[sub, long]);
+        assert_eq!(answered.status.code(), Some(1));
+        assert!(text(&answered.stderr).contains("gigabyte: refused (9): the sheet is longer"));
+        assert!(answered.stdout.len() < 20_000);
+    }
+    refused(&["verdict", "--table", long], 9);
+    refused(&["verdict", "examples/film-core.rec", long], 8);
+    refused(&["verdict", long, costs], 8);
+    File::create(&path)
+        .unwrap()
+        .set_len(gigabyte / 28 * 28)
+        .unwrap();
+    refused(&["verdict", long, costs], 6);
+    for (length, number) in [(79 * 28, 3), (80 * 28, 6), (80 * 28 + 1, 8), (81 * 28, 6)] {
+        File::create(&path).unwrap().set_len(length).unwrap();
+        refused(&["verdict", long, costs], number);
+    }
+    fs::remove_file(&path).unwrap();
+    let endless = spardimple(&["plan", "/dev/zero"]);
+    assert_eq!(endless.status.code(), Some(1));
+    assert!(text(&endless.stderr).starts_with("/dev/zero: refused (9)"));
+}
+
+/// One byte makes the difference between a sheet that is read and one that is too long.
+#[test]
+fn the_longest_sheet() {
+    let folder = folder("longest");
+    let path = folder.join("s.sheet");
+    for (length, number) in [(16_383, 8), (16_384, 8), (16_385, 9), (16_386, 9)] {
+        fs::write(&path, "x".repeat(length)).unwrap();
+        let refused = spardimple(&["plan".as_ref(), path.as_os_str()]);
+        let said = text(&refused.stderr);
+        assert!(
+            said.contains(&format!(": refused ({number})")),
+            "{length}: {said}"
+        );
+    }
+}
+
+#[test]
+fn missing_files_and_folders() {
+    for words in [
+        &["plan", "examples/none.sheet"][..],
+        &["show", "examples/none.sheet"],
+        &["report", "examples/none.sheet"],
+        &["desk", "examples/none.sheet"],
+        &["verdict", "examples/none.rec", "examples/film-core.cost"],
+        &["verdict", "--table", "examples/none.table"],
+        &["plan", "examples"],
+        &["verdict", "examples/film-core.rec", "examples"],
+    ] {
+        let failed = spardimple(words);
+        assert_eq!(failed.status.code(), Some(3), "{words:?}");
+        assert!(failed.stdout.is_empty());
+        assert!(text(&failed.stderr).starts_with("examples"), "{words:?}");
+    }
+}
+
+/// Names of files, words and names of tasks may be any bytes.
+#[test]
+fn bytes_that_are_no_text() {
+    let folder = folder("no-text");
+    let path = folder.join(OsStr::from_bytes(b"line-\xff.sheet"));
+    fs::write(&path, SHEET).unwrap();
+    let planned = spardimple(&["plan".as_ref(), path.as_os_str()]);
+    assert_eq!(text(&planned.stdout), LISTING);
+    let batch = spardimple(&["batch".as_ref(), folder.as_os_str()]);
+    assert_eq!(batch.status.code(), Some(0));
+    let page = folder.join(OsStr::from_bytes(b"\xfe.html"));
+    let words = [
+        "report".as_ref(),
+        path.as_os_str(),
+        "-o".as_ref(),
+        page.as_os_str(),
+    ];
+    assert_eq!(spardimple(&words).status.code(), Some(0));
+    assert!(fs::read_to_string(&page)
+        .unwrap()
+        .contains("line-\\xff.sheet"));
+    for word in [&b"\xff"[..], b"--\xff", b"-\xff"] {
+        let wrong = spardimple(&[OsStr::from_bytes(word)]);
+        assert_eq!(wrong.status.code(), Some(2));
+    }
+    let sheet = [&SHEET.as_bytes()[..SHEET.len() - 1], b"\xff<b>\n"].concat();
+    let refused = spardimple_fed(&["report", "-"], &sheet);
+    assert_eq!(refused.status.code(), Some(1));
+    assert!(text(&refused.stderr).contains("drv-a\\xff<b>"));
+    let page = text(&refused.stdout);
+    assert!(page.contains("drv-a\\xff&lt;b&gt;") && !page.contains("<b>"));
+}
+
+/// A reader that is gone, or a full disk, is a failure that is told; nothing panics.
+#[test]
+fn closed_pipes() {
+    for words in [
+        &["plan", "examples/film-line.sheet"][..],
+        &["show", "examples/film-line.sheet"],
+        &["report", "examples/film-line.sheet"],
+        &["batch", "examples"],
+        &["completions", "bash"],
+        &["--help"],
+    ] {
+        let ended = program().args(words).stdout(closed()).output().unwrap();
+        assert_eq!(ended.status.code(), Some(3), "{words:?}");
+        let said = text(&ended.stderr);
+        assert!(said.contains("standard output: Broken pipe"), "{said}");
+        let full = File::options().write(true).open("/dev/full").unwrap();
+        let ended = program().args(words).stdout(full).output().unwrap();
+        assert_eq!(ended.status.code(), Some(3), "{words:?}");
+    }
+    let quiet = program()
+        .args(["plan", "examples/film-line-mistyped.sheet"])
+        .stderr(closed())
+        .output()
+        .unwrap();
+    assert_eq!(quiet.status.code(), Some(1));
+}
+
+/// A stream whose reader is gone. It is shut down and not only dropped: a process that another test
+/// starts at that moment may still hold a copy of the reader's end.
+fn closed() -> Stdio {
+    let (reader, writer) = UnixStream::pair().unwrap();
+    reader.shutdown(Shutdown::Both).unwrap();
+    Stdio::from(OwnedFd::from(writer))
+}
+
+/// What is written is whole; where the sheet is refused or the file cannot be written, it is as it
+/// was, and no other file is left.
+#[test]
+fn output_is_whole_or_not_there() {
+    let folder = folder("output");
+    let path = folder.join("out.listing");
+    let plan = |sheet: &str, path: &std::path::Path| {
+        let words = [
+            "plan".as_ref(),
+            OsStr::new(sheet),
+            "-o".as_ref(),
+            path.as_os_str(),
+        ];
+        spardimple(&words).status.code()
+    };
+    let listing = file("examples/film-line.listing");
+    assert_eq!(plan("examples/film-line.sheet", &path), Some(0));
+    assert_eq!(fs::read_to_string(&path).unwrap(), listing);
+    assert_eq!(plan("examples/film-line-mistyped.sheet", &path), Some(1));
+    assert_eq!(fs::read_to_string(&path).unwrap(), listing);
+    assert_eq!(names(&folder), ["out.listing"]);
+    // a link is followed, a folder or a place that is not there is a failure, /dev/null stays what it is
+    symlink(&path, folder.join("link")).unwrap();
+    assert_eq!(
+        plan("examples/labeller.sheet", &folder.join("link")),
+        Some(0)
+    );
+    assert_eq!(
+        fs::read_to_string(&path).unwrap(),
+        file("examples/labeller.listing")
+    );
+    assert!(fs::symlink_metadata(folder.join("link"))
+        .unwrap()
+        .file_type()
+        .is_symlink());
+    assert_eq!(plan("examples/labeller.sheet", &folder), Some(3));
+    assert_eq!(
+        plan("examples/labeller.sheet", &folder.join("none/out")),
+        Some(3)
+    );
+    assert_eq!(
+        plan("examples/labeller.sheet", "/dev/full".as_ref()),
+        Some(3)
+    );
+    assert_eq!(
+        plan("examples/labeller.sheet", "/dev/null".as_ref()),
+        Some(0)
+    );
+    assert!(!fs::metadata("/dev/null").unwrap().is_file());
+    assert_eq!(names(&folder), ["link", "out.listing"]);
+}

@@ -1,0 +1,141 @@
+//! Random files through the command: no crash, and the library's answers.
+
+#![warn(clippy::all, clippy::pedantic)]
+
+mod common;
+
+use common::command::{folder, spardimple};
+use common::sheets::{damaged, SheetDraw, SHEET};
+use common::Random;
+use configurator::command::cli::Task;
+use configurator::command::{perform, Status, Streams};
+use configurator::explain::refused;
+use configurator::plan;
+use std::fs;
+use std::path::Path;
+
+/// A file: bytes of any kind, bytes that sheets are made of, a damaged sheet, or a good one.
+fn random_file(random: &mut Random) -> Vec<u8> {
+    let draw = SheetDraw {
+        cores: 4,
+        period: 100,
+        cost: 2,
+        jitter: 5,
+    };
+    let length = match random.between(0, 9) {
+        0 => random.place(20_000),
+        _ => random.place(300),
+    };
+    match random.between(0, 4) {
+        0 => (0..length).map(|_| random.byte()).collect(),
+        1 => (0..length)
+            .map(|_| random.pick(b"part\tfi\n01 9\r-.\xff"))
+            .collect(),
+        2 => damaged(SHEET.as_bytes(), random),
+        3 => damaged(&draw.sheet(random), random),
+        _ => draw.sheet(random),
+    }
+}
+
+/// Writes a new file. (One that is only emptied first would wait for the disk.)
+fn put(path: &Path, bytes: &[u8]) {
+    let _ = fs::remove_file(path);
+    fs::write(path, bytes).unwrap();
+}
+
+/// What the command says in this process.
+fn said(task: &Task) -> (Status, Vec<u8>, String) {
+    let (mut out, mut err) = (Vec::new(), Vec::new());
+    let mut streams = Streams {
+        out: &mut out,
+        err: &mut err,
+        colour: true,
+        progress: true,
+    };
+    let status = perform(task, &mut streams);
+    (
+        status,
+        out,
+        String::from_utf8(err).expect("messages are text"),
+    )
+}
+
+/// 10,000 files through `plan`, and each also through another command. Where a line or its words are
+/// refused, what is wrong with them is found.
+#[test]
+fn ten_thousand_files() {
+    let mut random = Random::for_test();
+    let folder = folder("random");
+    let sheet = folder.join("s.sheet");
+    let path = sheet.to_str().unwrap();
+    let (out, table, records, costs) = (None, sheet.clone(), sheet.clone(), sheet.clone());
+    let all = Task::Plan {
+        sheet: sheet.clone(),
+        out: None,
+        json: false,
+    };
+    let others = [
+        Task::Show {
+            sheet: sheet.clone(),
+        },
+        Task::Report {
+            sheet: sheet.clone(),
+            out: None,
+        },
+        Task::Batch {
+            folder: folder.clone(),
+            out,
+        },
+        Task::VerdictTable { table },
+        Task::Verdict { records, costs },
+    ];
+    let mut planned = 0;
+    for count in 0..10_000 {
+        let bytes = random_file(&mut random);
+        put(&sheet, &bytes);
+        let (status, out, err) = said(&all);
+        let other = &others[count % others.len()];
+        let (second, ..) = said(other);
+        let of_the_sheet = !matches!(other, Task::VerdictTable { .. } | Task::Verdict { .. });
+        assert!(second == status || !of_the_sheet && second <= Status::Refused);
+        match plan(&bytes).unwrap() {
+            Ok(listing) => {
+                assert_eq!((status, out, err.as_str()), (Status::Accepted, listing, ""));
+                planned += 1;
+            }
+            Err(refusal) => {
+                assert_eq!((status, out.len()), (Status::Refused, 0));
+                let found = refused(refusal, &bytes).why.is_some();
+                assert_eq!(found, matches!(refusal.number(), 1..=5 | 8), "{err}");
+                let line = match refusal.number() {
+                    1..=6 | 8 => format!(":{}: ", refusal.carries()),
+                    7 => ":".to_owned(),
+                    _ => ": ".to_owned(),
+                };
+                assert!(err.starts_with(&format!("{path}{line}")), "{err}");
+                assert!(
+                    err.contains(&format!(": refused ({}): ", refusal.number())),
+                    "{err}"
+                );
+            }
+        }
+    }
+    println!("{planned} of 10000 planned");
+    assert!(planned > 1_000);
+}
+
+/// Some of them as processes.
+#[test]
+fn as_processes() {
+    let mut random = Random::for_test();
+    let path = folder("random-processes").join("s.sheet");
+    for _ in 0..200 {
+        let bytes = random_file(&mut random);
+        put(&path, &bytes);
+        let ended = spardimple(&["plan".as_ref(), path.as_os_str()]);
+        match plan(&bytes).unwrap() {
+            Ok(listing) => assert_eq!((ended.status.code(), ended.stdout), (Some(0), listing)),
+            Err(_) => assert_eq!((ended.status.code(), ended.stdout.len()), (Some(1), 0)),
+        }
+    }
+}

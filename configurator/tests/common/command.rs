@@ -1,0 +1,71 @@
+//! The command as a process, and folders to write in.
+
+use std::ffi::OsStr;
+use std::fs;
+use std::io::Write;
+use std::path::{Path, PathBuf};
+use std::process::{Command, Output, Stdio};
+
+/// The program, from the project's root. Where cargo runs tests under an emulator, so does this.
+pub fn program() -> Command {
+    let program = env!("CARGO_BIN_EXE_spardimple");
+    let mut command = match std::env::var("CARGO_TARGET_X86_64_UNKNOWN_LINUX_GNU_RUNNER") {
+        Ok(runner) => {
+            let mut command = Command::new(runner);
+            command.arg(program);
+            command
+        }
+        Err(_) => Command::new(program),
+    };
+    command.current_dir(concat!(env!("CARGO_MANIFEST_DIR"), "/.."));
+    command
+}
+
+/// Runs the command.
+pub fn spardimple<S: AsRef<OsStr>>(words: &[S]) -> Output {
+    program().args(words).output().expect("the command runs")
+}
+
+/// Runs the command with bytes on standard input. It may end before it has read them all.
+pub fn spardimple_fed<S: AsRef<OsStr>>(words: &[S], bytes: &[u8]) -> Output {
+    let mut child = program()
+        .args(words)
+        .stdin(Stdio::piped())
+        .stdout(Stdio::piped())
+        .stderr(Stdio::piped())
+        .spawn()
+        .expect("the command runs");
+    let mut input = child.stdin.take().unwrap();
+    let _ = input.write_all(bytes);
+    drop(input);
+    child.wait_with_output().expect("the command ends")
+}
+
+/// Standard output or standard error, as text.
+pub fn text(bytes: &[u8]) -> String {
+    String::from_utf8(bytes.to_vec()).expect("the command prints text")
+}
+
+/// A file of the project, as text.
+pub fn file(path: &str) -> String {
+    let root = concat!(env!("CARGO_MANIFEST_DIR"), "/../");
+    fs::read_to_string(format!("{root}{path}")).expect("the file is there")
+}
+
+/// A folder of that name to write in, empty at first.
+pub fn folder(name: &str) -> PathBuf {
+    let folder = Path::new(env!("CARGO_TARGET_TMPDIR")).join(name);
+    let _ = fs::remove_dir_all(&folder);
+    fs::create_dir_all(&folder).expect("the folder can be made");
+    folder
+}
+
+/// The names of a folder's files, in order.
+pub fn names(folder: &Path) -> Vec<String> {
+    let mut names: Vec<String> = fs::read_dir(folder)
+        .expect("the folder is there")
+        .map(|entry| entry.unwrap().file_name().to_string_lossy().into_owned())
+        .collect();
+    names.sort();
+    names
+}
