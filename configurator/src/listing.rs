@@ -114,6 +114,18 @@ impl<'a> Listing<'a> {
 }
 
 impl<'a> Piece<'a> {
+    /// Its core and its figures, in the listing's order.
+    #[must_use]
+    pub fn figures(&self) -> [String; 5] {
+        [
+            self.core.to_string(),
+            self.budget.to_string(),
+            self.window.to_string(),
+            self.jitter.to_string(),
+            self.charged.to_string(),
+        ]
+    }
+
     /// Whether it is one of a split task's two.
     #[must_use]
     pub fn is_half(&self) -> bool {

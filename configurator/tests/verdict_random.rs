@@ -27,106 +27,48 @@ fn compare(draws: &[Draw], each: u64) {
     assert_eq!(tally.refused, 0);
 }
 
+/// How cores are drawn: the most pieces, the longest period, the most jitter in hundredths of the
+/// period, the most cost.
+const fn draw(pieces: u64, period: u64, jitter: u64, cost: u64) -> Draw {
+    Draw {
+        pieces,
+        period,
+        jitter,
+        cost,
+    }
+}
+
 #[test]
 fn small_cores_without_costs() {
-    let small = Draw {
-        pieces: 5,
-        period: 12,
-        jitter: 0,
-        cost: 0,
-    };
-    let wider = Draw {
-        pieces: 7,
-        period: 60,
-        jitter: 0,
-        cost: 0,
-    };
-    compare(&[small, wider], 20_000);
+    compare(&[draw(5, 12, 0, 0), draw(7, 60, 0, 0)], 20_000);
 }
 
 #[test]
 fn small_cores_with_jitter() {
-    let small = Draw {
-        pieces: 5,
-        period: 12,
-        jitter: 30,
-        cost: 0,
-    };
-    let wider = Draw {
-        pieces: 5,
-        period: 60,
-        jitter: 220,
-        cost: 0,
-    };
-    compare(&[small, wider], 20_000);
+    compare(&[draw(5, 12, 30, 0), draw(5, 60, 220, 0)], 20_000);
 }
 
 #[test]
 fn small_cores_with_costs() {
-    let small = Draw {
-        pieces: 4,
-        period: 40,
-        jitter: 0,
-        cost: 2,
-    };
-    let wider = Draw {
-        pieces: 6,
-        period: 200,
-        jitter: 0,
-        cost: 6,
-    };
-    compare(&[small, wider], 20_000);
+    compare(&[draw(4, 40, 0, 2), draw(6, 200, 0, 6)], 20_000);
 }
 
 #[test]
 fn small_cores_with_costs_and_jitter() {
-    let small = Draw {
-        pieces: 4,
-        period: 40,
-        jitter: 25,
-        cost: 2,
-    };
-    let wider = Draw {
-        pieces: 6,
-        period: 200,
-        jitter: 120,
-        cost: 6,
-    };
-    compare(&[small, wider], 20_000);
+    compare(&[draw(4, 40, 25, 2), draw(6, 200, 120, 6)], 20_000);
 }
 
 #[test]
 fn many_pieces() {
-    let crowd = Draw {
-        pieces: 79,
-        period: 900,
-        jitter: 10,
-        cost: 1,
-    };
-    compare(&[crowd], 1_500);
+    compare(&[draw(79, 900, 10, 1)], 1_500);
 }
 
 /// Spans too long to look at every length: compared by certificates.
 #[test]
 fn long_spans() {
-    let machine = Draw {
-        pieces: 8,
-        period: 50_000,
-        jitter: 10,
-        cost: 100,
-    };
-    let slow = Draw {
-        pieces: 10,
-        period: 1_000_000,
-        jitter: 5,
-        cost: 2_000,
-    };
-    let mixed = Draw {
-        pieces: 20,
-        period: 1_000_000,
-        jitter: 100,
-        cost: 100_000,
-    };
+    let machine = draw(8, 50_000, 10, 100);
+    let slow = draw(10, 1_000_000, 5, 2_000);
+    let mixed = draw(20, 1_000_000, 100, 100_000);
     compare(&[machine, slow, mixed], 1_000);
 }
 

@@ -117,20 +117,11 @@ fn drawings(body: &mut String, sheet: &Sheet, listing: &Listing) {
 
 /// The split tasks, both halves side by side.
 fn splits(body: &mut String, listing: &Listing) {
-    let half = |piece: &Piece| {
-        [
-            piece.core.to_string(),
-            piece.budget.to_string(),
-            piece.window.to_string(),
-            piece.jitter.to_string(),
-            piece.charged.to_string(),
-        ]
-    };
     let rows: Vec<Vec<String>> = listing
         .splits()
         .iter()
         .map(|(first, last)| {
-            let halves = half(first).into_iter().chain(half(last));
+            let halves = first.figures().into_iter().chain(last.figures());
             [first.task.to_owned()].into_iter().chain(halves).collect()
         })
         .collect();

@@ -99,22 +99,13 @@ fn splits(text: &mut String, listing: &Listing, paint: Paint) {
     if splits.is_empty() {
         return;
     }
-    let half = |piece: &Piece| {
-        [
-            piece.core.to_string(),
-            piece.budget.to_string(),
-            piece.window.to_string(),
-            piece.jitter.to_string(),
-            piece.charged.to_string(),
-        ]
-    };
     let rows: Vec<Vec<String>> = splits
         .iter()
         .map(|(first, last)| {
             let mut row = vec![first.task.to_owned()];
-            row.extend(half(first));
+            row.extend(first.figures());
             row.push("│".to_owned());
-            row.extend(half(last));
+            row.extend(last.figures());
             row
         })
         .collect();
