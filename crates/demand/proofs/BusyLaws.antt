@@ -6,6 +6,7 @@
 --   least-holding-finds           `leastHolding` finds it
 --   finds-unique                  what is found is one
 --   busy-length-is, -within       what holds the busy sum least is the busy length, within the limit
+--   busy-found, -nothing          how a climb to it ends
 --   tight-window-asked            the tight window as the code climbs to it
 use mathlib.Core.Path.{_≡_, refl, sym, ap, subst}
 use mathlib.Core.Bool.{Bool, true, false}
@@ -25,6 +26,7 @@ use Rattle.demand.specs.Busy.{Least, Holds, Finds, climbing, leastHoldin
 use Rattle.demand.specs.Demand.{total}
 use Rattle.demand.specs.Answer.{tightOfLast}
 use Rattle.demand.specs.Lanes.{term}
+use Rattle.demand.specs.Marks.{Clear}
 use Rattle.demand.proofs.Sums.{total-mono}
 use Rattle.demand.proofs.DemandLaws.{Recurs, sum-mono, busy-load-mono}
 
@@ -33,10 +35,6 @@ least-le {P} {n} m k p = elim (decLt k n) [ yes h ↦ absurd (m .none-below k h 
 
 pub least-unique : {P : ℕ → Type 0} {m n : ℕ} → Least P m → Least P n → m ≡ n
 least-unique {P} {m} {n} p q = omega (arith, least-le p n (q .here), least-le q m (p .here))
-
--- nothing below n holds
-abbrev pub Clear : (ℕ → ℕ) → ℕ → Type 0
-Clear f n = (k : ℕ) → k < n → Holds f k → ⊥
 
 pub clear-one : (f : ℕ → ℕ) → Clear f 1
 clear-one f k h p = omega arith
@@ -91,6 +89,13 @@ busy-length-finds qs recurs = least-holding-finds (busySum qs) (busy-sum-mono qs
 
 pub busy-length-is : (qs : List Charged) → Each Recurs qs → (r : Found) → Finds (busySum qs) busyMost r → r ≡ busyLength qs
 busy-length-is qs recurs r found = finds-unique (busySum qs) busyMost r (busyLength qs) found (busy-length-finds qs recurs)
+
+pub busy-found : (qs : List Charged) → Each Recurs qs → (l : ℕ) → 1 ≤ l → l ≤ busyMost → busySum qs l ≤ l → Clear (busySum qs) l → At l ≡ busyLength qs
+busy-found qs recurs l some near fits clear =
+    busy-length-is qs recurs (At l) (record { here = record { some = some; fits = fits }; none-below = clear }, near)
+
+pub busy-nothing : (qs : List Charged) → Each Recurs qs → (l : ℕ) → busyMost < l → Clear (busySum qs) l → Nothing ≡ busyLength qs
+busy-nothing qs recurs l past clear = busy-length-is qs recurs Nothing (λ k h p. clear k (omega arith) p)
 
 pub busy-length-within : (qs : List Charged) → Each Recurs qs → (l : ℕ) → busyLength qs ≡ At l → l ≤ busyMost
 busy-length-within qs recurs l e = subst (λ (r : Found). Finds (busySum qs) busyMost r) e (busy-length-finds qs recurs) .1

@@ -8,12 +8,14 @@
 --   caps-both                           two walks one after the other
 --   bounds-as, caps-as                  both from the code's own figures
 --   beside-snoc, demand-same            the demand with q behind, and beside
---   bound-most, -squeezed, -undecided, -own, -never, -stands      what the core with q behind tells
+--   unsettled-from, passes-settles      what no busy length and a pass tell of the charge
+--   stalled-fits                        what fits at one length where the stall counts
+--   bound-most, -squeezed, -unsettled, -own, -never, -stands      what the core with q behind tells
 use mathlib.Core.Path.{_≡_, refl, sym, ap, _∙_, subst}
 use mathlib.Core.List.{List, [], _∷_, _++_}
 use mathlib.Core.Logic.{_⊎_, ⊎-elim}
-use Prim.Native.Nat.{ℕ, zero, suc, _+_, _*_, _-_, _/_, _≤_, _<_, zero-le, max}
-use native.Mathlib.Nat.{mul-le-mul-right, zero-mul, not-suc-le-zero, le-div-iff-mul-le, mul-div-le}
+use Prim.Native.Nat.{ℕ, zero, suc, _+_, _*_, _-_, _/_, _≤_, _<_, zero-le, min, max}
+use native.Mathlib.Nat.{mul-le-mul-right, mul-le-mul-left, zero-mul, not-suc-le-zero, le-div-iff-mul-le, mul-div-le}
 use native.Mathlib.Decide.{decLt}
 use native.Mathlib.Omega.{arith}
 use borrow.Author.Tests.{lt-ltb, le-ltb}
@@ -26,11 +28,12 @@ use Rattle.demand.specs.declared.Verdict.the-variants.{Passes, Overloade
 use Rattle.demand.specs.declared.caps.Level.{Level}
 use Rattle.demand.specs.declared.caps.Bound.{Bound}
 use Rattle.demand.specs.declared.caps.Bound.the-variants.{Stands, Falls, AtMost}
-use Rattle.demand.specs.Sizes.{timeMost, Ranged, Each}
-use Rattle.demand.specs.Demand.{total, jobsDue, interrupts, largestWindow, blocking, load, demand, Live, leastLive}
-use Rattle.demand.specs.Busy.{Least, busyLength}
+use Rattle.demand.specs.Sizes.{timeMost, busyMost, Ranged, Each}
+use Rattle.demand.specs.Demand.{ceil, total, jobsDue, interrupts, largestWindow, blocking, load, demand, Live, leastLive}
+use Rattle.demand.specs.Busy.{Least, Finds, busyLoad, busySum, busyLength}
 use Rattle.demand.specs.Verdict.{Calm, Says, Means, scan, overSpan, verdict}
-use Rattle.demand.specs.Caps.{beside, Holding, Fitting, Levels, Lowers, Caps, Squeezed, Bounds}
+use Rattle.demand.specs.Caps.{beside, Holding, Fitting, Levels, Lowers, Caps, Squeezed, Stalled, Settles, Unsettled, Bounds}
+use Rattle.demand.proofs.BusyLaws.{busy-length-finds}
 use Rattle.demand.proofs.Sums.{total-snoc}
 use Rattle.demand.proofs.DemandLaws.{Recurs, jobs-due-mono, interrupts-mono, demand-mono, largest-snoc, live-mono, least-live-least}
 use Rattle.demand.proofs.VerdictLaws.{scan-says, scan-is, verdict-means, verdict-span, passes-forever}
@@ -212,6 +215,56 @@ pub largest-fits : (qs : List Charged) → Each Ranged qs → largestWindow qs �
 largest-fits [] ok = zero-le
 largest-fits (q ∷ qs) ok = omega (arith, ok .0 .window-fits, largest-fits qs (ok .1))
 
+-- ---- the busy length
+
+-- r is q but for the charge and the window
+module _ (qs : List Charged) (q r : Charged) (period : r .period ≡ q .period) (release : r .release ≡ q .release) (ipi : r .ipi ≡ q .ipi) (rs : List Charged) (laid : rs ≡ qs ++ (r ∷ [])) (recurs : Each Recurs rs) where
+  busy-last : (l : ℕ) → busySum rs l ≡ busySum qs l + ceil l (q .period) * (r .charge + q .release + q .ipi)
+  unfolding busySum busyLoad
+  busy-last l = rw (laid, sym period, sym release, sym ipi) (total-snoc (busyLoad l) qs r)
+
+  pub unsettled-from : busyLength rs ≡ Nothing → Unsettled qs q (r .charge)
+  unsettled-from none y more settles =
+      let l = settles .at in
+      subst (λ (f : Found). Finds (busySum rs) busyMost f) none (busy-length-finds rs recurs) l (settles .within)
+      (record { some = settles .some; fits = omega (arith, busy-last l, settles .fits, mul-le-mul-left (ceil l (q .period)) (charges more)) })
+    where
+      charges : r .charge ≤ y → r .charge + q .release + q .ipi ≤ y + q .release + q .ipi
+      charges h = omega arith
+
+  pub passes-settles : (b : ℕ) → verdict b rs ≡ Passes → Settles qs q (r .charge)
+  passes-settles b pass =
+      ⊎-elim (λ none. absurd (some-one none))
+      (λ j. record { at = j .1; some = j .2 .busy .here .some; within = j .2 .within; fits = omega (arith, busy-last (j .1), j .2 .busy .here .fits) })
+      (subst (λ (v : Verdict). Means b rs v) pass (verdict-means b rs recurs))
+    where
+      some-one : rs ≡ [] → ⊥
+      some-one none = let e : length rs ≡ length qs + 1 = rw (laid, length-append) refl in omega (arith, e, ap (λ (l : List Charged). length l) none)
+
+-- q with another charge
+pub recharged : (q : Charged) (f : ℕ) → Ranged q → f ≤ 2000000 → Ranged (record { charge = f; window = q .window; period = q .period; jitter = q .jitter; release = q .release; ipi = q .ipi; ipij = q .ipij })
+recharged q f ok fits = record {
+  period-some = ok .period-some;
+  period-fits = ok .period-fits;
+  window-fits = ok .window-fits;
+  jitter-fits = ok .jitter-fits;
+  charge-fits = fits;
+  release-fits = ok .release-fits;
+  ipi-fits = ok .ipi-fits;
+  ipij-fits = ok .ipij-fits;
+}
+
+-- ---- the stall
+
+pub stalled-fits : (b : ℕ) (qs : List Charged) (q : Charged) (t asked n most r : ℕ) → asked ≡ b + total (load t) qs + interrupts q t → n ≡ jobsDue q t → Fitting (q .charge) n (t - asked) most → 1 ≤ q .charge → r ≡ min most (q .charge - 1) → Stalled b qs q t r
+stalled-fits b qs q t asked n most r is jobs fit some least = record {
+  less = omega arith;
+  caps = λ y below fits. omega (arith, fit .greatest y (omega arith) (room y fits));
+}
+  where
+    room : (y : ℕ) → b + total (load t) qs + interrupts q t + jobsDue q t * y ≤ t → n * y ≤ t - asked
+    room y fits = rw jobs (omega (arith, fits, is))
+
 -- ---- what it tells
 
 pub least-live-some : (rs : List Charged) → 1 ≤ length rs → Least (Live rs) (leastLive rs)
@@ -223,37 +276,45 @@ module _ (b : ℕ) (qs rs : List Charged) (q : Charged) (laid : rs ≡ qs ++ (q 
   some-laid = rw (laid, length-append) (omega arith)
 
   pub bound-most : (a r : ℕ) → a ≡ leastLive rs → r < q .charge → Caps b qs q (q .charge) a r → Bounds b qs q (AtMost r)
-  bound-most a r start less caps = (less, λ y le holds. caps .caps y le (rw (start, laid) holds))
+  bound-most a r start less caps = (less, λ y le holds settles. caps .caps y le (rw (start, laid) holds))
 
   pub bound-squeezed : (a e r : ℕ) → a ≡ leastLive rs → r < q .charge → Squeezed b qs q (q .charge) a e r → Bounds b qs q (AtMost r)
-  bound-squeezed a e r start less caps = (less, λ y le holds. caps .caps y le (rw (start, laid) holds))
+  bound-squeezed a e r start less caps = (less, λ y le holds settles. caps .caps y le (rw (start, laid) holds))
+
+  pub bound-unsettled : (r : ℕ) → r < q .charge → Unsettled qs q (r + 1) → Bounds b qs q (AtMost r)
+  bound-unsettled r less none = (
+    less,
+    λ y le holds settles. elim (decLt r y) [
+      | yes above ↦ absurd (none y (omega arith) settles)
+      | no below ↦ omega arith
+    ],
+  )
 
   spanned : (f : Found) → busyLength rs ≡ f → verdict b rs ≡ overSpan b rs (leastLive rs) f
   spanned f e = verdict-span b rs some-laid ∙ ap (λ (g : Found). overSpan b rs (leastLive rs) g) e
 
-  pub bound-undecided : busyLength rs ≡ Nothing → Bounds b qs q Falls
-  bound-undecided none pass =
-      let undecided : verdict b rs ≡ Undecided = spanned Nothing none in
-      let whole : verdict b rs ≡ Passes = rw laid pass in
-      let z : _≡_ {A = ℕ} 0 1 = cc in
-      omega arith
-
   module _ (recurs : Each Recurs rs) where
-    refuted : (t : ℕ) → leastLive rs ≤ t → t < demand b rs t → Bounds b qs q Falls
+    refuted : (t : ℕ) → leastLive rs ≤ t → t < demand b rs t → verdict b (qs ++ (q ∷ [])) ≡ Passes → ⊥
     refuted t from over pass =
         let whole : verdict b rs ≡ Passes = rw laid pass in
         let means = subst (λ (w : Verdict). Means b rs w) whole (verdict-means b rs recurs) in
         omega (arith, passes-forever b rs recurs means t (live-mono rs recurs {t = leastLive rs} {u = t} from (least-live-some rs some-laid .here)))
 
     -- an overloaded length past the least live one
-    pub bound-own : (a k t : ℕ) → leastLive rs ≤ a → scan b rs a k ≡ Overloaded t → Bounds b qs q Falls
-    bound-own a k t from over =
+    pub bound-own : (a k t u : ℕ) → leastLive rs ≤ a → a + k ≤ timeMost → scan b rs a k ≡ Overloaded t → a ≤ u → u ≤ max a t → Bounds b qs q (Falls u)
+    bound-own a k t u from within over low high =
         let says = subst (λ (w : Verdict). Says b rs a k w) over (scan-says b rs a k) in
-        refuted t (omega (arith, says .from)) (says .over)
+        let live : leastLive rs ≤ u = omega arith in
+        (refuted t (omega (arith, says .from)) (says .over), rw laid at live, omega (arith, says .below))
+
+    pub own-within : (a k t : ℕ) → a + k ≤ timeMost → scan b rs a k ≡ Overloaded t → t ≤ timeMost
+    own-within a k t within over =
+        let says = subst (λ (w : Verdict). Says b rs a k w) over (scan-says b rs a k) in
+        omega (arith, says .below)
 
   -- a walk down is never undecided
-  pub bound-never : (a k : ℕ) → scan b rs a k ≡ Undecided → Bounds b qs q Falls
-  bound-never a k never = absurd (subst (λ (w : Verdict). Says b rs a k w) never (scan-says b rs a k))
+  pub bound-never : (a k t : ℕ) → scan b rs a k ≡ Undecided → Bounds b qs q (Falls t)
+  bound-never a k t never = absurd (subst (λ (w : Verdict). Says b rs a k w) never (scan-says b rs a k))
 
   pub bound-stands : (a l own r : ℕ) → a ≡ leastLive rs → busyLength rs ≡ At l → own ≡ max a (largestWindow qs) → 1 ≤ q .charge → q .charge ≤ r → Squeezed b qs q (q .charge) a (a + l) r → scan b rs own (q .window - own) ≡ Passes → Bounds b qs q Stands
   bound-stands a l own r start busy is some kept near mine =

@@ -6,10 +6,12 @@
 --   ceil-add                 ⌈(a + b) / k⌉ ≤ ⌈a / k⌉ + ⌈b / k⌉
 --   ceil-one-more            1 + ⌊a / k⌋ = ⌈(a + 1) / k⌉
 --   ceil-le                  ⌈a / k⌉ ≤ a
+--   ceil-covers, -near       a ≤ ⌈a / k⌉ k < a + k
+--   ceil-whole, -between     ⌈a / k⌉ at a multiple of k, and past one
 --   prod-le                  a product of bounded numbers is bounded
 use mathlib.Core.Path.{_≡_}
 use Prim.Native.Nat.{ℕ, _+_, _*_, _-_, _/_, _≤_, _<_}
-use native.Mathlib.Nat.{div-mul-le-self, le-div-iff-mul-le, div-lt-iff-lt-mul, lt-div-mul-add, mul-le-mul, mul-le-mul-left, add-div-right}
+use native.Mathlib.Nat.{div-mul-le-self, le-div-iff-mul-le, div-lt-iff-lt-mul, lt-div-mul-add, mul-le-mul, mul-le-mul-left, add-div-right, div-eq-of-lt-le}
 use native.Mathlib.Omega.{arith}
 use Rattle.demand.specs.Demand.{ceil}
 
@@ -43,6 +45,22 @@ unfolding ceil
 ceil-le a {k} pos =
     let below : (a + (k - 1)) / k < a + 1 = div-lt-iff-lt-mul pos .1 (omega (arith, mul-le-mul-left a pos)) in
     omega arith
+
+pub ceil-covers : (a : ℕ) {k : ℕ} → 0 < k → a ≤ ceil a k * k
+unfolding ceil
+ceil-covers a {k} pos = omega (arith, lt-div-mul-add {a = a + (k - 1)} pos)
+
+pub ceil-near : (a : ℕ) {k : ℕ} → 0 < k → ceil a k * k < a + k
+unfolding ceil
+ceil-near a {k} pos = omega (arith, div-mul-le-self (a + (k - 1)) k)
+
+pub ceil-whole : (j : ℕ) {k : ℕ} → 0 < k → ceil (j * k) k ≡ j
+unfolding ceil
+ceil-whole j {k} pos = div-eq-of-lt-le {k = j} k {m = j * k + (k - 1)} (omega arith) (omega arith)
+
+pub ceil-between : (j a : ℕ) {k : ℕ} → 0 < k → j * k < a → a ≤ j * k + k → ceil a k ≡ j + 1
+unfolding ceil
+ceil-between j a {k} pos past by = div-eq-of-lt-le {k = j + 1} k {m = a + (k - 1)} (omega arith) (omega arith)
 
 pub prod-le : (m n : ℕ) {a b : ℕ} → a ≤ m → b ≤ n → a * b ≤ m * n
 prod-le m n h k = mul-le-mul h k

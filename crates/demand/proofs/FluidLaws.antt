@@ -8,7 +8,7 @@
 use mathlib.Core.Path.{_≡_, ap}
 use mathlib.Core.List.{List, []}
 use Prim.Native.Nat.{ℕ, _+_, _*_, _-_, _/_, _≤_, _<_, max}
-use native.Mathlib.Nat.{div-mul-le-self, lt-div-mul-add, div-lt-iff-lt-mul, mul-le-mul-left, mul-le-mul-right, mul-comm, mul-assoc, mul-left-comm}
+use native.Mathlib.Nat.{div-mul-le-self, div-lt-iff-lt-mul, mul-le-mul-left, mul-le-mul-right, mul-comm, mul-assoc, mul-left-comm}
 use native.Mathlib.Decide.{decLt}
 use native.Mathlib.Omega.{arith}
 use Rattle.demand.specs.declared.Charged.{Charged}
@@ -17,16 +17,12 @@ use Rattle.demand.specs.Busy.{Holds, busyLoad, busySum}
 use Rattle.demand.specs.Demand.{ceil}
 use Rattle.demand.specs.Lanes.{rows, lane}
 use Rattle.demand.specs.Leaps.{allTime, Flows, Reaches}
-use Rattle.demand.proofs.BusyLaws.{Clear}
+use Rattle.demand.specs.Marks.{Clear}
 use Rattle.demand.proofs.DemandLaws.{Recurs, busy-load-mono}
+use Rattle.demand.proofs.Division.{ceil-covers}
 use Rattle.demand.proofs.LaneLaws.{total-more}
 
 -- ---- one piece
-
--- m ≤ ⌈m / k⌉ k
-ceil-covers : (m : ℕ) {k : ℕ} → 0 < k → m ≤ ceil m k * k
-unfolding ceil
-ceil-covers m {k} pos = omega (arith, lt-div-mul-add {a = m + (k - 1)} pos)
 
 -- m · ⌊c / k⌋ ≤ ⌈m / k⌉ · c
 share-below : (m c : ℕ) {k : ℕ} → 0 < k → m * (c / k) ≤ ceil m k * c

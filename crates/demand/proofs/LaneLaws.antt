@@ -8,7 +8,6 @@
 --   rows-put              seven numbers written at a place are a piece there, and nothing before it changes
 --   tight-of-rows         the tight window of the last lane
 --   rows-kept, lane-put   a piece written behind the rows leaves them as they were, and lies there
---   head-total            one charge is at most all
 --   core-snoc, core-more  the pieces of a core, one more
 use mathlib.Core.Path.{_≡_, refl, sym, ap, subst, _∙_}
 use mathlib.Core.List.{List, [], _∷_, _++_, map}
@@ -150,10 +149,6 @@ snoc-last (a ∷ xs) (b ∷ ys) x y e same =
 
 pub lane-put : (a b : List ℕ) (n : ℕ) (q : Charged) → rows b (n + 1) ≡ rows a n ++ (q ∷ []) → lane b n ≡ q
 lane-put a b n q e = snoc-last (rows b n) (rows a n) (lane b n) q (sym (rows-more b n) ∙ e) (omega (arith, rows-length a n, rows-length b n))
-
-pub head-total : (a : List ℕ) (n : ℕ) → 1 ≤ n → lane a 0 .charge ≤ total (λ q. q .charge) (rows a n)
-head-total a zero h = absurd (not-suc-le-zero h)
-head-total a (suc n) h = let more = rows-head a n in rw (more .1) (omega arith)
 
 pub rows-kept : (a b : List ℕ) (n : ℕ) (q : Charged) → rows b (n + 1) ≡ rows a n ++ (q ∷ []) → rows b n ≡ rows a n
 rows-kept a b n q e = snoc-front (rows b n) (rows a n) (lane b n) q (sym (rows-more b n) ∙ e) (omega (arith, rows-length a n, rows-length b n))

@@ -3,11 +3,14 @@ pub mod Division
 pub mod Sums
 pub mod DemandLaws
 pub mod ChargeLaws
+pub mod RecordLaws
 pub mod LaneLaws
 pub mod SizeLaws
 pub mod RunLaws
 pub mod BusyLaws
+pub mod ProbeLaws
 pub mod FluidLaws
+pub mod MarkLaws
 pub mod VerdictLaws
 pub mod Judgement
 pub mod CapLaws

@@ -7,7 +7,7 @@
 --   answer-fine, answer-bad, figure-fine, figure-bad      what is then answered
 --   taken-check, taken-answer      a run within the sizes is not refused
 --   check-taken     what is known of a run that is not refused
---   check-one-more, check-task      the same of a run with a task's record behind it
+--   behind-fine, behind-bad, behind-refused, check-task      the same of a run with a task's record behind it
 --   split-fine, split-bad
 --   bad-good, bad-here, bad-end      the search for the first bad record, one record on
 use mathlib.Core.Path.{_≡_, refl, sym, ap, subst, _∙_}
@@ -19,8 +19,8 @@ use native.Mathlib.Numerals.{add-one}
 use native.Mathlib.Omega.{arith}
 use borrow.Author.Tests.{le-leb, lt-leb, leb-true}
 use lib.Dec.{leb}
-use lib.ListN.{length, take, drop, getD, set, length-map, drop-of-length-le}
-use lib.Seq.{getD-take, length-take-le, take-append-add, take-suc-set}
+use lib.ListN.{length, take, drop, getD, length-map, drop-of-length-le}
+use lib.Seq.{getD-take, length-take-le, take-append-add}
 use Rattle.demand.specs.declared.Kind.the-variants.{Whole}
 use Rattle.demand.specs.declared.Piece.{Piece}
 use Rattle.demand.specs.declared.Costs.{Costs}
@@ -40,7 +40,7 @@ use Rattle.demand.specs.Verdict.{verdictOf}
 use Rattle.demand.specs.Answer.{firstBad, badRecord, checkRun, answerOf, figured, splitted}
 use Rattle.demand.proofs.Sums.{each-front, each-last}
 use Rattle.demand.proofs.ChargeLaws.{all-countable, core-ranged}
-use Rattle.demand.proofs.SizeLaws.{first-bad-good, first-bad-here, first-bad-none, sized-costs-true, sized-is, sized-costs-is}
+use Rattle.demand.proofs.SizeLaws.{first-bad-good, first-bad-here, first-bad-none, first-bad-behind, first-bad-front, sized-costs-true, sized-is, sized-costs-is}
 
 abbrev pub nobody : Piece
 nobody = record { kind = Whole; budget = 0; window = 0; period = 0; jitter = 0; preempt = 0; migrate = 0 }
@@ -110,11 +110,33 @@ take-more n ps p room =
     let long : length (take n ps) ≡ n = length-take-le n ps room in
     subst (λ (k : ℕ). take (k + 1) (take n ps ++ (p ∷ [])) ≡ take n ps ++ (p ∷ [])) long (take-append-add (take n ps) (p ∷ []) 1)
 
-pub check-one-more : (c : Costs) (n : ℕ) (ps : List Piece) (p : Piece) → n < length ps → checkRun c (n + 1) (set ps n p) ≡ checkRun c (n + 1) (take n ps ++ (p ∷ []))
-unfolding checkRun
-check-one-more c n ps p inside =
-    let same : take (n + 1) (set ps n p) ≡ take (n + 1) (take n ps ++ (p ∷ [])) = rw (take-more n ps p (omega arith)) (rw add-one (take-suc-set ps n p inside)) in
-    rw same
+module _ (c : Costs) (n : ℕ) (ps : List Piece) (p : Piece) (few : n < runMost) (room : n ≤ length ps) where
+  -- where costs are within their sizes, the record behind is looked at last
+  check-behind : sizedCosts c ≡ true → checkRun c (n + 1) (take n ps ++ (p ∷ [])) ≡ badRecord (firstBad 1 (take n ps ++ (p ∷ [])))
+  check-behind good = check-records c (n + 1) (take n ps ++ (p ∷ [])) (omega arith) good ∙ rw (take-more n ps p room)
+
+  behind-last : checkRun c n ps ≡ Fine → checkRun c (n + 1) (take n ps ++ (p ∷ [])) ≡ badRecord (cond (sized p) 0 (n + 1))
+  behind-last fine =
+      let ok = check-taken c n ps fine in
+      let long : 1 + length (take n ps) ≡ n + 1 = omega (arith, length-take-le n ps room) in
+      check-behind (sym (sized-costs-is c true (ok .costs))) ∙ rw (first-bad-behind 1 (take n ps) p (ok .each), long)
+
+  pub behind-fine : checkRun c n ps ≡ Fine → sized p ≡ true → checkRun c (n + 1) (take n ps ++ (p ∷ [])) ≡ Fine
+  behind-fine fine good = behind-last fine ∙ rw good
+
+  pub behind-bad : checkRun c n ps ≡ Fine → sized p ≡ false → checkRun c (n + 1) (take n ps ++ (p ∷ [])) ≡ Bad (BadRecord (n + 1))
+  behind-bad fine bad = behind-last fine ∙ (rw bad (bad-record-some (n + 1) (λ none. omega arith)))
+
+  pub behind-refused : (r : Refusal) → checkRun c n ps ≡ Bad r → checkRun c (n + 1) (take n ps ++ (p ∷ [])) ≡ Bad r
+  behind-refused r e = look (sizedCosts c) refl
+    where
+      place : (k : ℕ) → firstBad 1 (take n ps) ≡ k → badRecord k ≡ Bad r → sizedCosts c ≡ true → checkRun c (n + 1) (take n ps ++ (p ∷ [])) ≡ Bad r
+      place zero none bad good = let z : _≡_ {A = ℕ} 0 1 = cc in absurd (omega arith)
+      place (suc j) there bad good = check-behind good ∙ (ap badRecord (first-bad-front 0 j (take n ps) (p ∷ []) there) ∙ bad)
+
+      look : (b : Bool) → sizedCosts c ≡ b → checkRun c (n + 1) (take n ps ++ (p ∷ [])) ≡ Bad r
+      look true good = place (firstBad 1 (take n ps)) refl (sym (check-records c n ps (omega arith) good) ∙ e) good
+      look false bad = check-costs c (n + 1) (take n ps ++ (p ∷ [])) (omega arith) bad ∙ (sym (check-costs c n ps (omega arith) bad) ∙ e)
 
 -- what is known of a run and a task that are not refused
 pub record Fit (c : Costs) (n : ℕ) (ps : List Piece) (p : Piece) : Type 0 where

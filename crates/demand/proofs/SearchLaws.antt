@@ -10,7 +10,7 @@
 --   tight-same                it is one
 --   untight, fails-here, fails-there   why a candidate does not fit
 --   last-undecided            a last piece with no busy length: no greater one has one
---   step-none, step-stop, step-done    what one candidate told
+--   step-none, step-skips, step-done   what one candidate told
 --   none-first, none-start, none-next, none-end    no candidate above is allowed: at the start, after a step, at the end
 --   splits-of                 the choice over charged pieces is the split of the pieces
 use mathlib.Core.Path.{_≡_, refl, sym, ap, _∙_, subst, fun-ext}
@@ -28,7 +28,7 @@ use Rattle.demand.specs.declared.Found.{Found}
 use Rattle.demand.specs.declared.Found.the-variants.{At, Nothing}
 use Rattle.demand.specs.declared.Sum.the-variants.{Interrupts}
 use Rattle.demand.specs.declared.Verdict.{Verdict}
-use Rattle.demand.specs.declared.Verdict.the-variants.{Passes, Overloaded, Undecided}
+use Rattle.demand.specs.declared.Verdict.the-variants.{Passes, Undecided}
 use Rattle.demand.specs.declared.Split.{Split}
 use Rattle.demand.specs.declared.Split.the-variants.{Cut, Nowhere}
 use Rattle.demand.specs.declared.splits.Step.the-variants.{Done, Below}
@@ -37,9 +37,9 @@ use Rattle.demand.specs.Charge.{charge, charged, ipiCost, coreOf, stall}
 use Rattle.demand.specs.Demand.{ceil, total, interrupts, largestWindow}
 use Rattle.demand.specs.Busy.{Least, Holds, Finds, leastHolding, busyLoad, busySum, later, tightSum, tightWindow}
 use Rattle.demand.specs.Verdict.{Means, verdict, verdictOf}
-use Rattle.demand.specs.Split.{lastJitter, firstPiece, lastPiece, tightOn, Allowed, Candidate, Greatest, Splits}
+use Rattle.demand.specs.Split.{lastJitter, firstPiece, lastPiece, tightOn, Allowed, Candidate, Splits}
 use Rattle.demand.specs.Answer.{tightOfLast}
-use Rattle.demand.specs.Search.{Weighs, Ready, Kept, withFirst, lastAlone, tightBeside, Tight, Fits, NoneAbove, Chosen, TightIn, Steps, Starts}
+use Rattle.demand.specs.Search.{Weighs, Ready, Kept, withFirst, lastAlone, tightBeside, Tight, Fits, NoneAbove, Chosen, TightIn, Steps, Skips, Starts}
 use Rattle.demand.specs.Lanes.{rows, lane, term}
 use Rattle.demand.proofs.Sums.{total-snoc, each-snoc, each-map}
 use Rattle.demand.proofs.DemandLaws.{Recurs, interrupts-mono, sum-mono}
@@ -105,7 +105,7 @@ charged-weighs : (c : Costs) (p : Piece) → Sized p → Weighs (charged c p)
 unfolding charged charge
 charged-weighs c p ok = record { some = omega arith }
 
-pub core-weighs : (c : Costs) (ps : List Piece) → Each Sized ps → Each Weighs (coreOf c ps)
+core-weighs : (c : Costs) (ps : List Piece) → Each Sized ps → Each Weighs (coreOf c ps)
 unfolding coreOf
 core-weighs c ps each = each-map Sized Weighs (charged c) (charged-weighs c) ps each
 
@@ -156,6 +156,10 @@ calls c qs p t = total (λ q. interrupts q t) qs + interrupts (charged c (firstP
 pub first-interrupts : (c : Costs) (p : Piece) (x w t : ℕ) → interrupts (charged c (firstPiece p x w)) t ≡ interrupts (charged c (firstPiece p 0 0)) t
 unfolding interrupts charged ipiCost firstPiece
 first-interrupts c p x w t = refl
+
+pub calls-with : (c : Costs) (qs : List Charged) (p : Piece) (x w : ℕ) (rs : List Charged) → rs ≡ withFirst c qs p x w → (t : ℕ) → total (term Interrupts t) rs ≡ calls c qs p t
+unfolding withFirst calls
+calls-with c qs p x w rs laid t = rw laid (omega (arith, first-interrupts c p x w t, total-snoc (λ q. interrupts q t) qs (charged c (firstPiece p x w))))
 
 sum-parts : (c : Costs) (qs : List Charged) (p : Piece) (x w t : ℕ) → tightSum (stall c) (withFirst c qs p x w) (charged c (firstPiece p x w)) t ≡ stall c + (x + extra c p) + calls c qs p t
 unfolding tightSum withFirst calls
@@ -226,12 +230,6 @@ module _ (c : Costs) (qs : List Charged) (p : Piece) (x : ℕ) where
       let e : w ≡ p .jitter + u = omega (arith, tight-same c qs p x tight (fits .tight)) in
       fails (judged ∙ (ap (λ (n : ℕ). verdict (stall c) (lastAlone c p x n)) e ∙ fits .there))
 
-pub overloaded-fails : {v : Verdict} (t : ℕ) → v ≡ Overloaded t → v ≡ Passes → ⊥
-overloaded-fails t over pass = let z : _≡_ {A = ℕ} 0 1 = cc in omega arith
-
-pub undecided-fails : {v : Verdict} → v ≡ Undecided → v ≡ Passes → ⊥
-undecided-fails undecided pass = let z : _≡_ {A = ℕ} 0 1 = cc in omega arith
-
 -- ---- the last piece alone
 
 -- a verdict on it as the code has it
@@ -278,8 +276,14 @@ module _ (c : Costs) (qs : List Charged) (p : Piece) (x : ℕ) (some : 1 ≤ x) 
   pub step-none : ((u : ℕ) → Fits c qs p x u → ⊥) → Steps c qs p x (Below (x - 1))
   step-none none = (omega arith, λ z u low high fits. let e : z ≡ x = omega arith in none u (subst (λ (y : ℕ). Fits c qs p y u) e fits))
 
-  pub step-stop : Sized p → (w : ℕ) (v : Verdict) → v ≡ verdict (stall c) (lastAlone c p x w) → v ≡ Undecided → Steps c qs p x (Below 0)
-  step-stop ok w v judged undecided = (some, λ z u low high fits. last-undecided c p x z w (p .jitter + u) ok high (sym judged ∙ undecided) (fits .there))
+  pub step-skips : (r : ℕ) → ((u : ℕ) → Fits c qs p x u → ⊥) → Skips c qs p r x → Steps c qs p x (Below r)
+  step-skips r none skips = (
+    skips .0,
+    λ z u low high fits. elim (decLt z x) [
+      | yes less ↦ skips .1 z u low less fits
+      | no same ↦ (let e : z ≡ x = omega arith in none u (subst (λ (y : ℕ). Fits c qs p y u) e fits))
+    ],
+  )
 
   pub step-done : (t w : ℕ) → Tight c qs p x t → p .jitter + t + 1 ≤ p .window → w ≡ p .jitter + t → verdict (stall c) (withFirst c qs p x w) ≡ Passes → verdict (stall c) (lastAlone c p x w) ≡ Passes → Steps c qs p x (Done w)
   step-done t w tight room at here there = (t, record { tight = tight; room = room; here = rw at at here; there = rw at at there }, at)

@@ -4,10 +4,12 @@
 --   sized-is, sized-costs-is    a test that tells the rule is the definition's
 --   first-bad-none              no bad place: all records are within the sizes
 --   first-bad-good, -bad, -end  one record more
+--   first-bad-behind, first-bad-front   one record behind all: it is looked at last
 use mathlib.Core.Path.{_≡_, refl, sym, subst, _∙_}
 use mathlib.Core.Bool.{Bool, true, false, cond, _&&_}
-use mathlib.Core.List.{List, [], _∷_}
+use mathlib.Core.List.{List, [], _∷_, _++_}
 use Prim.Native.Nat.{ℕ, suc, _+_, _≤_, _<_}
+use native.Mathlib.Nat.{add-zero}
 use native.Mathlib.Numerals.{add-one}
 use native.Mathlib.Omega.{arith}
 use borrow.Author.Needs.{needs}
@@ -108,3 +110,19 @@ first-bad-none k (p ∷ ps) e = look (sized p) refl (λ rest. first-bad-none (su
     look : (b : Bool) → sized p ≡ b → (firstBad (suc (suc k)) ps ≡ 0 → Each Sized ps) → (sized p ≡ true → firstBad (suc (suc k)) ps ≡ 0) → (sized p ≡ false → suc k ≡ 0) → Each Sized (p ∷ ps)
     look true good rest more never = (sized-true p good, rest (more good))
     look false bad rest more never = absurd (omega (arith, never bad))
+
+pub first-bad-behind : (k : ℕ) (ps : List Piece) (p : Piece) → Each Sized ps → firstBad k (ps ++ (p ∷ [])) ≡ cond (sized p) 0 (k + length ps)
+first-bad-behind k [] p ok = rw add-zero
+first-bad-behind k (q ∷ ps) p ok =
+    let e : k + 1 + length ps ≡ k + suc (length ps) = omega arith in
+    first-bad-step k q (ps ++ (p ∷ [])) true (sym (sized-is q true (ok .0))) ∙ (first-bad-behind (k + 1) ps p (ok .1) ∙ rw e)
+
+pub first-bad-front : (k j : ℕ) (ps qs : List Piece) → firstBad (suc k) ps ≡ suc j → firstBad (suc k) (ps ++ qs) ≡ suc j
+first-bad-front k j [] qs e = absurd (omega arith)
+first-bad-front k j (p ∷ ps) qs e = look (sized p) refl (λ rest. first-bad-front (suc k) j ps qs rest)
+  where
+    look : (b : Bool) → sized p ≡ b → (firstBad (suc (suc k)) ps ≡ suc j → firstBad (suc (suc k)) (ps ++ qs) ≡ suc j) → firstBad (suc k) (p ∷ (ps ++ qs)) ≡ suc j
+    look true good more =
+        let rest : firstBad (suc (suc k)) ps ≡ suc j = rw add-one at (sym (first-bad-step (suc k) p ps true good) ∙ e) in
+        first-bad-step (suc k) p (ps ++ qs) true good ∙ rw add-one (more rest)
+    look false bad more = first-bad-step (suc k) p (ps ++ qs) false bad ∙ (sym (first-bad-step (suc k) p ps false bad) ∙ e)

@@ -4,15 +4,18 @@
 --   tight-fits, tight-shorter, tight-full   a tight window holds its sum, is shorter for less, and holds no slack
 --   holding-below             what an allowed split is charged fits beside the core at every live length, in each wider window
 --   step-capped               so a cap of the charge is one of the budget
---   step-stands, step-falls, step-fails     both pieces pass, or one does not
---   last-hopeless             an overloaded last piece: so is each longer one, as long as its window gains too little
+--   step-stands, falls-here, falls-there    both pieces pass, or one does not
+--   last-falls                an overloaded last piece: so is each longer one, as long as its window gains too little
 --   step-last                 what the last piece told of the candidate
---   ends-room, ends-due       where the tight windows of allowed splits end
+--   misses-lowered            how far down no tight window ends by a top
+--   skips-late, -last, -own   so down to there none fits: no window is left, the last piece falls, or the first one's own blocking
+--   step-due                  and where a job of the core is due within the tight window
+--   ends-room, ends-lowered   where the tight windows of allowed splits end
 --   starts-none, starts-capped     where the search starts
-use mathlib.Core.Path.{_≡_, refl, sym, ap, _∙_, subst}
+use mathlib.Core.Path.{_≡_, refl, sym, _∙_, subst}
 use mathlib.Core.List.{List, [], _∷_, _++_}
 use mathlib.Core.Logic.{_⊎_, ⊎-elim}
-use Prim.Native.Nat.{ℕ, zero, suc, _+_, _*_, _-_, _/_, _≤_, _<_, zero-le, min, max}
+use Prim.Native.Nat.{ℕ, _+_, _*_, _-_, _≤_, _<_, zero-le, min, max}
 use native.Mathlib.Nat.{mul-le-mul-right, zero-div}
 use native.Mathlib.Decide.{decLt}
 use native.Mathlib.Omega.{arith}
@@ -21,24 +24,29 @@ use Rattle.demand.specs.declared.Piece.{Piece}
 use Rattle.demand.specs.declared.Costs.{Costs}
 use Rattle.demand.specs.declared.Charged.{Charged}
 use Rattle.demand.specs.declared.Found.the-variants.{At}
+use Rattle.demand.specs.declared.Sum.the-variants.{Interrupts}
+use Rattle.demand.specs.declared.probes.Probe.the-variants.{Window, Calls, Due}
 use Rattle.demand.specs.declared.Verdict.{Verdict}
-use Rattle.demand.specs.declared.Verdict.the-variants.{Passes, Overloaded, Undecided}
+use Rattle.demand.specs.declared.Verdict.the-variants.{Passes, Overloaded}
 use Rattle.demand.specs.declared.caps.Bound.the-variants.{Stands, Falls, AtMost}
 use Rattle.demand.specs.declared.splits.Step.the-variants.{Done, Below}
-use Rattle.demand.specs.Sizes.{lengthMost, SizedCosts, Sized, Each}
+use Rattle.demand.specs.Sizes.{lengthMost, Sized, Each}
 use Rattle.demand.specs.Charge.{charged, ipiCost, stall}
 use Rattle.demand.specs.Demand.{total, jobsDue, interrupts, largestWindow, blocking, load, demand, Some, Live, leastLive}
 use Rattle.demand.specs.Verdict.{Means, verdict}
 use Rattle.demand.specs.Split.{lastJitter, firstPiece, lastPiece}
-use Rattle.demand.specs.Caps.{beside, Holding, Caps, Bounds}
-use Rattle.demand.specs.Search.{Weighs, withFirst, lastAlone, tightBeside, Tight, Fits, TightIn, Steps, Hopeless, Ends, Starts}
+use Rattle.demand.specs.Caps.{beside, Holding, Caps, Stalled, Settles, Bounds}
+use Rattle.demand.specs.Lanes.{term}
+use Rattle.demand.specs.Probes.{Refuses, Lowered}
+use Rattle.demand.specs.Search.{Weighs, withFirst, lastAlone, tightBeside, Tight, Fits, TightIn, Steps, Misses, Skips, Hopeless, Ends, Starts}
 use Rattle.demand.proofs.Division.{div-mono}
-use Rattle.demand.proofs.Sums.{total-snoc}
-use Rattle.demand.proofs.DemandLaws.{Recurs, jobs-due-none, jobs-due-some, interrupts-mono, largest-snoc, live-mono}
+use Rattle.demand.proofs.Sums.{total-mono, total-snoc}
+use Rattle.demand.proofs.DemandLaws.{Recurs, jobs-due-none, jobs-due-some, jobs-due-mono, interrupts-mono, demand-below, largest-snoc, live-mono}
 use Rattle.demand.proofs.BusyLaws.{least-le}
+use Rattle.demand.proofs.ProbeLaws.{late-more}
 use Rattle.demand.proofs.VerdictLaws.{verdict-means, passes-forever}
-use Rattle.demand.proofs.CapLaws.{beside-at, beside-snoc, blocking-below, blocking-above, least-live-some}
-use Rattle.demand.proofs.SearchLaws.{fails-here, fails-there, step-none, step-done, extra, lastExtra, first-charge, last-charge, with-each, calls, calls-mono, tight-parts, first-interrupts, first-recurs, last-recurs}
+use Rattle.demand.proofs.CapLaws.{beside-at, beside-snoc, blocking-below, blocking-above, least-live-some, passes-settles}
+use Rattle.demand.proofs.SearchLaws.{fails-here, fails-there, step-skips, step-done, tight-same, extra, first-charge, last-charge, with-each, calls, calls-mono, calls-with, tight-parts, first-interrupts, first-recurs, last-recurs}
 
 -- a verdict that passes covers every live length
 forever : (b : ℕ) (rs : List Charged) → Each Recurs rs → verdict b rs ≡ Passes → (u : ℕ) → Live rs u → demand b rs u ≤ u
@@ -72,10 +80,6 @@ module _ (c : Costs) (qs : List Charged) (p : Piece) where
     -- it is at least the budget and what a first piece without one waits for within length 1
     pub tight-least : (x : ℕ) {t : ℕ} → Tight c qs p x t → x + tightBeside c qs p 0 1 ≤ t
     tight-least x {t} tight = omega (arith, tight-fits x tight, tight-parts c qs p 0 1, calls-mono c qs p recurs ok {t = 1} {u = t} (tight .here .some))
-
-    -- and what it waits for beyond that is the interrupts that come within it
-    pub tight-slack : (x y : ℕ) {t u : ℕ} → 1 ≤ y → y ≤ x → Tight c qs p x t → Tight c qs p y u → t ≤ u + (x - y) + (t - (x + tightBeside c qs p 0 1))
-    tight-slack x y some less long short = omega (arith, tight-least x long, tight-least y short)
 
 -- ---- a cap of the charge is one of the budget
 
@@ -136,9 +140,24 @@ module _ (c : Costs) (qs : List Charged) (p : Piece) (recurs : Each Recurs qs) (
         beside-le (stall c) qs q r (y + extra c p) u same (first-due c p ok x y w v u wider),
       )
 
-  with-least : (x w : ℕ) → leastLive (qs ++ (charged c (firstPiece p x w) ∷ [])) ≡ leastLive (withFirst c qs p x w)
+  pub with-least : (x w : ℕ) → leastLive (qs ++ (charged c (firstPiece p x w) ∷ [])) ≡ leastLive (withFirst c qs p x w)
   unfolding withFirst
   with-least x w = refl
+
+  alike : (x w z v : ℕ) → (charged c (firstPiece p z v) .period ≡ charged c (firstPiece p x w) .period) × (charged c (firstPiece p z v) .release ≡ charged c (firstPiece p x w) .release) × (charged c (firstPiece p z v) .ipi ≡ charged c (firstPiece p x w) .ipi)
+  unfolding charged ipiCost firstPiece
+  alike x w z v = (refl, refl, refl)
+
+  with-laid : (z v : ℕ) → withFirst c qs p z v ≡ qs ++ (charged c (firstPiece p z v) ∷ [])
+  unfolding withFirst
+  with-laid z v = refl
+
+  settles-below : (x w z u : ℕ) → Fits c qs p z u → Settles qs (charged c (firstPiece p x w)) (z + extra c p)
+  settles-below x w z u fits =
+      let v = p .jitter + u in
+      let same = alike x w z v in
+      let settles = passes-settles qs (charged c (firstPiece p x w)) (charged c (firstPiece p z v)) (same .0) (same .1) (same .2) (withFirst c qs p z v) (with-laid z v) (with-recurs c qs p z v recurs ok) (stall c) (fits .here) in
+      subst (λ (f : ℕ). Settles qs (charged c (firstPiece p x w)) f) (first-charge c p z v) settles
 
   pub step-capped : (x t w f k : ℕ) → 1 ≤ x → Tight c qs p x t → w ≡ p .jitter + t → k ≡ charged c (firstPiece p x w) .charge → Bounds (stall c) qs (charged c (firstPiece p x w)) (AtMost f) → Steps c qs p x (Below (f - (k - x)))
   step-capped x t w f k some tight at charge bound =
@@ -147,7 +166,7 @@ module _ (c : Costs) (qs : List Charged) (p : Piece) (recurs : Each Recurs qs) (
         λ z u low high fits.
             let shorter = tight-shorter c qs p recurs ok x z (omega arith) high tight (fits .tight) in
             let holds = holding-below x z u w fits (omega arith) in
-            omega (arith, bound .1 (z + extra c p) (omega arith) (rw (with-least x w) holds)),
+            omega (arith, bound .1 (z + extra c p) (omega arith) (rw (with-least x w) holds) (settles-below x w z u fits)),
       )
 
 -- ---- what the core with the first piece tells
@@ -157,12 +176,13 @@ module _ (c : Costs) (qs : List Charged) (p : Piece) (x w : ℕ) (found : TightI
   unfolding withFirst
   step-stands some here there = step-done c qs p x some (found .0) w (found .1) (found .2) (found .3) here there
 
-  pub step-falls : 1 ≤ x → Bounds (stall c) qs (charged c (firstPiece p x w)) Falls → Steps c qs p x (Below (x - 1))
+  -- x itself does not fit, where its core or its last piece does not pass
+  pub falls-here : (f : ℕ) → Bounds (stall c) qs (charged c (firstPiece p x w)) (Falls f) → (u : ℕ) → Fits c qs p x u → ⊥
   unfolding withFirst
-  step-falls some fails = step-none c qs p x some (fails-here c qs p x (found .0) w (found .1) (found .3) (verdict (stall c) (qs ++ (charged c (firstPiece p x w) ∷ []))) refl fails)
+  falls-here f bound = fails-here c qs p x (found .0) w (found .1) (found .3) (verdict (stall c) (qs ++ (charged c (firstPiece p x w) ∷ []))) refl (bound .0)
 
-  pub step-fails : 1 ≤ x → (verdict (stall c) (lastAlone c p x w) ≡ Passes → ⊥) → Steps c qs p x (Below (x - 1))
-  step-fails some fails = step-none c qs p x some (fails-there c qs p x (found .0) w (found .1) (found .3) (verdict (stall c) (lastAlone c p x w)) refl fails)
+  pub falls-there : (s : ℕ) → Hopeless c p x w s → (u : ℕ) → Fits c qs p x u → ⊥
+  falls-there s hopeless = fails-there c qs p x (found .0) w (found .1) (found .3) (verdict (stall c) (lastAlone c p x w)) refl (hopeless x w (omega arith) (omega arith) (omega arith))
 
 -- ---- the last piece alone
 
@@ -205,12 +225,26 @@ last-interrupts : (c : Costs) (p : Piece) (x y v w u : ℕ) → interrupts (char
 unfolding interrupts charged ipiCost lastPiece lastJitter
 last-interrupts c p x y v w u = refl
 
+-- a longer last piece whose window gains too little is overloaded as far past a live length
+last-hopeless : (c : Costs) (p : Piece) → Sized p → (x w u : ℕ) → Live (lastAlone c p x w) u → x ≤ p .budget → w ≤ p .window → (s : ℕ) → u + s < demand (stall c) (lastAlone c p x w) u → Hopeless c p x w s
+unfolding lastAlone charged lastPiece
+last-hopeless c p ok x w u live fits inside s more y v less shorter gain pass =
+    let q = charged c (lastPiece c p x w) in
+    let r = charged c (lastPiece c p y v) in
+    let recurs = last-recurs c p y v ok in
+    let window : r .window ≡ q .window + (w - v) = omega arith in
+    let charge : r .charge ≡ q .charge + (x - y) = omega (arith, last-charge c p x w, last-charge c p y v) in
+    let due : 1 ≤ jobsDue r (u + (w - v)) = rw (due-moved q r (w - v) window refl refl u) (alone-due q u live) in
+    moved-over q r (w - v) window (recurs .0) refl refl (stall c) u (x - y) s (last-interrupts c p x y w v u) charge (omega arith) live more
+    (forever (stall c) (r ∷ []) recurs pass (u + (w - v)) (alone-live r (u + (w - v)) due))
+
+last-one : (c : Costs) (p : Piece) (x w : ℕ) → 1 ≤ length (lastAlone c p x w)
+unfolding lastAlone
+last-one c p x w = omega arith
+
 module _ (c : Costs) (p : Piece) (ok : Sized p) (x w u : ℕ) (over : verdict (stall c) (lastAlone c p x w) ≡ Overloaded u) where
   over-means : Means (stall c) (lastAlone c p x w) (Overloaded u)
   over-means = subst (λ (v : Verdict). Means (stall c) (lastAlone c p x w) v) over (verdict-means (stall c) (lastAlone c p x w) (last-recurs c p x w ok))
-
-  over-live : Live (lastAlone c p x w) u
-  over-live = live-mono (lastAlone c p x w) (last-recurs c p x w ok) (over-means .3 .from) (over-means .2 .start .here)
 
   -- an overloaded length is within what a judged length can be
   pub over-within : u ≤ lengthMost
@@ -220,22 +254,53 @@ module _ (c : Costs) (p : Piece) (ok : Sized p) (x w u : ℕ) (over : verdict (s
       let due = alone-live q (q .window) (omega (arith, jobs-due-some q (q .window) (omega arith))) in
       omega (arith, over-means .3 .below, over-means .2 .within, least-le (over-means .2 .start) (q .window) due, ok .window-fits, ok .period-fits)
 
-  pub last-hopeless : x ≤ p .budget → w ≤ p .window → (s : ℕ) → u + s < demand (stall c) (lastAlone c p x w) u → Hopeless c p x w s
-  unfolding lastAlone charged lastPiece
-  last-hopeless fits inside s more y v less shorter gain pass =
-      let q = charged c (lastPiece c p x w) in
-      let r = charged c (lastPiece c p y v) in
-      let recurs = last-recurs c p y v ok in
-      let window : r .window ≡ q .window + (w - v) = omega arith in
-      let charge : r .charge ≡ q .charge + (x - y) = omega (arith, last-charge c p x w, last-charge c p y v) in
-      let due : 1 ≤ jobsDue r (u + (w - v)) = rw (due-moved q r (w - v) window refl refl u) (alone-due q u over-live) in
-      moved-over q r (w - v) window (recurs .0) refl refl (stall c) u (x - y) s (last-interrupts c p x y w v u) charge (omega arith) over-live more
-      (forever (stall c) (r ∷ []) recurs pass (u + (w - v)) (alone-live r (u + (w - v)) due))
+  -- by one less than it is overloaded, there or at another live length
+  pub last-falls : x ≤ p .budget → w ≤ p .window → (a m n s : ℕ) → leastLive (lastAlone c p x w) ≤ a → m ≡ demand (stall c) (lastAlone c p x w) u - (u + 1) → n ≡ demand (stall c) (lastAlone c p x w) a - (a + 1) → s ≡ max m n → Hopeless c p x w s
+  last-falls fits inside a m n s start late soon is = elim (decLt m n) [
+    | yes more ↦ last-hopeless c p ok x w a (live-mono (lastAlone c p x w) (last-recurs c p x w ok) start (least-live-some (lastAlone c p x w) (last-one c p x w) .here)) fits inside s (omega arith)
+    | no less ↦ last-hopeless c p ok x w u (live-mono (lastAlone c p x w) (last-recurs c p x w ok) (over-means .3 .from) (over-means .2 .start .here)) fits inside s (omega (arith, over-means .3 .over))
+  ]
 
-module _ (c : Costs) (qs : List Charged) (p : Piece) (recurs : Each Recurs qs) (ok : Sized p) where
-  pub step-last : (x t w s f : ℕ) → Tight c qs p x t → w ≡ p .jitter + t → s ≡ t - (x + tightBeside c qs p 0 1) → f < x → Hopeless c p x w s → Steps c qs p x (Below f)
-  step-last x t w s f tight at slack less hopeless =
-      (less, λ z u low high fits. hopeless z (p .jitter + u) high (omega (arith, tight-shorter c qs p recurs ok x z (omega arith) high tight (fits .tight))) (omega (arith, tight-slack c qs p recurs ok x z (omega arith) high tight (fits .tight))) (fits .there))
+-- ---- how far down the next may stand
+
+module _ (c : Costs) (qs : List Charged) (p : Piece) where
+  pub step-last : (x f w : ℕ) → (f < x) × ((y v : ℕ) → y ≤ x → verdict (stall c) (lastAlone c p y v) ≡ Passes → ⊥) → Steps c qs p x (Below f)
+  step-last x f w none = (none .0, λ z u low high fits. none .1 z (p .jitter + u) high (fits .there))
+
+  -- the high end of the budgets, one less
+  pub misses-lowered : (base b k : ℕ) → base ≡ b + k → b ≡ stall c → k ≡ charged c (firstPiece p 0 0) .charge → (rs : List Charged) → rs ≡ withFirst c qs p 0 0 → (top x h : ℕ) → 1 ≤ x → Lowered (Refuses rs (Window base top)) x h → Misses c qs p top (h - 1) x
+  misses-lowered base b k parts stalled charge rs laid top x h some low = (
+    omega (arith, low .most, low .some some),
+    λ z u above below tight. elim (decLt top u) [
+      | yes late ↦ late
+      | no early ↦
+          absurd
+          (⊎-elim (λ same. omega (arith, low .some some))
+          (λ none. late-more rs base top h z (omega (arith, low .some some)) none u (omega arith) (record {
+            some = tight .here .some;
+            fits = omega (arith, tight-fits c qs p z tight, calls-with c qs p 0 0 rs laid u, first-charge c p 0 0);
+          })) (low .told))
+    ],
+  )
+
+  -- none has a tight window that leaves the last piece one
+  pub skips-late : (top r x : ℕ) → top ≡ p .window - 1 - p .jitter → Misses c qs p top r x → Skips c qs p r x
+  skips-late top r x is misses = (misses .0, λ z u low high fits. omega (arith, misses .1 z u low high (fits .tight), fits .room))
+
+  module _ (recurs : Each Recurs qs) (ok : Sized p) where
+    -- the last pieces of all are overloaded whose tight window is past the end
+    pub skips-last : (x t w s : ℕ) → Tight c qs p x t → w ≡ p .jitter + t → Hopeless c p x w s → (rs : List Charged) → rs ≡ withFirst c qs p 0 0 → (i k end r : ℕ) → i ≡ total (term Interrupts t) rs → k ≡ i - s → Lowered (Refuses rs (Calls k)) t end → Misses c qs p (end - 1) r x → Skips c qs p r x
+    skips-last x t w s tight at hopeless rs laid i k end r calls-are few low misses = (
+      misses .0,
+      λ z u above below fits.
+          let late : end - 1 < u = misses .1 z u above below (fits .tight) in
+          let shorter = tight-shorter c qs p recurs ok x z (omega arith) (omega arith) tight (fits .tight) in
+          let more : calls c qs p t ≤ calls c qs p u + s =
+          ⊎-elim (λ same. omega (arith, calls-mono c qs p recurs ok {t = t} {u = u} (omega (arith, low .some (tight .here .some)))))
+          (λ come. omega (arith, come, calls-with c qs p 0 0 rs laid t, calls-with c qs p 0 0 rs laid end, calls-mono c qs p recurs ok {t = end} {u = u} (omega arith))) (low .told) in
+          hopeless z (p .jitter + u) (omega arith) (omega arith)
+          (omega (arith, shorter, more, tight-full c qs p recurs ok x (omega arith) tight, tight-full c qs p recurs ok z (omega arith) (fits .tight))) (fits .there),
+    )
 
 -- ---- where tight windows end
 
@@ -258,12 +323,9 @@ work-idle : (u : ℕ) (qs : List Charged) → Each Weighs qs → total (work u) 
 unfolding Live
 work-idle u qs weighs none live = work-none u qs weighs none live
 
-work-all : (u : ℕ) (qs : List Charged) → largestWindow qs ≤ u → total (λ q. q .charge) qs ≤ total (work u) qs
+work-mono : (qs : List Charged) → Each Recurs qs → {t u : ℕ} → t ≤ u → total (work t) qs ≤ total (work u) qs
 unfolding work
-work-all u [] past = zero-le
-work-all u (q ∷ qs) past =
-    let due : 1 ≤ jobsDue q u = omega (arith, jobs-due-some q u (omega arith)) in
-    omega (arith, work-all u qs (omega arith), mul-le-mul-right (q .charge) due)
+work-mono qs recurs {t} {u} h = total-mono Recurs (work t) (work u) (λ q pos. mul-le-mul-right (q .charge) (jobs-due-mono pos h)) qs recurs
 
 first-one : (c : Costs) (p : Piece) (x t : ℕ) → jobsDue (charged c (firstPiece p x (p .jitter + t))) t ≡ 1
 unfolding charged firstPiece
@@ -290,6 +352,14 @@ first-largest : (c : Costs) (qs : List Charged) (p : Piece) (x w : ℕ) → larg
 unfolding withFirst charged firstPiece
 first-largest c qs p x w = largest-snoc qs (charged c (firstPiece p x w))
 
+-- before the end of the first piece's window the stall counts
+first-stalled : (c : Costs) (qs : List Charged) (p : Piece) (z v t : ℕ) → t < v → demand (stall c) (withFirst c qs p z v) t ≡ stall c + total (load t) qs + interrupts (charged c (firstPiece p z v)) t + jobsDue (charged c (firstPiece p z v)) t * (z + extra c p)
+unfolding withFirst load
+first-stalled c qs p z v t before =
+    let q = charged c (firstPiece p z v) in
+    let own : jobsDue q t * q .charge ≡ jobsDue q t * (z + extra c p) = rw (first-charge c p z v) refl in
+    omega (arith, demand-below (stall c) (qs ++ (q ∷ [])) t (omega (arith, first-largest c qs p z v)), total-snoc (load t) qs q, own)
+
 module _ (c : Costs) (qs : List Charged) (p : Piece) where
   pub ends-room : Ends c qs p (p .window - p .jitter)
   ends-room x t some fits = omega (arith, fits .room)
@@ -300,21 +370,47 @@ module _ (c : Costs) (qs : List Charged) (p : Piece) where
         let rs = withFirst c qs p x (p .jitter + t) in
         omega (arith, forever (stall c) rs (with-recurs c qs p x (p .jitter + t) recurs ok) (fits .here) t (first-live c qs p x t), first-demand c qs p x t, tight-full c qs p recurs ok x some (fits .tight))
 
-    before-due : Each Weighs qs → (1 ≤ p .jitter) ⊎ (stall c < total (λ q. q .charge) qs) → (x t : ℕ) → 1 ≤ x → Fits c qs p x t → Live qs t → ⊥
-    before-due weighs side x t some fits live =
-        let rs = withFirst c qs p x (p .jitter + t) in
-        elim (decLt t (largestWindow rs)) [
-          | yes within ↦ work-idle t qs weighs (omega (arith, left-over x t some fits, blocking-below (stall c) rs t within)) live
-          | no past ↦
-              ⊎-elim (λ jitter. omega (arith, first-largest c qs p x (p .jitter + t)))
-              (λ heavy. omega (arith, left-over x t some fits, work-all t qs (omega (arith, first-largest c qs p x (p .jitter + t))))) side
-        ]
+    -- while the stall counts at the end of a tight window, no job of the core may be due by then
+    module _ (weighs : Each Weighs qs) (many : 1 ≤ length qs) (x t w : ℕ) (tight : Tight c qs p x t) (at : w ≡ p .jitter + t) (early : t < max (largestWindow qs) w) where
+      due-fails : (z u : ℕ) → 1 ≤ z → z ≤ x → leastLive qs ≤ u → Fits c qs p z u → ⊥
+      due-fails z u some less due fits =
+          let rs = withFirst c qs p z (p .jitter + u) in
+          let shorter = tight-shorter c qs p recurs ok x z some less tight (fits .tight) in
+          let counts = blocking-below (stall c) rs u (omega (arith, first-largest c qs p z (p .jitter + u))) in
+          work-idle u qs weighs (omega (arith, left-over z u some fits, counts)) (live-mono qs recurs {t = leastLive qs} {u = u} due (least-live-some qs many .here))
 
-    pub ends-due : 1 ≤ length qs → Each Weighs qs → (1 ≤ p .jitter) ⊎ (stall c < total (λ q. q .charge) qs) → Ends c qs p (leastLive qs)
-    ends-due some weighs side x t one fits = elim (decLt t (leastLive qs)) [
+      pub step-due : (m r : ℕ) → 1 ≤ x → leastLive qs ≤ t → m ≡ leastLive qs - 1 → Misses c qs p m r x → Steps c qs p x (Below r)
+      step-due m r some due is misses =
+          step-skips c qs p x some r (λ u fits. due-fails x u some (omega arith) (omega (arith, tight-same c qs p x tight (fits .tight))) fits)
+          (misses .0, λ z u low high fits. due-fails z u (omega arith) (omega arith) (omega (arith, misses .1 z u low high (fits .tight))) fits)
+
+    -- what is due within a tight window is charged no more than the stall, or than nothing where the task has jitter
+    pub ends-lowered : (most end r : ℕ) → (most ≡ stall c) ⊎ ((1 ≤ p .jitter) × (most ≡ 0)) → end ≡ p .window - p .jitter → Lowered (Refuses qs (Due most)) end r → Ends c qs p r
+    ends-lowered most end r side is low x t some fits = elim (decLt t r) [
       | yes before ↦ before
-      | no after ↦ absurd (before-due weighs side x t one fits (live-mono qs recurs {t = leastLive qs} {u = t} (omega arith) (least-live-some qs some .here)))
+      | no after ↦
+          let rs = withFirst c qs p x (p .jitter + t) in
+          let left = left-over x t some fits in
+          ⊎-elim (λ same. omega (arith, ends-room x t some fits))
+          (λ over.
+          let heavy : most < total (work t) qs = omega (arith, over, work-parts r qs, work-mono qs recurs {t = r} {u = t} (omega arith)) in
+          ⊎-elim (λ stalled. absurd (omega (arith, left))) (λ jitter. absurd (omega (arith, left, blocking-below (stall c) rs t (omega (arith, first-largest c qs p x (p .jitter + t)))))) side) (low .told)
     ]
+
+    -- a smaller budget that fits has its tight window by t, or fits at t with the stall
+    pub skips-own : (x t w u k most m r : ℕ) → Tight c qs p x t → w ≡ p .jitter + t → leastLive (withFirst c qs p x w) ≤ u → k ≡ charged c (firstPiece p x w) .charge → Stalled (stall c) qs (charged c (firstPiece p x w)) u most → Misses c qs p (u - p .jitter) m x → r ≡ max m (most - (k - x)) → Skips c qs p r x
+    skips-own x t w u k most m r tight at live charge stalled misses is =
+        let e : k ≡ x + extra c p = charge ∙ first-charge c p x w in (
+          omega (arith, misses .0, stalled .less),
+          λ z s above below fits.
+              let v = p .jitter + s in
+              let late : u < v = omega (arith, misses .1 z s (omega arith) below (fits .tight)) in
+              let shorter = tight-shorter c qs p recurs ok x z (omega arith) (omega arith) tight (fits .tight) in
+              let there = with-shorter c qs p ok x z v w u (omega arith) (live-mono (withFirst c qs p x w) (with-recurs c qs p x w recurs ok) {t = leastLive (withFirst c qs p x w)} {u = u} live (least-live-some (withFirst c qs p x w) (with-some c qs p x w) .here)) in
+              let fits-there = forever (stall c) (withFirst c qs p z v) (with-recurs c qs p z v recurs ok) (fits .here) u there in
+              let jobs = mul-le-mul-right (z + extra c p) (first-due c p ok x z v w u (omega arith)) in
+              omega (arith, stalled .caps (z + extra c p) (omega arith) (omega (arith, fits-there, first-stalled c qs p z v u late, jobs, first-interrupts c p x w u, first-interrupts c p z v u))),
+        )
 
     -- ---- where the search starts
 

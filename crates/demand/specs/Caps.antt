@@ -8,6 +8,9 @@
 --   Lowers b qs q f a t v the same, where any length from a on may have lowered it
 --   Caps b qs q f a r     no charge up to f that fits from a on is above r
 --   Squeezed b qs q f a e r   and where r is f, f fits from a below e
+--   Stalled b qs q t r    r is below q's charge, and no charge between them fits at t where the stall counts
+--   Settles qs q f        with q charged f the core qs has a busy length
+--   Unsettled qs q f      it has none with f or more
 --   Bounds b qs q r       what the core qs with q behind tells
 use mathlib.Core.Path.{_≡_}
 use mathlib.Core.List.{List, [], _∷_, _++_}
@@ -17,7 +20,9 @@ use Rattle.demand.specs.declared.caps.Level.{Level}
 use Rattle.demand.specs.declared.caps.Bound.{Bound}
 use Rattle.demand.specs.declared.caps.Bound.the-variants.{Stands, Falls, AtMost}
 use Rattle.demand.specs.declared.Verdict.the-variants.{Passes}
-use Rattle.demand.specs.Demand.{jobsDue, interrupts, largestWindow, demand, leastLive}
+use Rattle.demand.specs.Sizes.{timeMost, busyMost}
+use Rattle.demand.specs.Demand.{ceil, total, jobsDue, interrupts, largestWindow, load, demand, leastLive}
+use Rattle.demand.specs.Busy.{busySum}
 use Rattle.demand.specs.Verdict.{verdict}
 
 unfoldable pub beside : ℕ → List Charged → Charged → ℕ → ℕ → ℕ
@@ -52,7 +57,20 @@ pub record Squeezed (b : ℕ) (qs : List Charged) (q : Charged) (f a e r : ℕ) 
   pub caps : (y : ℕ) → y ≤ f → Holding b qs q y a → y ≤ r
   pub calm : 1 ≤ f → r ≡ f → (u : ℕ) → a ≤ u → u < e → beside b qs q f u ≤ u
 
+pub record Stalled (b : ℕ) (qs : List Charged) (q : Charged) (t r : ℕ) : Type 0 where
+  pub less : r < q .charge
+  pub caps : (y : ℕ) → y < q .charge → b + total (load t) qs + interrupts q t + jobsDue q t * y ≤ t → y ≤ r
+
+pub record Settles (qs : List Charged) (q : Charged) (f : ℕ) : Type 0 where
+  pub at : ℕ
+  pub some : 1 ≤ at
+  pub within : at ≤ busyMost
+  pub fits : busySum qs at + ceil at (q .period) * (f + q .release + q .ipi) ≤ at
+
+abbrev pub Unsettled : List Charged → Charged → ℕ → Type 0
+Unsettled qs q f = (y : ℕ) → f ≤ y → Settles qs q y → ⊥
+
 abbrev pub Bounds : ℕ → List Charged → Charged → Bound → Type 0
 Bounds b qs q Stands = verdict b (qs ++ (q ∷ [])) ≡ Passes
-Bounds b qs q Falls = verdict b (qs ++ (q ∷ [])) ≡ Passes → ⊥
-Bounds b qs q (AtMost f) = (f < q .charge) × ((y : ℕ) → y ≤ q .charge → Holding b qs q y (leastLive (qs ++ (q ∷ []))) → y ≤ f)
+Bounds b qs q (Falls t) = (verdict b (qs ++ (q ∷ [])) ≡ Passes → ⊥) × (leastLive (qs ++ (q ∷ [])) ≤ t) × (t ≤ timeMost)
+Bounds b qs q (AtMost f) = (f < q .charge) × ((y : ℕ) → y ≤ q .charge → Holding b qs q y (leastLive (qs ++ (q ∷ []))) → Settles qs q y → y ≤ f)

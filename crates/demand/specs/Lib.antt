@@ -7,8 +7,11 @@ pub mod Busy
 pub mod Verdict
 pub mod Split
 pub mod Answer
+pub mod Records
 pub mod Lanes
+pub mod Probes
 pub mod Caps
 pub mod Leaps
+pub mod Marks
 pub mod Search
 pub mod Cases

@@ -2,7 +2,9 @@
 // charge at once, where a verdict tells of one.
 use crate::Charged;
 use crate::Found;
+use crate::Sum;
 use crate::Verdict;
+use crate::demands::ceil_div;
 use crate::demands::demand_at;
 use crate::demands::greater;
 use crate::demands::interrupts_of;
@@ -11,17 +13,24 @@ use crate::demands::largest_window;
 use crate::demands::least_live;
 use crate::demands::less;
 use crate::demands::lesser;
+use crate::demands::sum_at;
 use crate::lanes::lane_at;
+use crate::lanes::put_lane;
 use crate::leaps::climb_busy;
+use crate::leaps::flow_at;
+use crate::probes::pick;
 use crate::spans::descend;
 use crate::spans::next_end;
 ghost use mathlib.Core.Path.{_≡_};
 ghost use Prim.Native.Nat.{_+_, _<_, _≤_};
 ghost use Rattle.demand.specs.Busy.{busyLength};
-ghost use Rattle.demand.specs.Caps.{Fitting, Levels, Lowers, Squeezed, Caps, Bounds};
+ghost use lib.ListN.{length};
+ghost use Rattle.demand.specs.Caps.{Fitting, Levels, Lowers, Squeezed, Caps, Stalled, Unsettled, Bounds};
 ghost use Rattle.demand.specs.declared.Found.the-variants.{At};
 ghost use Rattle.demand.specs.Demand.{largestWindow, leastLive};
 ghost use Rattle.demand.specs.Lanes.{rows, lane};
+ghost use Rattle.demand.specs.Probes.{Shows};
+ghost use Rattle.demand.specs.Search.{Kept};
 ghost use Rattle.demand.specs.Sizes.{Ranged, Each, lengthMost, timeMost, busyMost};
 
 // What a length left: the charge, and the end below which the walk goes on.
@@ -30,10 +39,10 @@ pub struct Level {
     pub end: u64,
 }
 
-// What a core with a piece behind tells: it passes, it does not, or it does not with any charge of that piece above f.
+// What a core with a piece behind tells: it passes, it does not, with a length that shows it, or it does not with any charge of that piece above f.
 pub enum Bound {
     Stands,
-    Falls,
+    Falls(u64),
     AtMost(u64),
 }
 
@@ -195,16 +204,105 @@ pub fn bound_within(core: &[u64; 553], n: usize, b: u64, a: u64, l: u64) -> Boun
     let own = greater(a, largest_window(core, n));
     match descend(core, n + 1, b, own, less(q.window, own)) {
         Verdict::Passes => Bound::Stands,
-        Verdict::Overloaded(t) => Bound::Falls,
-        Verdict::Undecided => Bound::Falls,
+        Verdict::Overloaded(t) => {
+            let start = lesser(t, stretch_start(core, n, q, t));
+            Bound::Falls(greater(own, start))
+        }
+        Verdict::Undecided => Bound::Falls(own),
     }
 }
 
-// What a core with one piece behind its n tells.
-pub fn bound_of(core: &[u64; 553], n: usize, b: u64) -> Bound
+// The greatest charge of q, below its own, that fits at t beside the n pieces where the stall counts.
+pub fn fit_stalled(core: &[u64; 553], n: usize, b: u64, q: Charged, t: u64) -> u64
+    requires { ⌜ (n ≤ 79) × Each Ranged (rows (now core) n) ⌝ }
+    requires { ⌜ Ranged q ⌝ }
+    requires { ⌜ (b ≤ 200000) × (1 ≤ q .charge) × (t ≤ lengthMost) ⌝ }
+    ensures { λ r. ⌜ Stalled b (rows (now (core .entry)) n) q t r ⌝ }
+{
+    let asked = b + sum_at(core, n, Sum::Load, t) + interrupts_of(q, t);
+    if t < asked {
+        return 0;
+    }
+    let most = fitting(q.charge, jobs_due(q, t), t - asked);
+    lesser(most, q.charge - 1)
+}
+
+// A charge of q, below its own, with which the n pieces and q may hold the busy sum at l. What is made of it needs no more than that it is below.
+pub fn guess_at(core: &[u64; 553], n: usize, q: Charged, l: u64) -> u64
     requires { ⌜ (n < 79) × Each Ranged (rows (now core) (n + 1)) ⌝ }
+    requires { ⌜ Ranged q ⌝ }
+    requires { ⌜ (1 ≤ q .charge) × (l ≤ lengthMost) ⌝ }
+    ensures { λ r. ⌜ r < q .charge ⌝ }
+{
+    let f = flow_at(core, n + 1, l, 0);
+    let jobs = greater(1, ceil_div(l, q.period));
+    less(q.charge, 1 + less(f.asked, l) / jobs)
+}
+
+// The greatest such charge at the last multiples of the periods, where the busy sum is least above the length.
+pub fn guess(core: &[u64; 553], n: usize, q: Charged) -> u64
+    requires { ⌜ (n < 79) × Each Ranged (rows (now core) (n + 1)) ⌝ }
+    requires { ⌜ Ranged q ⌝ }
+    requires { ⌜ 1 ≤ q .charge ⌝ }
+    ensures { λ r. ⌜ r < q .charge ⌝ }
+{
+    let mut best: u64 = 0;
+    let mut i: usize = 0;
+    while i <= n {
+        let p = lane_at(core, i);
+        best = greater(best, guess_at(core, n, q, floor_to(100000000, p.period)));
+        i += 1;
+    }
+    best
+}
+
+// Whether the n pieces with q behind, charged f, have no busy length.
+pub fn unsettled(core: &mut [u64; 553], n: usize, q: Charged, f: u64) -> bool
+    requires { ⌜ (n < 79) × (length (now core) ≡ 553) × Each Ranged (rows (now core) n) ⌝ }
+    requires { ⌜ Ranged q ⌝ }
+    requires { ⌜ f ≤ 2000000 ⌝ }
+    ensures { λ r. ⌜ Shows (Unsettled (rows (now (core .entry)) n) q f) r × Kept (now (core .entry)) (now (core .exit)) n ⌝ }
+{
+    let p = Charged {
+        charge: f,
+        window: q.window,
+        period: q.period,
+        jitter: q.jitter,
+        release: q.release,
+        ipi: q.ipi,
+        ipij: q.ipij,
+    };
+    put_lane(core, n, p);
+    match climb_busy(core, n + 1) {
+        Found::Nothing => true,
+        Found::At(l) => false,
+    }
+}
+
+// Where q's own charge leaves no busy length: what is left of it after some probes, from a charge that may leave one. The last few are left to the search, which
+// climbs for each as a probe does.
+pub fn busy_cap(core: &mut [u64; 553], n: usize, q: Charged, from: u64) -> u64
+    requires { ⌜ (n < 79) × (length (now core) ≡ 553) × Each Ranged (rows (now core) n) ⌝ }
+    requires { ⌜ Ranged q ⌝ }
+    requires { ⌜ (from < q .charge) × Unsettled (rows (now core) n) q (q .charge) ⌝ }
+    ensures { λ r. ⌜ (r < q .charge) × Unsettled (rows (now (core .entry)) n) q (r + 1) × Kept (now (core .entry)) (now (core .exit)) n ⌝ }
+{
+    let mut low = from;
+    let mut high = q.charge;
+    while low + 4 < high {
+        let f = (low + high) / 2;
+        let no = unsettled(core, n, q, f);
+        low = pick(no, low, f);
+        high = pick(no, f, high);
+    }
+    high - 1
+}
+
+// What a core with one piece behind its n tells. The charge of that piece is written anew where there is no busy length.
+pub fn bound_of(core: &mut [u64; 553], n: usize, b: u64) -> Bound
+    requires { ⌜ (n < 79) × (length (now core) ≡ 553) × Each Ranged (rows (now core) (n + 1)) ⌝ }
     requires { ⌜ (b ≤ 200000) × (1 ≤ lane (now core) n .charge) ⌝ }
-    ensures { λ r. ⌜ Bounds b (rows (now (core .entry)) n) (lane (now (core .entry)) n) r ⌝ }
+    ensures { λ r. ⌜ Bounds b (rows (now (core .entry)) n) (lane (now (core .entry)) n) r × Kept (now (core .entry)) (now (core .exit)) n ⌝ }
 {
     let q = lane_at(core, n);
     let a = least_live(core, n + 1);
@@ -213,7 +311,10 @@ pub fn bound_of(core: &[u64; 553], n: usize, b: u64) -> Bound
         return Bound::AtMost(cap);
     }
     match climb_busy(core, n + 1) {
-        Found::Nothing => Bound::Falls,
+        Found::Nothing => {
+            let from = guess(core, n, q);
+            Bound::AtMost(busy_cap(core, n, q, from))
+        }
         Found::At(l) => bound_within(core, n, b, a, l),
     }
 }

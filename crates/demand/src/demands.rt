@@ -46,13 +46,25 @@ pub fn jobs_due(q: Charged, t: u64) -> u64
     1 + (t + q.jitter - q.window) / q.period
 }
 
+// What interrupts of that cost and jitter ask for by t. Where they cost nothing, nothing is divided.
+pub fn calls_of(cost: u64, period: u64, jitter: u64, t: u64) -> u64
+    requires { ⌜ (cost ≤ 200000) × (1 ≤ period) × (period ≤ timeMost) ⌝ }
+    requires { ⌜ (jitter ≤ timeMost) × (t ≤ lengthMost) ⌝ }
+    ensures { λ r. ⌜ (r ≡ ceil (t + jitter) period * cost) × (r ≤ 20400000000000) ⌝ }
+{
+    if cost == 0 {
+        return 0;
+    }
+    ceil_div(t + jitter, period) * cost
+}
+
 pub fn interrupts_of(q: Charged, t: u64) -> u64
     requires { ⌜ Ranged q ⌝ }
     requires { ⌜ t ≤ lengthMost ⌝ }
     ensures { λ r. ⌜ (r ≡ interrupts q t) × (r ≤ 100000000000000) ⌝ }
 {
-    let releases = ceil_div(t + q.jitter, q.period) * q.release;
-    let ipis = ceil_div(t + q.ipij, q.period) * q.ipi;
+    let releases = calls_of(q.release, q.period, q.jitter, t);
+    let ipis = calls_of(q.ipi, q.period, q.ipij, t);
     releases + ipis
 }
 

@@ -1,14 +1,15 @@
 // A core under judgement, laid out once in one array of numbers, seven to a piece, and lent from then on.
 use crate::Charged;
 use crate::Costs;
-use crate::Run;
 use crate::charges::charged_of;
+use crate::records::record_at;
 ghost use mathlib.Core.Path.{_≡_};
 ghost use mathlib.Core.List.{[], _∷_, _++_};
 ghost use Prim.Native.Nat.{_+_, _<_, _≤_};
 ghost use lib.ListN.{take, length};
 ghost use Rattle.demand.specs.Charge.{coreOf};
 ghost use Rattle.demand.specs.Lanes.{lane, rows};
+ghost use Rattle.demand.specs.Records.{recordsOf};
 ghost use Rattle.demand.specs.Sizes.{SizedCosts, Countable, Each};
 
 // The charged piece at place i.
@@ -43,18 +44,15 @@ pub fn put_lane(core: &mut [u64; 553], i: usize, q: Charged)
     core[at + 6] = q.ipij;
 }
 
-// The pieces of a run, each charged.
-pub fn lay_out(costs: Costs, run: Run) -> [u64; 553]
+// The first n records of a run, each charged.
+pub fn lay_out<'a>(core: &'a mut [u64; 553], costs: Costs, records: &'a [u64; 553], n: usize)
     requires { ⌜ SizedCosts costs ⌝ }
-    requires { ⌜ (run .count ≤ 79) × Each Countable (take (run .count) (run .pieces)) ⌝ }
-    ensures { λ r. ⌜ rows r (run .count) ≡ coreOf costs (take (run .count) (run .pieces)) ⌝ }
+    requires { ⌜ (n ≤ 79) × Each Countable (take n (recordsOf (now records))) × (length (now core) ≡ 553) ⌝ }
+    ensures { λ r. ⌜ (rows (now (core .exit)) n ≡ coreOf costs (take n (recordsOf (now (records .entry))))) × (length (now (core .exit)) ≡ 553) ⌝ }
 {
-    let mut core: [u64; 553] = [0; 553];
     let mut i: usize = 0;
-    while i < run.count {
-        let piece = run.pieces[i];
-        put_lane(&mut core, i, charged_of(costs, piece));
+    while i < n {
+        put_lane(core, i, charged_of(costs, record_at(records, i)));
         i += 1;
     }
-    core
 }

@@ -1,18 +1,19 @@
 // The busy length, climbed by leaps. A plain climb goes from l to what is asked at l, and creeps where the pieces take up nearly all time. So each pass also tells
 // how far every length from l on that holds the busy sum must reach: a piece whose next release is at the edge or later asks for the jobs it has by l, any
-// other for its share of the length.
+// other for its share of the length. Such a leap is at most about the largest period, so where a long climb gains little by it, a whole stretch of lengths is walked.
 use crate::Charged;
 use crate::Found;
 use crate::demands::ceil_div;
 use crate::demands::greater;
-use crate::demands::less;
 use crate::lanes::lane_at;
+use crate::marks::held_from;
 ghost use mathlib.Core.Path.{_≡_};
-ghost use Prim.Native.Nat.{_≤_};
+ghost use Prim.Native.Nat.{_+_, _<_, _≤_};
 ghost use Rattle.demand.specs.Busy.{busyLoad, busySum, busyLength};
 ghost use Rattle.demand.specs.Lanes.{rows};
 ghost use Rattle.demand.specs.Leaps.{Flows, Reaches};
-ghost use Rattle.demand.specs.Sizes.{Ranged, Each, lengthMost};
+ghost use Rattle.demand.specs.Marks.{Clear};
+ghost use Rattle.demand.specs.Sizes.{Ranged, Each, busyMost, lengthMost};
 
 // What one pass at l tells: the busy sum there, the shares of the pieces that flow, 2^32 being all time, and the work of the others.
 pub struct Flow {
@@ -85,18 +86,49 @@ pub fn reach_of(f: Flow) -> u64
     0
 }
 
-// How far the next pass looks ahead: nowhere while the climb is short, then the mean of the last look and the last leap.
-pub fn look(plain: u64, ahead: u64, gap: u64) -> u64
-    requires { ⌜ (ahead ≤ 500000000000000000) × (gap ≤ 500000000000000000) ⌝ }
-    ensures { λ r. ⌜ r ≤ 500000000000000000 ⌝ }
+// Where the climb goes on from l: to `next` where that is far, else through the stretch from l on.
+pub fn leap(core: &[u64; 553], n: usize, l: u64, asked: u64, next: u64) -> u64
+    requires { ⌜ (n ≤ 79) × Each Ranged (rows (now core) n) ⌝ }
+    requires { ⌜ (l ≤ busyMost) × (asked ≡ busySum (rows (now core) n) l) × (asked ≤ 79000000000000000) × Clear (busySum (rows (now core) n)) (l + 1) ⌝ }
+    requires { ⌜ Clear (busySum (rows (now core) n)) next ⌝ }
+    ensures { λ r. ⌜ (l < r) × Clear (busySum (rows (now (core .entry)) n)) r × (r < l + 256 → busySum (rows (now (core .entry)) n) r ≤ r) ⌝ }
 {
-    if 0 < plain {
-        return 0;
+    if l + 256 <= next {
+        return next;
     }
-    (ahead + gap) / 2
+    held_from(core, n, l, asked)
 }
 
-// The busy length of the n pieces, if there is one up to the limit. The first pass lets all pieces flow: where they take up more than all time there is none.
+// The climb from l on, where it is long. Each pass looks ahead by the mean of the last look and the last leap. A turn ends the climb or gains 256 lengths, so there are at
+// most 390,626.
+pub fn climb_far(core: &[u64; 553], n: usize, from: u64) -> Found
+    requires { ⌜ (n ≤ 79) × Each Ranged (rows (now core) n) ⌝ }
+    requires { ⌜ (1 ≤ from) × Clear (busySum (rows (now core) n)) from ⌝ }
+    ensures { λ r. ⌜ r ≡ busyLength (rows (now (core .entry)) n) ⌝ }
+{
+    let mut l = from;
+    let mut ahead: u64 = 0;
+    while l <= 100000000 {
+        let f = flow_at(core, n, l, l + ahead);
+        if f.asked <= l {
+            return Found::At(l);
+        }
+        let next = greater(f.asked, reach_of(f));
+        ahead = (ahead + (next - l)) / 2;
+        let m = leap(core, n, l, f.asked, next);
+        if m < l + 256 {
+            if 100000000 < m {
+                return Found::Nothing;
+            }
+            return Found::At(m);
+        }
+        l = m;
+    }
+    Found::Nothing
+}
+
+// The busy length of the n pieces, if there is one up to the limit. The first pass lets all pieces flow: where they take up more than all time there is none. While the
+// climb is short, the others go by what is asked alone.
 pub fn climb_busy(core: &[u64; 553], n: usize) -> Found
     requires { ⌜ (n ≤ 79) × Each Ranged (rows (now core) n) ⌝ }
     ensures { λ r. ⌜ r ≡ busyLength (rows (now (core .entry)) n) ⌝ }
@@ -104,15 +136,17 @@ pub fn climb_busy(core: &[u64; 553], n: usize) -> Found
     let mut l: u64 = 1;
     let mut ahead: u64 = 200000000;
     let mut plain: u64 = 256;
-    while l <= 100000000 {
+    while 0 < plain {
+        if 100000000 < l {
+            return Found::Nothing;
+        }
         let f = flow_at(core, n, l, l + ahead);
         if f.asked <= l {
             return Found::At(l);
         }
-        let next = greater(f.asked, reach_of(f));
-        ahead = look(plain, ahead, next - l);
-        plain = less(plain, 1);
-        l = next;
+        l = greater(f.asked, reach_of(f));
+        ahead = 0;
+        plain -= 1;
     }
-    Found::Nothing
+    climb_far(core, n, l)
 }

@@ -7,6 +7,9 @@ mod demands;
 mod lanes;
 mod leaps;
 mod lengths;
+mod marks;
+mod probes;
+mod records;
 mod sizes;
 mod spans;
 mod splits;
@@ -20,7 +23,10 @@ use demands::less;
 use lanes::lay_out;
 use leaps::climb_busy;
 use lengths::tight_of;
-use sizes::check_run;
+use records::check_run;
+use records::lay_run;
+use records::records_of;
+use sizes::check_records;
 use sizes::check_task;
 use sizes::sized_costs;
 use sizes::sized_piece;
@@ -29,6 +35,7 @@ use splits::greatest_split;
 ghost use mathlib.Core.Path.{_≡_};
 ghost use Rattle.demand.specs.Answer.{answerOf, chargedTime, busyFigure, demandFigure, tightFigure, splitOf};
 ghost use Rattle.demand.specs.Kinds.{kindNumber, kindOf};
+ghost use Rattle.demand.specs.Records.{recordsOf, putRecord};
 ghost use Rattle.demand.specs.Sizes.{sized, sizedCosts};
 ghost use Rattle.demand.specs.Split.{firstPiece, lastPiece};
 
@@ -217,18 +224,45 @@ pub fn last_piece(costs: Costs, task: Piece, x: u64, w: u64) -> Piece
     }
 }
 
-/// The verdict on the run: 6, then 2, then 3 with the record's place, else the verdict.
+/// Writes a record, as its seven numbers, at a place from 0 of a run that is lent as numbers; past its last place nothing changes.
+pub fn put_record(records: &mut [u64; 553], i: usize, piece: Piece)
+    ensures exact { λ r. ⌜ now (records .exit) ≡ putRecord (now (records .entry)) i piece ⌝ }
+{
+    if 79 <= i {
+        return;
+    }
+    let at = 7 * i;
+    let kind = piece.kind;
+    records[at] = kind_number(kind);
+    records[at + 1] = piece.budget;
+    records[at + 2] = piece.window;
+    records[at + 3] = piece.period;
+    records[at + 4] = piece.jitter;
+    records[at + 5] = piece.preempt;
+    records[at + 6] = piece.migrate;
+}
+
+/// The verdict on the first `count` records of a run that is lent as numbers: 6, then 2, then 3 with the record's place, else the verdict.
+pub fn judge_records(costs: Costs, records: &[u64; 553], count: usize) -> Answer
+    ensures exact { λ r. ⌜ r ≡ answerOf costs count (recordsOf (now (records .entry))) ⌝ }
+{
+    match check_records(costs, records, count) {
+        Check::Bad(why) => Answer::Refused(why),
+        Check::Fine => {
+            let mut core: [u64; 553] = [0; 553];
+            lay_out(&mut core, costs, records, count);
+            Answer::Judged(judge_core(&core, count, stall_of(costs)))
+        }
+    }
+}
+
+/// The same of a run by value.
 pub fn judge(costs: Costs, run: Run) -> Answer
     ensures exact { λ r. ⌜ r ≡ answerOf costs (run .count) (run .pieces) ⌝ }
 {
-    match check_run(costs, run) {
-        Check::Bad(why) => Answer::Refused(why),
-        Check::Fine => {
-            let core = lay_out(costs, run);
-            let n = run.count;
-            Answer::Judged(judge_core(&core, n, stall_of(costs)))
-        }
-    }
+    let records = records_of(run);
+    let n = run.count;
+    judge_records(costs, &records, n)
 }
 
 /// The busy length L of the run, if there is one up to the limit.
@@ -238,7 +272,7 @@ pub fn busy_length(costs: Costs, run: Run) -> Figure
     match check_run(costs, run) {
         Check::Bad(why) => Figure::Barred(why),
         Check::Fine => {
-            let core = lay_out(costs, run);
+            let core = lay_run(costs, run);
             let n = run.count;
             Figure::Of(climb_busy(&core, n))
         }
@@ -255,7 +289,7 @@ pub fn demand_of(costs: Costs, run: Run, t: u64) -> Figure
             if 101000000 < t {
                 return Figure::Of(Found::Nothing);
             }
-            let core = lay_out(costs, run);
+            let core = lay_run(costs, run);
             let n = run.count;
             let w = largest_window(&core, n);
             Figure::Of(Found::At(demand_at(&core, n, stall_of(costs), w, t)))
@@ -274,19 +308,34 @@ pub fn tight_window(costs: Costs, run: Run) -> Figure
             if n == 0 {
                 return Figure::Of(Found::Nothing);
             }
-            let core = lay_out(costs, run);
+            let core = lay_run(costs, run);
             Figure::Of(tight_of(&core, n, stall_of(costs)))
         }
     }
 }
 
-/// The greatest allowed split of the task beside the run's pieces, at the grain. The task is given as its whole piece and checked as the record behind the
-/// run's, so the run has at most 78. No multiple of a grain of 0 counts.
+/// The greatest allowed split of the task beside the first `count` records of a run that is lent as numbers, at the grain. The task is given as its whole piece
+/// and checked as the record behind the run's, so the run has at most 78. No multiple of a grain of 0 counts.
+pub fn split_records(
+    costs: Costs,
+    records: &[u64; 553],
+    count: usize,
+    task: Piece,
+    grain: u64,
+) -> Splitting
+    ensures exact { λ r. ⌜ r ≡ splitOf costs count (recordsOf (now (records .entry))) task grain ⌝ }
+{
+    match check_task(costs, records, count, task) {
+        Check::Bad(why) => Splitting::Denied(why),
+        Check::Fine => Splitting::Best(greatest_split(costs, records, count, task, grain)),
+    }
+}
+
+/// The same beside a run by value.
 pub fn split_task(costs: Costs, run: Run, task: Piece, grain: u64) -> Splitting
     ensures exact { λ r. ⌜ r ≡ splitOf costs (run .count) (run .pieces) task grain ⌝ }
 {
-    match check_task(costs, run, task) {
-        Check::Bad(why) => Splitting::Denied(why),
-        Check::Fine => Splitting::Best(greatest_split(costs, run, task, grain)),
-    }
+    let records = records_of(run);
+    let n = run.count;
+    split_records(costs, &records, n, task, grain)
 }

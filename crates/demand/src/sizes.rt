@@ -3,12 +3,13 @@ use crate::Check;
 use crate::Costs;
 use crate::Piece;
 use crate::Refusal;
-use crate::Run;
+use crate::records::record_at;
 ghost use mathlib.Core.Path.{_≡_};
 ghost use mathlib.Core.List.{[], _∷_, _++_};
 ghost use Prim.Native.Nat.{_+_, _≤_};
 ghost use lib.ListN.{take};
 ghost use Rattle.demand.specs.Answer.{firstBad, checkRun};
+ghost use Rattle.demand.specs.Records.{recordsOf};
 ghost use Rattle.demand.specs.Sizes.{Sized, SizedCosts, Tells};
 
 pub fn sized_costs(costs: Costs) -> bool
@@ -71,16 +72,15 @@ pub fn sized_piece(piece: Piece) -> bool
     true
 }
 
-// The place, from 1, of the first record outside the sizes, or 0.
-pub fn first_bad(run: Run) -> u64
-    requires { ⌜ run .count ≤ 79 ⌝ }
-    ensures { λ r. ⌜ r ≡ firstBad 1 (take (run .count) (run .pieces)) ⌝ }
+// The place, from 1, of the first of the n records outside the sizes, or 0.
+pub fn first_bad(records: &[u64; 553], n: usize) -> u64
+    requires { ⌜ n ≤ 79 ⌝ }
+    ensures { λ r. ⌜ r ≡ firstBad 1 (take n (recordsOf (now (records .entry)))) ⌝ }
 {
     let mut i: usize = 0;
     let mut place: u64 = 1;
-    while i < run.count {
-        let piece = run.pieces[i];
-        if !sized_piece(piece) {
+    while i < n {
+        if !sized_piece(record_at(records, i)) {
             return place;
         }
         i += 1;
@@ -90,16 +90,16 @@ pub fn first_bad(run: Run) -> u64
 }
 
 // 6, then 2, then 3 with the record's place.
-pub fn check_run(costs: Costs, run: Run) -> Check
-    ensures { λ r. ⌜ r ≡ checkRun costs (run .count) (run .pieces) ⌝ }
+pub fn check_records(costs: Costs, records: &[u64; 553], n: usize) -> Check
+    ensures { λ r. ⌜ r ≡ checkRun costs n (recordsOf (now (records .entry))) ⌝ }
 {
-    if 79 < run.count {
+    if 79 < n {
         return Check::Bad(Refusal::TooMany);
     }
     if !sized_costs(costs) {
         return Check::Bad(Refusal::BadCosts);
     }
-    let place = first_bad(run);
+    let place = first_bad(records, n);
     if place == 0 {
         return Check::Fine;
     }
@@ -107,15 +107,19 @@ pub fn check_run(costs: Costs, run: Run) -> Check
 }
 
 // The same of a run with one record more, the task's.
-pub fn check_task(costs: Costs, run: Run, task: Piece) -> Check
-    ensures { λ r. ⌜ r ≡ checkRun costs (run .count + 1) (take (run .count) (run .pieces) ++ (task ∷ [])) ⌝ }
+pub fn check_task(costs: Costs, records: &[u64; 553], n: usize, task: Piece) -> Check
+    ensures { λ r. ⌜ r ≡ checkRun costs (n + 1) (take n (recordsOf (now (records .entry))) ++ (task ∷ [])) ⌝ }
 {
-    let at = run.count;
-    if 79 <= at {
+    if 79 <= n {
         return Check::Bad(Refusal::TooMany);
     }
-    let mut more = run;
-    more.pieces[at] = task;
-    more.count = at + 1;
-    check_run(costs, more)
+    match check_records(costs, records, n) {
+        Check::Bad(why) => Check::Bad(why),
+        Check::Fine => {
+            if sized_piece(task) {
+                return Check::Fine;
+            }
+            Check::Bad(Refusal::BadRecord(n as u64 + 1))
+        }
+    }
 }

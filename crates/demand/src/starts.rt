@@ -9,8 +9,12 @@ use crate::demands::less;
 use crate::demands::lesser;
 use crate::demands::sum_at;
 use crate::lanes::lane_at;
+use crate::probes::Probe;
+use crate::probes::lowered;
 use crate::splits::lay_first;
 ghost use mathlib.Core.Path.{_≡_};
+ghost use mathlib.Core.Logic.{_⊎_};
+ghost use Rattle.demand.specs.Charge.{stall};
 ghost use Prim.Native.Nat.{_-_, _≤_};
 ghost use Rattle.demand.specs.Lanes.{rows};
 ghost use Rattle.demand.specs.Search.{Ready, Kept, tightBeside, Ends, Starts};
@@ -28,8 +32,19 @@ pub fn least_sum(core: &mut [u64; 553], n: usize, costs: Costs, task: Piece) -> 
     stall_of(costs) + q.charge + sum_at(core, n + 1, Sum::Interrupts, 1)
 }
 
-// What the t of each allowed split's tight window is below: it leaves the last piece a window, and no other job of the core is due by then, unless the task
-// has no jitter and the core's charges are within the stall.
+// What the jobs of the core that are due within an allowed split's tight window are charged at most.
+pub fn due_most(costs: Costs, task: Piece) -> u64
+    requires { ⌜ SizedCosts costs ⌝ }
+    ensures { λ r. ⌜ ((r ≡ stall costs) ⊎ ((1 ≤ task .jitter) × (r ≡ 0))) × (r ≤ 200000) ⌝ }
+{
+    if 0 < task.jitter {
+        return 0;
+    }
+    stall_of(costs)
+}
+
+// What the t of each allowed split's tight window is below: it leaves the last piece a window, and what is due of the core by then is charged no more than the
+// stall, or than nothing where the task has jitter.
 pub fn tight_end(core: &[u64; 553], n: usize, costs: Costs, task: Piece) -> u64
     requires { ⌜ SizedCosts costs ⌝ }
     requires { ⌜ Sized task ⌝ }
@@ -40,13 +55,9 @@ pub fn tight_end(core: &[u64; 553], n: usize, costs: Costs, task: Piece) -> u64
     if n == 0 {
         return end;
     }
-    let head = lane_at(core, 0);
-    if task.jitter == 0 {
-        if head.charge <= stall_of(costs) {
-            return end;
-        }
-    }
-    lesser(end, least_live(core, n))
+    let from = less(least_live(core, n), 1);
+    let most = due_most(costs, task);
+    lowered(core, n, Probe::Due(most), from, end)
 }
 
 // A budget that no allowed split is above: what is left below the end, and of that what the core has room for in the widest of these windows.

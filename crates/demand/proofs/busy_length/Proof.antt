@@ -19,9 +19,9 @@ use Rattle.demand.proofs.busy_length.Statement.{statement}
 use Rattle.demand.proofs.busy_length.Tie as tie
 use Rattle.demand.proofs.busy_length.Reads as reads
 use Rattle.demand.proofs.busy_length.Lts as lts
-use Rattle.demand.proofs.lanes.lay_out.Reads as lay-out-reads
+use Rattle.demand.proofs.records.lay_run.Reads as lay-run-reads
 use Rattle.demand.proofs.leaps.climb_busy.Reads as climb-busy-reads
-use Rattle.demand.proofs.sizes.check_run.Reads as check-run-reads
+use Rattle.demand.proofs.records.check_run.Reads as check-run-reads
 
 check-run-requires : tie.Need-check-run-requires
 check-run-requires c κs = search needs
@@ -32,8 +32,8 @@ enum-known-why c = search needs
 enum-told : tie.Need-enum-told
 enum-told c = search needs
 
-lay-out-requires : tie.Need-lay-out-requires
-lay-out-requires c κs =
+lay-run-requires : tie.Need-lay-run-requires
+lay-run-requires c κs =
     let s = c .before .before .before .args in
     let ok = check-taken (s .costs) (s .run .count) (s .run .pieces) (sym (c .before .before .check-run .ensures) ∙ c .enum-told .given .1) in
     (ok .costs, (ok .few, taken-countable (s .costs) (s .run .count) (s .run .pieces) ok))
@@ -42,7 +42,7 @@ climb-busy-requires : tie.Need-climb-busy-requires
 climb-busy-requires c κs =
     let s = c .before .before .before .before .before .args in
     let ok = check-taken (s .costs) (s .run .count) (s .run .pieces) (sym (c .before .before .before .before .check-run .ensures) ∙ c .before .before .enum-told .given .1) in
-    (ok .few, laid-ranged (s .costs) (s .run .count) (s .run .pieces) ok (rows (c .before .lay-out .result) (s .run .count)) (c .before .lay-out .ensures))
+    (ok .few, laid-ranged (s .costs) (s .run .count) (s .run .pieces) ok (rows (c .before .lay-run .result) (s .run .count)) (c .before .lay-run .ensures))
 
 returns : tie.Need-returns
 unfolding busyFigure
@@ -54,7 +54,7 @@ returns-2 : tie.Need-returns-2
 unfolding busyFigure
 returns-2 c =
     let s = c .before .before .before .before .before .before .args in
-    ap (λ (f : Found). Of f) (c .climb-busy .ensures ∙ ap (λ (qs : List Charged). busyLength qs) (c .before .before .lay-out .ensures))
+    ap (λ (f : Found). Of f) (c .climb-busy .ensures ∙ ap (λ (qs : List Charged). busyLength qs) (c .before .before .lay-run .ensures))
     ∙ figure-fine (checkRun (s .costs) (s .run .count) (s .run .pieces)) (busyLength (coreOf (s .costs) (take (s .run .count) (s .run .pieces)))) (sym (c .before .before .before .before .before .check-run .ensures) ∙ c .before .before .before .enum-told .given .1)
 
 pub busy-length-spec : {M : Type 1} → statement M
@@ -64,7 +64,7 @@ busy-length-spec =
     check-run-requires
     enum-known-why
     enum-told
-    lay-out-requires
+    lay-run-requires
     climb-busy-requires
     returns
     returns-2)

@@ -24,8 +24,8 @@ use Rattle.demand.proofs.demand_of.Lts as lts
 use Rattle.demand.proofs.charges.stall_of.Reads as stall-of-reads
 use Rattle.demand.proofs.demands.demand_at.Reads as demand-at-reads
 use Rattle.demand.proofs.demands.largest_window.Reads as largest-window-reads
-use Rattle.demand.proofs.lanes.lay_out.Reads as lay-out-reads
-use Rattle.demand.proofs.sizes.check_run.Reads as check-run-reads
+use Rattle.demand.proofs.records.lay_run.Reads as lay-run-reads
+use Rattle.demand.proofs.records.check_run.Reads as check-run-reads
 
 check-run-requires : tie.Need-check-run-requires
 check-run-requires c κs = search needs
@@ -43,8 +43,8 @@ returns c =
     let found = cond (leb (s .t) lengthMost) (At (demand (stall (s .costs)) (coreOf (s .costs) (take (s .run .count) (s .run .pieces))) (s .t))) Nothing in
     ap (λ (f : Found). Of f) (simp (lt-leb (s .t) lengthMost (c .if1 .taken))) ∙ figure-fine (checkRun (s .costs) (s .run .count) (s .run .pieces)) found (sym (c .before .before .before .check-run .ensures) ∙ c .before .enum-told .given .1)
 
-lay-out-requires : tie.Need-lay-out-requires
-lay-out-requires c κs =
+lay-run-requires : tie.Need-lay-run-requires
+lay-run-requires c κs =
     let s = c .before .before .before .before .args in
     let ok = check-taken (s .costs) (s .run .count) (s .run .pieces) (sym (c .before .before .before .check-run .ensures) ∙ c .before .enum-told .given .1) in
     (ok .costs, (ok .few, taken-countable (s .costs) (s .run .count) (s .run .pieces) ok))
@@ -63,7 +63,7 @@ demand-at-requires : tie.Need-demand-at-requires
 demand-at-requires c κs =
     let s = c .before .before .before .before .before .before .before .before .before .args in
     let ok = check-taken (s .costs) (s .run .count) (s .run .pieces) (sym (c .before .before .before .before .before .before .before .before .check-run .ensures) ∙ c .before .before .before .before .before .before .enum-told .given .1) in
-    ((ok .few, laid-ranged (s .costs) (s .run .count) (s .run .pieces) ok (rows (c .before .before .before .before .lay-out .result) (s .run .count)) (c .before .before .before .before .lay-out .ensures)), (c .stall-of .ensures .1, c .before .before .largest-window .ensures, c .before .before .before .before .before .if1 .left))
+    ((ok .few, laid-ranged (s .costs) (s .run .count) (s .run .pieces) ok (rows (c .before .before .before .before .lay-run .result) (s .run .count)) (c .before .before .before .before .lay-run .ensures)), (c .stall-of .ensures .1, c .before .before .largest-window .ensures, c .before .before .before .before .before .if1 .left))
 
 returns-2 : tie.Need-returns-2
 unfolding demandFigure
@@ -77,7 +77,7 @@ returns-3 c =
     let s = c .before .before .before .before .before .before .before .before .before .before .args in
     let found = cond (leb (s .t) lengthMost) (At (demand (stall (s .costs)) (coreOf (s .costs) (take (s .run .count) (s .run .pieces))) (s .t))) Nothing in
     let g : c .demand-at .result ≡ demand (stall (s .costs)) (coreOf (s .costs) (take (s .run .count) (s .run .pieces))) (s .t) =
-    c .demand-at .ensures ∙ (ap (λ (b : ℕ). demand b (rows (c .before .before .before .before .before .lay-out .result) (s .run .count)) (s .t)) (c .before .stall-of .ensures .0) ∙ ap (λ (qs : List Charged). demand (stall (s .costs)) qs (s .t)) (c .before .before .before .before .before .lay-out .ensures)) in
+    c .demand-at .ensures ∙ (ap (λ (b : ℕ). demand b (rows (c .before .before .before .before .before .lay-run .result) (s .run .count)) (s .t)) (c .before .stall-of .ensures .0) ∙ ap (λ (qs : List Charged). demand (stall (s .costs)) qs (s .t)) (c .before .before .before .before .before .lay-run .ensures)) in
     ap (λ (f : Found). Of f) (simp (le-leb (s .t) lengthMost (c .before .before .before .before .before .before .if1 .left), g)) ∙ figure-fine (checkRun (s .costs) (s .run .count) (s .run .pieces)) found (sym (c .before .before .before .before .before .before .before .before .before .check-run .ensures) ∙ c .before .before .before .before .before .before .before .enum-told .given .1)
 
 pub demand-of-spec : {M : Type 1} → statement M
@@ -88,7 +88,7 @@ demand-of-spec =
     enum-known-why
     enum-told
     returns
-    lay-out-requires
+    lay-run-requires
     largest-window-requires
     stall-of-requires
     demand-at-requires

@@ -1,56 +1,27 @@
--- `split_task` meets its contract: the refusal that `check_task` gives, or the greatest split.
-use mathlib.Core.Path.{_≡_, sym, ap, _∙_}
-use mathlib.Core.List.{[], _∷_, _++_}
-use Prim.Native.Nat.{_+_}
-use lib.ListN.{length, take}
-use Rattle.demand.specs.declared.Split.{Split}
-use Rattle.demand.specs.declared.Splitting.the-variants.{Best}
-use Rattle.demand.specs.Answer.{checkRun, splitOf}
-use Rattle.demand.specs.Split.{greatestSplit}
-use Rattle.demand.proofs.RunLaws.{length-mapped, check-task, split-fine, split-bad}
+-- `split_task` meets its contract: beside the run's records, lent.
+use mathlib.Core.Path.{ap, _∙_}
+use mathlib.Core.List.{List}
+use Rattle.demand.specs.declared.Piece.{Piece}
+use Rattle.demand.specs.Answer.{splitOf}
 use borrow.Author.Needs.{needs}
 use Rattle.demand.proofs.split_task.Statement.{statement}
 use Rattle.demand.proofs.split_task.Tie as tie
 use Rattle.demand.proofs.split_task.Reads as reads
 use Rattle.demand.proofs.split_task.Lts as lts
-use Rattle.demand.proofs.sizes.check_task.Reads as check-task-reads
-use Rattle.demand.proofs.splits.greatest_split.Reads as greatest-split-reads
+use Rattle.demand.proofs.records.records_of.Reads as records-of-reads
+use Rattle.demand.proofs.split_records.Reads as split-records-reads
 
-check-task-requires : tie.Need-check-task-requires
-check-task-requires c κs = search needs
+-- src/lib.rt:336:19
+records-of-requires : tie.Need-records-of-requires
+records-of-requires c κs = search needs
 
-enum-known-why : tie.Need-enum-known-why
-enum-known-why c = search needs
+-- src/lib.rt:338:5
+split-records-requires : tie.Need-split-records-requires
+split-records-requires c κs = search needs
 
-enum-told : tie.Need-enum-told
-enum-told c = search needs
-
-greatest-split-requires : tie.Need-greatest-split-requires
-greatest-split-requires c κs =
-    let s = c .before .before .before .args in
-    let long : length (s .run .pieces) ≡ 79 = search (needs, length-mapped) in
-    let ok = check-task (s .costs) (s .run .count) (s .run .pieces) (s .task) long (sym (c .before .before .check-task .ensures) ∙ c .enum-told .given .1) in
-    (ok .costs, ((ok .few, ok .each), ok .own))
-
+-- src/lib.rt:333:1
 returns : tie.Need-returns
-unfolding splitOf
-returns c =
-    let s = c .before .before .before .before .args in
-    split-bad (checkRun (s .costs) (s .run .count + 1) (take (s .run .count) (s .run .pieces) ++ (s .task ∷ []))) (greatestSplit (s .costs) (s .grain) (take (s .run .count) (s .run .pieces)) (s .task)) (c .before .why .given .0 .0) (sym (c .before .before .before .check-task .ensures) ∙ c .before .why .given .1)
-
-returns-2 : tie.Need-returns-2
-unfolding splitOf
-returns-2 c =
-    let s = c .before .before .before .before .args in
-    ap (λ (r : Split). Best r) (c .greatest-split .ensures) ∙ split-fine (checkRun (s .costs) (s .run .count + 1) (take (s .run .count) (s .run .pieces) ++ (s .task ∷ []))) (greatestSplit (s .costs) (s .grain) (take (s .run .count) (s .run .pieces)) (s .task)) (sym (c .before .before .before .check-task .ensures) ∙ c .before .enum-told .given .1)
+returns c = c .split-records .ensures ∙ ap (λ (ps : List Piece). splitOf (c .before .before .before .args .costs) (c .before .before .before .args .run .count) ps (c .before .before .before .args .task) (c .before .before .before .args .grain)) (c .before .before .records-of .ensures)
 
 pub split-task-spec : {M : Type 1} → statement M
-split-task-spec =
-    tie.close
-    (tie.spec
-    check-task-requires
-    enum-known-why
-    enum-told
-    greatest-split-requires
-    returns
-    returns-2)
+split-task-spec = tie.close (tie.spec records-of-requires split-records-requires returns)

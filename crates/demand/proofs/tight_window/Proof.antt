@@ -17,9 +17,9 @@ use Rattle.demand.proofs.tight_window.Tie as tie
 use Rattle.demand.proofs.tight_window.Reads as reads
 use Rattle.demand.proofs.tight_window.Lts as lts
 use Rattle.demand.proofs.charges.stall_of.Reads as stall-of-reads
-use Rattle.demand.proofs.lanes.lay_out.Reads as lay-out-reads
+use Rattle.demand.proofs.records.lay_run.Reads as lay-run-reads
 use Rattle.demand.proofs.lengths.tight_of.Reads as tight-of-reads
-use Rattle.demand.proofs.sizes.check_run.Reads as check-run-reads
+use Rattle.demand.proofs.records.check_run.Reads as check-run-reads
 
 check-run-requires : tie.Need-check-run-requires
 check-run-requires c κs = search needs
@@ -37,8 +37,8 @@ returns c =
     let qs = coreOf (s .costs) (take (s .run .count) (s .run .pieces)) in
     ap (λ (f : Found). Of f) (rw (c .if1 .taken)) ∙ figure-fine (checkRun (s .costs) (s .run .count) (s .run .pieces)) (tightOfLast (stall (s .costs)) qs qs) (sym (c .before .before .before .check-run .ensures) ∙ c .before .enum-told .given .1)
 
-lay-out-requires : tie.Need-lay-out-requires
-lay-out-requires c κs =
+lay-run-requires : tie.Need-lay-run-requires
+lay-run-requires c κs =
     let s = c .before .before .before .before .args in
     let ok = check-taken (s .costs) (s .run .count) (s .run .pieces) (sym (c .before .before .before .check-run .ensures) ∙ c .before .enum-told .given .1) in
     (ok .costs, (ok .few, taken-countable (s .costs) (s .run .count) (s .run .pieces) ok))
@@ -52,7 +52,7 @@ tight-of-requires : tie.Need-tight-of-requires
 tight-of-requires c κs =
     let s = c .before .before .before .before .before .before .before .args in
     let ok = check-taken (s .costs) (s .run .count) (s .run .pieces) (sym (c .before .before .before .before .before .before .check-run .ensures) ∙ c .before .before .before .before .enum-told .given .1) in
-    ((omega (arith, c .before .before .before .if1 .left), ok .few, laid-ranged (s .costs) (s .run .count) (s .run .pieces) ok (rows (c .before .before .lay-out .result) (s .run .count)) (c .before .before .lay-out .ensures)), c .stall-of .ensures .1)
+    ((omega (arith, c .before .before .before .if1 .left), ok .few, laid-ranged (s .costs) (s .run .count) (s .run .pieces) ok (rows (c .before .before .lay-run .result) (s .run .count)) (c .before .before .lay-run .ensures)), c .stall-of .ensures .1)
 
 returns-2 : tie.Need-returns-2
 unfolding tightFigure
@@ -66,7 +66,7 @@ unfolding tightFigure
 returns-3 c =
     let s = c .before .before .before .before .before .before .before .before .args in
     let qs = coreOf (s .costs) (take (s .run .count) (s .run .pieces)) in
-    ap (λ (f : Found). Of f) (c .tight-of .ensures ∙ (ap (λ (b : ℕ). tightOfLast b (rows (c .before .before .before .lay-out .result) (s .run .count)) (rows (c .before .before .before .lay-out .result) (s .run .count))) (c .before .stall-of .ensures .0) ∙ ap (λ (ps : List Charged). tightOfLast (stall (s .costs)) ps ps) (c .before .before .before .lay-out .ensures)))
+    ap (λ (f : Found). Of f) (c .tight-of .ensures ∙ (ap (λ (b : ℕ). tightOfLast b (rows (c .before .before .before .lay-run .result) (s .run .count)) (rows (c .before .before .before .lay-run .result) (s .run .count))) (c .before .stall-of .ensures .0) ∙ ap (λ (ps : List Charged). tightOfLast (stall (s .costs)) ps ps) (c .before .before .before .lay-run .ensures)))
     ∙ figure-fine (checkRun (s .costs) (s .run .count) (s .run .pieces)) (tightOfLast (stall (s .costs)) qs qs) (sym (c .before .before .before .before .before .before .before .check-run .ensures) ∙ c .before .before .before .before .before .enum-told .given .1)
 
 pub tight-window-spec : {M : Type 1} → statement M
@@ -77,7 +77,7 @@ tight-window-spec =
     enum-known-why
     enum-told
     returns
-    lay-out-requires
+    lay-run-requires
     stall-of-requires
     tight-of-requires
     returns-2

@@ -1,7 +1,6 @@
 -- `caps::bound_within` meets its contract: the walk lowers the charge; or it fits beside the n pieces at each length of the span, and the descent over the
 -- lengths where only its own blocking is left decides.
 use mathlib.Core.Path.{_≡_, sym, ap, subst, _∙_}
-use mathlib.Core.List.{List, [], _∷_, _++_}
 use Prim.Native.Nat.{ℕ, _+_, _-_, _≤_, max}
 use native.Mathlib.Omega.{arith}
 use Rattle.demand.specs.declared.Charged.{Charged}
@@ -9,10 +8,10 @@ use Rattle.demand.specs.declared.Verdict.the-variants.{Passes}
 use Rattle.demand.specs.declared.caps.Bound.the-variants.{Stands, Falls, AtMost}
 use Rattle.demand.specs.Demand.{largestWindow}
 use Rattle.demand.specs.Caps.{Bounds}
-use Rattle.demand.specs.Lanes.{rows, lane}
-use Rattle.demand.specs.Sizes.{Ranged, Each}
+use Rattle.demand.specs.Lanes.{rows}
+use Rattle.demand.specs.Sizes.{timeMost, Ranged, Each}
 use Rattle.demand.specs.Verdict.{scan}
-use Rattle.demand.proofs.CapLaws.{largest-fits, bound-squeezed, bound-own, bound-never, bound-stands}
+use Rattle.demand.proofs.CapLaws.{largest-fits, bound-squeezed, bound-own, own-within, bound-never, bound-stands}
 use Rattle.demand.proofs.ChargeLaws.{all-recurs}
 use Rattle.demand.proofs.LaneLaws.{rows-lane, rows-front, lane-each}
 use borrow.Author.Needs.{needs}
@@ -21,9 +20,11 @@ use Rattle.demand.proofs.caps.bound_within.Tie as tie
 use Rattle.demand.proofs.caps.bound_within.Reads as reads
 use Rattle.demand.proofs.caps.bound_within.Lts as lts
 use Rattle.demand.proofs.caps.squeeze.Reads as squeeze-reads
+use Rattle.demand.proofs.caps.stretch_start.Reads as stretch-start-reads
 use Rattle.demand.proofs.demands.greater.Reads as greater-reads
 use Rattle.demand.proofs.demands.largest_window.Reads as largest-window-reads
 use Rattle.demand.proofs.demands.less.Reads as less-reads
+use Rattle.demand.proofs.demands.lesser.Reads as lesser-reads
 use Rattle.demand.proofs.lanes.lane_at.Reads as lane-at-reads
 use Rattle.demand.proofs.spans.descend.Reads as descend-reads
 
@@ -68,6 +69,25 @@ enum-told c = search needs
 enum-known-t : tie.Need-enum-known-t
 enum-known-t c = search needs
 
+stretch-start-requires : tie.Need-stretch-start-requires
+stretch-start-requires c κs =
+    let s = c .before .before .before .before .before .before .before .before .before .before .before .args in
+    let qs = rows (s .core .now) (s .n) in
+    let rs = rows (s .core .now) (s .n + 1) in
+    let q = c .before .before .before .before .before .before .before .before .before .before .lane-at .result in
+    let ranged : Ranged q = rw (c .before .before .before .before .before .before .before .before .before .before .lane-at .ensures) (lane-each Ranged (s .core .now) (s .n + 1) (c .before .before .before .before .before .before .before .before .before .before .before .pre .0 .1) (s .n) (omega arith)) in
+    let within : c .before .before .before .before .before .greater .result + c .before .before .before .before .less .result ≤ timeMost = omega (arith, c .before .before .before .before .before .greater .ensures, c .before .before .before .before .less .ensures, c .before .before .before .before .before .before .largest-window .ensures, largest-fits qs (rows-front Ranged (s .core .now) (s .n) (c .before .before .before .before .before .before .before .before .before .before .before .pre .0 .1)), c .before .before .before .before .before .before .before .before .before .before .before .pre .1 .0 .1, ranged .window-fits) in
+    let over = sym (c .before .before .before .descend .ensures) ∙ c .before .t .given .1 in
+    let laid = rows-lane (s .core .now) (s .n) q (c .before .before .before .before .before .before .before .before .before .before .lane-at .ensures) in
+    let recurs = all-recurs rs (c .before .before .before .before .before .before .before .before .before .before .before .pre .0 .1) in
+    ((omega (arith, c .before .before .before .before .before .before .before .before .before .before .before .pre .0 .0), rows-front Ranged (s .core .now) (s .n) (c .before .before .before .before .before .before .before .before .before .before .before .pre .0 .1)), (ranged, omega (arith, own-within (s .b) qs rs q laid recurs (c .before .before .before .before .before .greater .result) (c .before .before .before .before .less .result) (c .before .t .given .0 .0) within over)))
+
+lesser-requires : tie.Need-lesser-requires
+lesser-requires c κs = search needs
+
+greater-requires-2 : tie.Need-greater-requires-2
+greater-requires-2 c κs = search needs
+
 enum-told-2 : tie.Need-enum-told-2
 enum-told-2 c = search needs
 
@@ -86,21 +106,25 @@ returns-2 c =
 
 returns-3 : tie.Need-returns-3
 returns-3 c =
-    let s = c .before .before .before .before .before .before .before .before .before .before .before .args in
+    let s = c .before .before .before .before .before .before .before .before .before .before .before .before .before .before .args in
     let qs = rows (s .core .now) (s .n) in
     let rs = rows (s .core .now) (s .n + 1) in
-    let q = c .before .before .before .before .before .before .before .before .before .before .lane-at .result in
-    subst (λ (r : Charged). Bounds (s .b) qs r Falls) (c .before .before .before .before .before .before .before .before .before .before .lane-at .ensures)
-    (bound-own (s .b) qs rs q (rows-lane (s .core .now) (s .n) q (c .before .before .before .before .before .before .before .before .before .before .lane-at .ensures)) (all-recurs rs (c .before .before .before .before .before .before .before .before .before .before .before .pre .0 .1)) (c .before .before .before .before .before .greater .result) (c .before .before .before .before .less .result) (c .before .t .given .0 .0) (omega (arith, c .before .before .before .before .before .before .before .before .before .before .before .pre .1 .1 .0)) (sym (c .before .before .before .descend .ensures) ∙ c .before .t .given .1))
+    let q = c .before .before .before .before .before .before .before .before .before .before .before .before .before .lane-at .result in
+    let ranged : Ranged q = rw (c .before .before .before .before .before .before .before .before .before .before .before .before .before .lane-at .ensures) (lane-each Ranged (s .core .now) (s .n + 1) (c .before .before .before .before .before .before .before .before .before .before .before .before .before .before .pre .0 .1) (s .n) (omega arith)) in
+    let within : c .before .before .before .before .before .before .before .before .greater .result + c .before .before .before .before .before .before .before .less .result ≤ timeMost = omega (arith, c .before .before .before .before .before .before .before .before .greater .ensures, c .before .before .before .before .before .before .before .less .ensures, c .before .before .before .before .before .before .before .before .before .largest-window .ensures, largest-fits qs (rows-front Ranged (s .core .now) (s .n) (c .before .before .before .before .before .before .before .before .before .before .before .before .before .before .pre .0 .1)), c .before .before .before .before .before .before .before .before .before .before .before .before .before .before .pre .1 .0 .1, ranged .window-fits) in
+    let over = sym (c .before .before .before .before .before .before .descend .ensures) ∙ c .before .before .before .before .t .given .1 in
+    let laid = rows-lane (s .core .now) (s .n) q (c .before .before .before .before .before .before .before .before .before .before .before .before .before .lane-at .ensures) in
+    let recurs = all-recurs rs (c .before .before .before .before .before .before .before .before .before .before .before .before .before .before .pre .0 .1) in
+    subst (λ (r : Charged). Bounds (s .b) qs r (Falls (c .greater2 .result))) (c .before .before .before .before .before .before .before .before .before .before .before .before .before .lane-at .ensures)
+    (bound-own (s .b) qs rs q laid recurs (c .before .before .before .before .before .before .before .before .greater .result) (c .before .before .before .before .before .before .before .less .result) (c .before .before .before .before .t .given .0 .0) (c .greater2 .result) (omega (arith, c .before .before .before .before .before .before .before .before .before .before .before .before .before .before .pre .1 .1 .0, c .before .before .before .before .before .before .before .before .greater .ensures)) within over (omega (arith, c .greater2 .ensures)) (omega (arith, c .greater2 .ensures, c .before .lesser .ensures)))
 
 returns-4 : tie.Need-returns-4
 returns-4 c =
     let s = c .before .before .before .before .before .before .before .before .before .before .args in
     let qs = rows (s .core .now) (s .n) in
-    let rs = rows (s .core .now) (s .n + 1) in
     let q = c .before .before .before .before .before .before .before .before .before .lane-at .result in
-    subst (λ (r : Charged). Bounds (s .b) qs r Falls) (c .before .before .before .before .before .before .before .before .before .lane-at .ensures)
-    (bound-never (s .b) qs rs q (rows-lane (s .core .now) (s .n) q (c .before .before .before .before .before .before .before .before .before .lane-at .ensures)) (c .before .before .before .before .greater .result) (c .before .before .before .less .result) (sym (c .before .before .descend .ensures) ∙ c .enum-told2 .given .1))
+    subst (λ (r : Charged). Bounds (s .b) qs r (Falls (c .before .before .before .before .greater .result))) (c .before .before .before .before .before .before .before .before .before .lane-at .ensures)
+    (bound-never (s .b) qs (rows (s .core .now) (s .n + 1)) q (rows-lane (s .core .now) (s .n) q (c .before .before .before .before .before .before .before .before .before .lane-at .ensures)) (c .before .before .before .before .greater .result) (c .before .before .before .less .result) (c .before .before .before .before .greater .result) (sym (c .before .before .descend .ensures) ∙ c .enum-told2 .given .1))
 
 pub bound-within-spec : {M : Type 1} → statement M
 bound-within-spec =
@@ -116,6 +140,9 @@ bound-within-spec =
     descend-requires
     enum-told
     enum-known-t
+    stretch-start-requires
+    lesser-requires
+    greater-requires-2
     enum-told-2
     returns-2
     returns-3

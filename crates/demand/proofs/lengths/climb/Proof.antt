@@ -5,7 +5,8 @@ use native.Mathlib.Omega.{arith}
 use Rattle.demand.specs.declared.Found.the-variants.{At, Nothing}
 use Rattle.demand.specs.Demand.{total}
 use Rattle.demand.specs.Lanes.{rows, term}
-use Rattle.demand.proofs.BusyLaws.{Clear, clear-one, clear-step, least-holding-is, asked, asked-mono}
+use Rattle.demand.specs.Marks.{Clear}
+use Rattle.demand.proofs.BusyLaws.{clear-one, clear-step, least-holding-is, asked, asked-mono}
 use Rattle.demand.proofs.ChargeLaws.{all-recurs}
 use Rattle.demand.proofs.lengths.climb.Statement.{statement}
 use Rattle.demand.proofs.lengths.climb.Tie as tie

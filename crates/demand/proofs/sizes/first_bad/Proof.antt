@@ -1,71 +1,79 @@
 -- `sizes::first_bad` meets its contract: what is left to look at has the same first bad place.
-use Rattle.demand.proofs.RunLaws.{length-mapped, bad-good, bad-here, bad-end}
-use mathlib.Core.Path.{_∙_}
-use mathlib.Core.Bool.{Bool}
-use borrow.Author.Tests.{not-true, not-false}
-use lib.ListN.{getD}
-use lib.Seq.{length-take-le, getD-take, drop-length}
-use Rattle.demand.proofs.RunLaws.{nobody}
 use borrow.Author.Needs.{needs}
-use Prim.Native.Nat.{_≤_, _-_, _<_, _+_}
-use mathlib.Core.Path.{_≡_, refl, sym}
+use borrow.Author.Tests.{not-true, not-false}
+use mathlib.Core.Path.{_≡_, refl, sym, _∙_}
+use Prim.Native.Nat.{ℕ, _+_, _-_, _≤_}
 use native.Mathlib.Omega.{arith}
 use lib.ListN.{take, drop, length}
 use Rattle.demand.specs.Answer.{firstBad}
-use Rattle.demand.proofs.SizeLaws.{first-bad-good, first-bad-here, sized-is}
+use Rattle.demand.specs.Records.{recordsOf}
+use Rattle.demand.proofs.RecordLaws.{records-length, records-read}
+use Rattle.demand.proofs.RunLaws.{nobody, bad-good, bad-here, bad-end}
+use Rattle.demand.proofs.SizeLaws.{sized-is}
 use Rattle.demand.proofs.sizes.first_bad.Statement.{statement}
 use Rattle.demand.proofs.sizes.first_bad.Tie as tie
 use Rattle.demand.proofs.sizes.first_bad.Reads as reads
 use Rattle.demand.proofs.sizes.first_bad.Lts as lts
+use Rattle.demand.proofs.records.record_at.Reads as record-at-reads
 use Rattle.demand.proofs.sizes.sized_piece.Reads as sized-piece-reads
 
 abbrev Inv-loop : tie.InvT-loop
-Inv-loop run i₀ place₀ i place = (i ≤ run .count) × (place ≡ i + 1) × (firstBad 1 (take (run .count) (run .pieces)) ≡ firstBad (i + 1) (drop i (take (run .count) (run .pieces))))
+Inv-loop records n i₀ place₀ i place = (i ≤ n) × (place ≡ i + 1) × (firstBad 1 (take n (recordsOf records)) ≡ firstBad (i + 1) (drop i (take n (recordsOf records))))
 
 abbrev μ-loop : tie.MeasureT-loop
-μ-loop run i₀ place₀ i place = run .count - i
+μ-loop records n i₀ place₀ i place = n - i
 
+-- src/sizes.rt:82:5
 loop-holds : tie.Need-loop-holds Inv-loop μ-loop
 loop-holds c = search needs
 
-mul-piece : tie.Need-mul-piece Inv-loop μ-loop
-mul-piece c = search needs
+-- src/sizes.rt:83:25
+record-at-requires : tie.Need-record-at-requires Inv-loop μ-loop
+record-at-requires c κs = search needs
 
-element-copy-out-piece : tie.Need-element-copy-out-piece Inv-loop μ-loop
-element-copy-out-piece c = search needs
-
+-- src/sizes.rt:83:13
 sized-piece-requires : tie.Need-sized-piece-requires Inv-loop μ-loop
 sized-piece-requires c κs = search needs
 
+-- src/sizes.rt:84:13
 returns : tie.Need-returns Inv-loop μ-loop
 returns c =
     let s = c .before .before .before .before .before .args in
-    let long : length (s .t1 .pieces) ≡ 79 = search (needs, length-mapped) in
-    let bad = sym (sized-is (getD (s .t1 .pieces) (c .before .before .before .before .loop .i) nobody) (c .before .sized-piece .result) (c .before .sized-piece .ensures)) ∙ not-true (c .before .sized-piece .result) (c .if1 .taken) in
-    cc (c .before .before .before .before .loop .inv .1, c .before .before .before .before .loop .inv .2, bad-here (s .t1 .count) (s .t1 .pieces) (omega arith) (c .before .before .before .before .loop .i) nobody (c .before .before .before .loop-test .taken) bad)
+    let l = c .before .before .before .before .loop in
+    let a = s .records .now in
+    let read = records-read a (l .i) (c .before .before .record-at .result) nobody (omega arith) (c .before .before .record-at .ensures) in
+    let bad = sym (sized-is (c .before .before .record-at .result) (c .before .sized-piece .result) (c .before .sized-piece .ensures)) ∙ not-true (c .before .sized-piece .result) (c .if1 .taken) in
+    cc (l .inv .1, l .inv .2, bad-here (s .n) (recordsOf a) (omega (arith, records-length a)) (l .i) nobody (c .before .before .before .loop-test .taken) (rw read bad))
 
+-- src/sizes.rt:86:9
 add-i : tie.Need-add-i Inv-loop μ-loop
 add-i c = search needs
 
+-- src/sizes.rt:87:9
 add-place : tie.Need-add-place Inv-loop μ-loop
 add-place c = search needs
 
+-- src/sizes.rt:82:5
 loop-less : tie.Need-loop-less Inv-loop μ-loop
 loop-less c = search needs
 
+-- src/sizes.rt:82:5
 loop-again : tie.Need-loop-again Inv-loop μ-loop
 loop-again c =
     let s = c .before .before .before .before .before .args in
-    let long : length (s .t1 .pieces) ≡ 79 = search (needs, length-mapped) in
-    let good = sym (sized-is (getD (s .t1 .pieces) (c .before .before .before .before .loop .i) nobody) (c .before .sized-piece .result) (c .before .sized-piece .ensures)) ∙ not-false (c .before .sized-piece .result) (c .if1 .left) in
-    (search needs, search needs, c .before .before .before .before .loop .inv .2 ∙ bad-good (s .t1 .count) (s .t1 .pieces) (omega arith) (c .before .before .before .before .loop .i) nobody (c .before .before .before .loop-test .taken) good)
+    let l = c .before .before .before .before .loop in
+    let a = s .records .now in
+    let read = records-read a (l .i) (c .before .before .record-at .result) nobody (omega arith) (c .before .before .record-at .ensures) in
+    let good = sym (sized-is (c .before .before .record-at .result) (c .before .sized-piece .result) (c .before .sized-piece .ensures)) ∙ not-false (c .before .sized-piece .result) (c .if1 .left) in
+    (search needs, search needs, l .inv .2 ∙ bad-good (s .n) (recordsOf a) (omega (arith, records-length a)) (l .i) nobody (c .before .before .before .loop-test .taken) (rw read good))
 
+-- src/sizes.rt:76:1
 returns-2 : tie.Need-returns-2 Inv-loop μ-loop
 returns-2 c =
     let s = c .before .before .args in
-    let long : length (s .t1 .pieces) ≡ 79 = search (needs, length-mapped) in
-    let e : c .before .loop .i ≡ s .t1 .count = omega arith in
-    sym (c .before .loop .inv .2 ∙ rw e (bad-end (s .t1 .count) (s .t1 .pieces) (omega arith) (s .t1 .count + 1)))
+    let a = s .records .now in
+    let e : c .before .loop .i ≡ s .n = omega arith in
+    sym (c .before .loop .inv .2 ∙ rw e (bad-end (s .n) (recordsOf a) (omega (arith, records-length a)) (s .n + 1)))
 
 pub first-bad-spec : {M : Type 1} → statement M
 first-bad-spec =
@@ -74,8 +82,7 @@ first-bad-spec =
     Inv-loop
     μ-loop
     loop-holds
-    mul-piece
-    element-copy-out-piece
+    record-at-requires
     sized-piece-requires
     returns
     add-i
