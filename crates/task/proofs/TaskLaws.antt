@@ -3,7 +3,9 @@
 --
 --   place-other, place-here, place-end
 --   fault-none, fault-here, fault-end
---   fault-form, -size, -twin, -free      the fault of one task
+--   run-other, run-here, run-end          the place of a name among the first m
+--   run-twin, run-fault, run-good, run-fault-end     the first fault among them: at a task with a twin above it, at one without, none there, none at all
+--   fault-form, fault-free      a task with a bad name; a good one
 --   rule-fine, or-else-fine     a rule that gives no number is kept
 --   Good, Sane, state-sane      what is known of tasks, and of a machine with costs and tasks, that break no rule
 use mathlib.Core.Path.{_≡_, refl, sym, ap, _∙_}
@@ -61,33 +63,53 @@ module _ (ts : List Task) (i : ℕ) (d : Task) (room : i < length ts) where
 pub fault-end : (above ts : List Task) (i : ℕ) → length ts ≤ i → firstFault above (drop i ts) ≡ 0
 fault-end above ts i short = rw (drop-of-length-le ts {i = i} short)
 
+-- the fault of one task, by whether one above it has its name
+abbrev told : Task → ℕ → ℕ
+told t twins = rule (formed (t .name)) 8 (rule (sized (wholePiece (t .times))) 3 twins)
+
+told-twin : (above : List Task) (t : Task) → (placeOf 1 (t .name) above ≡ 0 → ⊥) → faultOf above t ≡ told t 4
+unfolding faultOf
+told-twin above t twin = rw (ne-eqb (placeOf 1 (t .name) above) 0 twin)
+
+told-alone : (above : List Task) (t : Task) → placeOf 1 (t .name) above ≡ 0 → faultOf above t ≡ told t 0
+unfolding faultOf
+told-alone above t alone = rw (eq-eqb (placeOf 1 (t .name) above) 0 alone)
+
+twin-some : (a b : Bool) → rule a 8 (rule b 3 4) ≡ 0 → ⊥
+twin-some true true e = absurd (omega arith)
+twin-some true false e = absurd (omega arith)
+twin-some false b e = absurd (omega arith)
+
 -- the same among the first m of a list
 module _ (m : ℕ) (ts : List Task) (i : ℕ) (low : i < m) (room : i < length ts) where
-  pub run-fault-none : faultOf (take i ts) (taskAt ts i) ≡ 0 → firstFault (take i (take m ts)) (drop i (take m ts)) ≡ firstFault (take (i + 1) (take m ts)) (drop (i + 1) (take m ts))
-  run-fault-none e = fault-none (take m ts) i past (omega (arith, length-take m ts)) (rw (take-take i m ts (le-of-lt low), getD-take m ts i past low) e)
+  run-here-is : faultOf (take i (take m ts)) (taskAt (take m ts) i) ≡ faultOf (take i ts) (taskAt ts i)
+  run-here-is = rw (take-take i m ts (le-of-lt low), getD-take m ts i past low)
 
-  pub run-fault-here : (faultOf (take i ts) (taskAt ts i) ≡ 0 → ⊥) → firstFault (take i (take m ts)) (drop i (take m ts)) ≡ faultOf (take i ts) (taskAt ts i)
-  run-fault-here h =
-      let e : faultOf (take i (take m ts)) (taskAt (take m ts) i) ≡ faultOf (take i ts) (taskAt ts i) = rw (take-take i m ts (le-of-lt low), getD-take m ts i past low) in
-      fault-here (take m ts) i past (omega (arith, length-take m ts)) (λ none. h (sym e ∙ none)) ∙ e
+  run-first : (faultOf (take i ts) (taskAt ts i) ≡ 0 → ⊥) → firstFault (take i (take m ts)) (drop i (take m ts)) ≡ faultOf (take i ts) (taskAt ts i)
+  run-first h = fault-here (take m ts) i past (omega (arith, length-take m ts)) (λ none. h (sym run-here-is ∙ none)) ∙ run-here-is
+
+  pub run-twin : (placeOf 1 (taskAt ts i .name) (take i ts) ≡ 0 → ⊥) → firstFault (take i (take m ts)) (drop i (take m ts)) ≡ told (taskAt ts i) 4
+  run-twin twin =
+      let is = told-twin (take i ts) (taskAt ts i) twin in
+      run-first (λ none. twin-some (formed (taskAt ts i .name)) (sized (wholePiece (taskAt ts i .times))) (sym is ∙ none)) ∙ is
+
+  pub run-fault : placeOf 1 (taskAt ts i .name) (take i ts) ≡ 0 → (told (taskAt ts i) 0 ≡ 0 → ⊥) → firstFault (take i (take m ts)) (drop i (take m ts)) ≡ told (taskAt ts i) 0
+  run-fault alone some =
+      let is = told-alone (take i ts) (taskAt ts i) alone in
+      run-first (λ none. some (sym is ∙ none)) ∙ is
+
+  pub run-good : placeOf 1 (taskAt ts i .name) (take i ts) ≡ 0 → told (taskAt ts i) 0 ≡ 0 → firstFault (take i (take m ts)) (drop i (take m ts)) ≡ firstFault (take (i + 1) (take m ts)) (drop (i + 1) (take m ts))
+  run-good alone none = fault-none (take m ts) i past (omega (arith, length-take m ts)) (run-here-is ∙ (told-alone (take i ts) (taskAt ts i) alone ∙ none))
 
 pub run-fault-end : (m : ℕ) (ts : List Task) (i : ℕ) → length (take m ts) ≤ i → firstFault (take i (take m ts)) (drop i (take m ts)) ≡ 0
 run-fault-end m ts i short = fault-end (take i (take m ts)) (take m ts) i short
 
--- ---- the fault of one task, rule by rule
+-- ---- the fault of one task
 
 module _ (above : List Task) (t : Task) where
   pub fault-form : formed (t .name) ≡ false → faultOf above t ≡ 8
   unfolding faultOf
   fault-form bad = rw bad
-
-  pub fault-size : formed (t .name) ≡ true → sized (wholePiece (t .times)) ≡ false → faultOf above t ≡ 3
-  unfolding faultOf
-  fault-size good bad = rw (good, bad)
-
-  pub fault-twin : formed (t .name) ≡ true → sized (wholePiece (t .times)) ≡ true → (placeOf 1 (t .name) above ≡ 0 → ⊥) → faultOf above t ≡ 4
-  unfolding faultOf
-  fault-twin good fits twin = rw (good, fits, ne-eqb (placeOf 1 (t .name) above) 0 twin)
 
   pub fault-free : formed (t .name) ≡ true → sized (wholePiece (t .times)) ≡ true → placeOf 1 (t .name) above ≡ 0 → faultOf above t ≡ 0
   unfolding faultOf

@@ -86,8 +86,18 @@ pub fn whole_piece(times: Times) -> Piece
 pub fn place_of(name: Name, tasks: Tasks) -> usize
     ensures exact { λ r. ⌜ r ≡ placeOf 1 name (take (tasks .count) (tasks .list)) ⌝ }
 {
-    let n = tasks.count;
-    names::find(name, tasks, n)
+    let mut i: usize = 0;
+    while i < tasks.count {
+        if 64 <= i {
+            return 0;
+        }
+        let task = tasks.list[i];
+        i += 1;
+        if same_name(name, task.name) {
+            return i;
+        }
+    }
+    0
 }
 
 /// What is wrong with a machine, costs and a list of tasks: 1, 2, 6, then at the first bad task 8, 3 or 4; or 0.

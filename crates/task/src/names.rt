@@ -1,15 +1,16 @@
 // Loops over names and lists of tasks.
-use crate::Name;
+use crate::Task;
 use crate::Tasks;
 use crate::same_name;
 use crate::well_formed;
 use crate::whole_piece;
 ghost use mathlib.Core.Path.{_≡_};
 ghost use mathlib.Core.List.{[]};
-ghost use Prim.Native.Nat.{_<_, _≤_};
+ghost use Prim.Native.Nat.{_≤_};
 ghost use lib.ListN.{take};
-ghost use Rattle.task.specs.Names.{between, nameByte, fitsAt, spelt, sameBytes};
-ghost use Rattle.task.specs.Tasks.{placeOf, faultOf, firstFault, taskAt};
+ghost use Rattle.demand.specs.Sizes.{sized};
+ghost use Rattle.task.specs.Names.{between, nameByte, fitsAt, spelt, formed, sameBytes};
+ghost use Rattle.task.specs.Tasks.{wholePiece, rule, firstFault};
 
 // Whether a byte lies between two others.
 pub fn inside(b: u8, low: u8, high: u8) -> bool
@@ -82,31 +83,10 @@ pub fn same_bytes(a: [u8; 24], b: [u8; 24]) -> bool
     true
 }
 
-// The place, from 1, of the first task of that name among the first n, or 0.
-pub fn find(name: Name, tasks: Tasks, n: usize) -> usize
-    ensures { λ r. ⌜ r ≡ placeOf 1 name (take n (tasks .list)) ⌝ }
+// What is wrong with a task: 8, then 3, then what its twins say.
+pub fn task_fault(task: Task, twins: u64) -> u64
+    ensures { λ r. ⌜ r ≡ rule (formed (task .name)) 8 (rule (sized (wholePiece (task .times))) 3 twins) ⌝ }
 {
-    let mut i: usize = 0;
-    while i < n {
-        if 64 <= i {
-            return 0;
-        }
-        let task = tasks.list[i];
-        let other = task.name;
-        i += 1;
-        if same_name(name, other) {
-            return i;
-        }
-    }
-    0
-}
-
-// What is wrong with the task at place i, below those before it: 8, then 3, then 4, or 0.
-pub fn fault_at(tasks: Tasks, i: usize) -> u64
-    requires { ⌜ i < 64 ⌝ }
-    ensures { λ r. ⌜ r ≡ faultOf (take i (tasks .list)) (taskAt (tasks .list) i) ⌝ }
-{
-    let task = tasks.list[i];
     let name = task.name;
     let times = task.times;
     if !well_formed(name) {
@@ -115,24 +95,32 @@ pub fn fault_at(tasks: Tasks, i: usize) -> u64
     if !demand::within_sizes(whole_piece(times)) {
         return 3;
     }
-    if find(name, tasks, i) != 0 {
-        return 4;
-    }
-    0
+    twins
 }
 
-// The first such fault down the list.
+// The first fault down the list. A task's name is held to those before it, place by place: 4, where one is the same.
 pub fn first_fault(tasks: Tasks) -> u64
     requires { ⌜ tasks .count ≤ 64 ⌝ }
     ensures { λ r. ⌜ r ≡ firstFault [] (take (tasks .count) (tasks .list)) ⌝ }
 {
     let mut i: usize = 0;
+    let mut j: usize = 0;
     while i < tasks.count {
-        let fault = fault_at(tasks, i);
-        if fault != 0 {
-            return fault;
+        let task = tasks.list[i];
+        if j < i {
+            let above = tasks.list[j];
+            if same_name(task.name, above.name) {
+                return task_fault(task, 4);
+            }
+            j += 1;
+        } else {
+            let fault = task_fault(task, 0);
+            if fault != 0 {
+                return fault;
+            }
+            i += 1;
+            j = 0;
         }
-        i += 1;
     }
     0
 }
