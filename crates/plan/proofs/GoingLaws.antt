@@ -2,125 +2,128 @@
 -- Assumes nothing.
 --
 --   piece-stored              what is stored is the piece
---   told-seat, seated-seat    one piece more on the row
---   seated-next               the next core
---   row-fits, seat-fits, seat-fits-both      there is room
+--   told-length, told-seat    a row, and with one piece more
+--   seated-seat, seated-next  its numbers are of pieces placed
+--   both-put                  two pieces placed
+--   ask-fits, seat-fits, both-fit            there is room
 --   seat-reach, both-reach, stick-reach      what the three ways to end reach
 --   Under                     the task still to be placed: the core has moved on, what was placed has not
 --   one-done, stuck-done, both-done, next-under      document 01's four rules, in its order 1, 2, 3, 4
-use mathlib.Core.Path.{_≡_, refl, sym, ap, _∙_, subst}
+use mathlib.Core.Path.{_≡_, refl, sym, ap, _∙_}
 use mathlib.Core.Bool.{Bool, true, false}
-use mathlib.Core.List.{List, [], _∷_, _++_, map}
+use mathlib.Core.List.{List, [], _∷_, _++_, map, append-assoc}
 use mathlib.Core.Logic.{⊎-elim}
 use Prim.Native.Nat.{ℕ, zero, suc, _+_, _-_, _<_, _≤_}
 use native.Mathlib.Numerals.{add-one}
 use native.Mathlib.Omega.{arith}
-use lib.ListN.{length, take, set, getD, length-append, length-set, length-map}
-use lib.Seq.{getD-set-same, getD-set-other, length-take-le}
+use lib.ListN.{length, take, set, length-append, length-map, length-set}
+use lib.Seq.{length-take-le}
 use types.Run.{OneOf}
 use denote.Enum.Declared.{tagOf}
-use Rattle.demand.specs.declared.Kind.{Kind}
-use Rattle.demand.specs.declared.Kind.the-variants.{Whole, First, Last}
 use Rattle.demand.specs.declared.Piece.{Piece}
 use Rattle.demand.specs.declared.Costs.{Costs}
 use Rattle.demand.specs.declared.Verdict.{Verdict}
 use Rattle.demand.specs.declared.Verdict.the-variants.{Passes, Overloaded, Undecided}
 use Rattle.demand.specs.declared.Split.{Split}
 use Rattle.demand.specs.declared.Split.the-variants.{Cut, Nowhere}
-use Rattle.demand.specs.Sizes.{Sized, Each}
+use Rattle.demand.specs.Sizes.{Each}
 use Rattle.demand.specs.Split.{firstPiece, lastPiece, passes, greatestSplit}
 use Rattle.demand.specs.Verdict.{verdictOf}
+use Rattle.demand.proofs.RecordLaws.{kind-back}
+use Rattle.demand.proofs.Sums.{each-snoc, each-imp}
 use Rattle.demand.proofs.Verdict as verdict-type
-use Rattle.plan.specs.declared.Stored.{Stored}
-use Rattle.plan.specs.declared.Layout.{Layout}
 use Rattle.plan.specs.declared.Going.{Going}
-use Rattle.demand.specs.Kinds.{kindNumber, kindOf}
-use Rattle.plan.specs.Layout.{stored, pieceOf, blank, pieceAt, putOf, layoutOn}
-use Rattle.plan.specs.Walk.{Rules, Stand, Placed, Outcome, fine, stuck, inOne, inTwo, place, Halves, halves, unsplit, splitAs, rulesFor}
-use Rattle.plan.specs.Going.{told, seatOf, nextOf, stickOf, Seated, RowFits, SeatFits, LandFits, Reached, Reach}
+use Rattle.plan.specs.Layout.{stored, pieceOf}
+use Rattle.plan.specs.Lent.{seatOf, placedAt, placedIn, Put}
+use Rattle.plan.specs.Walk.{Rules, Placed, Outcome, stuck, inOne, inTwo, place, Halves, halves, unsplit, splitAs, rulesFor}
+use Rattle.plan.specs.Going.{told, asked, seatedOf, nextOf, stickOf, Seated, AskFits, SeatFits, BothFit, Both, LandFits, Reach}
 use Rattle.plan.proofs.Lists.{take-put, map-snoc}
-
--- ---- the row
-
-kind-stored : (k : Kind) → kindOf (kindNumber k) ≡ k
-kind-stored Whole = refl
-kind-stored First = refl
-kind-stored Last = refl
+use Rattle.plan.proofs.LentLaws.{put-in}
+use Rattle.plan.proofs.RowLaws.{asked-kept}
 
 pub piece-stored : (k : ℕ) (q : Piece) → pieceOf (stored k q) ≡ q
 piece-stored k q =
-    let e : pieceOf (stored k q) ≡ record { kind = q .kind; budget = q .budget; window = q .window; period = q .period; jitter = q .jitter; preempt = q .preempt; migrate = q .migrate } = cc (kind-stored (q .kind)) in
+    let e : pieceOf (stored k q) ≡ record { kind = q .kind; budget = q .budget; window = q .window; period = q .period; jitter = q .jitter; preempt = q .preempt; migrate = q .migrate } = cc (kind-back (q .kind)) in
     e
 
--- a piece put behind those placed changes none of them
-pieces-kept : (ps : List Stored) (n : ℕ) (s : Stored) (l : List ℕ) → Each (λ i. i < n) l → map (pieceAt (set ps n s)) l ≡ map (pieceAt ps) l
-pieces-kept ps n s [] ok = refl
-pieces-kept ps n s (i ∷ l) ok = cc (ap pieceOf (getD-set-other ps n i s blank (λ same. omega (arith, ok .0))), pieces-kept ps n s l (ok .1))
+-- ---- the row
 
-each-less : (n : ℕ) (l : List ℕ) → Each (λ i. i < n) l → Each (λ i. i < n + 1) l
-each-less n [] ok = tt
-each-less n (i ∷ l) ok = (omega (arith, ok .0), each-less n l (ok .1))
+pub told-length : (placed : List ℕ) (g : Going) → Seated g → g .row .len ≤ 64 → length (told placed (g .row)) ≡ g .row .len
+told-length placed g ok h = length-map (take (g .row .len) (g .row .numbers)) (λ (i : ℕ). placedAt placed i .piece) ∙ length-take-le (g .row .len) (g .row .numbers) (omega (arith, ok .size))
 
-each-behind : {A : Type 0} (P : A → Type 0) (l : List A) (a : A) → Each P l → P a → Each P (l ++ (a ∷ []))
-each-behind P [] a ok h = (h, tt)
-each-behind P (b ∷ l) a ok h = (ok .0, each-behind P l a (ok .1) h)
+-- a piece behind those placed changes none of them
+pieces-kept : (a : List ℕ) (n : ℕ) (e : Placed ℕ) (b : List ℕ) → Put a n e b → (l : List ℕ) → Each (λ i. i < n) l → map (λ (i : ℕ). placedAt b i .piece) l ≡ map (λ (i : ℕ). placedAt a i .piece) l
+pieces-kept a n e b put [] ok = refl
+pieces-kept a n e b put (i ∷ l) ok = cc (ap (λ (z : Placed ℕ). z .piece) (put .kept i (ok .0)), pieces-kept a n e b put l (ok .1))
 
-module _ (g : Going) (k : ℕ) (q : Piece) (ok : Seated g) (free : g .row .len < 64) (room : g .layout .count < 79) where
-  pub told-seat : told (seatOf g k q) ≡ told g ++ (q ∷ [])
-  unfolding seatOf putOf
-  told-seat =
-      ap (map (pieceAt (set (g .layout .pieces) (g .layout .count) (stored k q)))) (take-put (g .row .numbers) (g .row .len) (g .layout .count) (omega (arith, ok .row-size)))
-      ∙ (map-snoc (pieceAt (set (g .layout .pieces) (g .layout .count) (stored k q))) (take (g .row .len) (g .row .numbers)) (g .layout .count)
-      ∙ cc (
-        pieces-kept (g .layout .pieces) (g .layout .count) (stored k q) (take (g .row .len) (g .row .numbers)) (ok .placed),
-        ap pieceOf (getD-set-same (g .layout .pieces) (g .layout .count) (stored k q) blank (omega (arith, ok .pieces-size))) ∙ piece-stored k q,
-      ))
+module _ (a : List ℕ) (g : Going) (k : ℕ) (q : Piece) (b : List ℕ) (ok : Seated g) (free : g .row .len < 64) where
+  longer : take (g .row .len + 1) (set (g .row .numbers) (g .row .len) (g .count)) ≡ take (g .row .len) (g .row .numbers) ++ (g .count ∷ [])
+  longer = take-put (g .row .numbers) (g .row .len) (g .count) (omega (arith, ok .size))
 
-  pub seated-seat : Seated (seatOf g k q)
-  unfolding seatOf putOf
+  pub told-seat : Put a (g .count) (seatOf (g .core) k q) b → told b (seatedOf g .row) ≡ told a (g .row) ++ (q ∷ [])
+  unfolding seatedOf
+  told-seat put =
+      ap (map (λ (i : ℕ). placedAt b i .piece)) longer
+      ∙ (map-snoc (λ (i : ℕ). placedAt b i .piece) (take (g .row .len) (g .row .numbers)) (g .count)
+      ∙ cc (pieces-kept a (g .count) (seatOf (g .core) k q) b put (take (g .row .len) (g .row .numbers)) (ok .below), ap (λ (z : Placed ℕ). z .piece) (put .there)))
+
+  pub seated-seat : Seated (seatedOf g)
+  unfolding seatedOf
   seated-seat = record {
-    row-size = length-set (g .row .numbers) (g .row .len) (g .layout .count) ∙ ok .row-size;
-    pieces-size = length-set (g .layout .pieces) (g .layout .count) (stored k q) ∙ ok .pieces-size;
-    placed = rw (take-put (g .row .numbers) (g .row .len) (g .layout .count) (omega (arith, ok .row-size)))
-        (each-behind (λ (i : ℕ). i < g .layout .count + 1) (take (g .row .len) (g .row .numbers)) (g .layout .count) (each-less (g .layout .count) (take (g .row .len) (g .row .numbers)) (ok .placed)) (omega arith));
+    size = length-set (g .row .numbers) (g .row .len) (g .count) ∙ ok .size;
+    below = rw longer (each-snoc (λ (i : ℕ). i < g .count + 1) (take (g .row .len) (g .row .numbers)) (g .count) (each-imp (λ (i : ℕ). i < g .count) (λ (i : ℕ). i < g .count + 1) (λ i low. omega arith) (take (g .row .len) (g .row .numbers)) (ok .below)) (omega arith));
   }
 
 pub seated-next : (g : Going) → Seated g → Seated (nextOf g)
 unfolding nextOf
-seated-next g ok = record { row-size = ok .row-size; pieces-size = ok .pieces-size; placed = tt }
+seated-next g ok = record { size = ok .size; below = tt }
 
-pub told-length : (g : Going) → Seated g → g .row .len ≤ 64 → length (told g) ≡ g .row .len
-told-length g ok h = length-map (take (g .row .len) (g .row .numbers)) (pieceAt (g .layout .pieces)) ∙ length-take-le (g .row .len) (g .row .numbers) (omega (arith, ok .row-size))
+-- two pieces placed, one on the next core
+pub both-put : (a mid b : List ℕ) (g one two : Going) (k : ℕ) (f l : Piece) → one ≡ seatedOf g → two ≡ nextOf one → Put a (g .count) (seatOf (g .core) k f) mid → Put mid (two .count) (seatOf (two .core) k l) b →
+    Both a (g .count) (seatOf (g .core) k f) (seatOf (g .core + 1) k l) b
+unfolding seatedOf nextOf
+both-put a mid b g one two k f l one-is two-is first last =
+    let count : two .count ≡ g .count + 1 = ap (λ (z : Going). z .count) two-is ∙ ap (λ (z : Going). z .count) one-is in
+    let core : two .core ≡ g .core + 1 = ap (λ (z : Going). z .core) two-is ∙ ap (λ (z : Going). z .core + 1) one-is in
+    record { mid = mid; first = first; last = rw (count, core) at last }
 
 -- ---- what the three ways to end reach
 
-pub seat-reach : (h : Going) (k n : ℕ) (q : Piece) → Seated h → h .stuck ≡ 0 → h .row .len < 64 → h .layout .count < 79 → Reach (h .layout) (seatOf h k q) (inOne k n (h .core) (told h) q)
-seat-reach h k n q ok still free room = record {
-  still = unfold seatOf in still;
-  core-is = unfold seatOf in refl;
-  len-is = unfold seatOf in simp length-append (omega (arith, told-length h ok (omega arith)));
-  row-is = told-seat h k q ok free room;
-  layout-is = unfold seatOf in refl;
-  seated = seated-seat h k q ok free room;
-}
+module _ (placed : List ℕ) (h : Going) (k n : ℕ) (still : h .stuck ≡ 0) (ok : Seated h) (free : h .row .len < 64) (placed′ records : List ℕ) (records-size : length records ≡ 553) where
+  pub seat-reach : (q : Piece) → Put placed (h .count) (seatOf (h .core) k q) placed′ → Reach (placedIn placed (h .count)) placed′ records (seatedOf h) (inOne k n (h .core) (told placed (h .row)) q)
+  seat-reach q put = record {
+    still = unfold seatedOf in still;
+    core-is = unfold seatedOf in refl;
+    len-is = unfold seatedOf in simp length-append (omega (arith, told-length placed h ok (omega arith)));
+    row-is = told-seat placed h k q placed′ ok free put;
+    placed-is = unfold seatedOf in put-in placed (h .count) (seatOf (h .core) k q) placed′ put;
+    placed-size = put .size;
+    records-size = records-size;
+    seated = seated-seat placed h k q placed′ ok free;
+  }
 
-pub both-reach : (h : Going) (k n : ℕ) (f l : Piece) → Seated h → h .stuck ≡ 0 → h .row .len < 64 → h .layout .count + 1 < 79 → Reach (h .layout) (seatOf (nextOf (seatOf h k f)) k l) (inTwo k n (h .core) f l)
-both-reach h k n f l ok still free room =
-    let g = nextOf (seatOf h k f) in
-    let seated : Seated g = seated-next (seatOf h k f) (seated-seat h k f ok free (omega arith)) in
-    let more : g .layout .count < 79 = unfold seatOf nextOf putOf in room in
-    record {
-      still = unfold seatOf nextOf in still;
-      core-is = unfold seatOf nextOf in add-one (h .core);
-      len-is = unfold seatOf nextOf in refl;
-      row-is = told-seat g k l seated (unfold seatOf nextOf in omega arith) more ∙ (unfold nextOf seatOf in refl);
-      layout-is = unfold seatOf nextOf in ap (λ (p : ℕ). putOf (putOf (h .layout) (h .core) k f) p k l) (add-one (h .core));
-      seated = seated-seat g k l seated (unfold seatOf nextOf in omega arith) more;
-    }
+  pub both-reach : (f l : Piece) → Both placed (h .count) (seatOf (h .core) k f) (seatOf (h .core + 1) k l) placed′ → Reach (placedIn placed (h .count)) placed′ records (seatedOf (nextOf (seatedOf h))) (inTwo k n (h .core) f l)
+  both-reach f l both =
+      let g = nextOf (seatedOf h) in
+      let seated : Seated g = seated-next (seatedOf h) (seated-seat placed h k f (both .mid) ok free) in
+      let none : g .row .len < 64 = unfold nextOf seatedOf in omega arith in
+      let last : Put (both .mid) (g .count) (seatOf (g .core) k l) placed′ = unfold nextOf seatedOf in both .last in
+      record {
+        still = unfold seatedOf nextOf in still;
+        core-is = unfold seatedOf nextOf in add-one (h .core);
+        len-is = unfold seatedOf nextOf in refl;
+        row-is = told-seat (both .mid) g k l placed′ seated none last ∙ (unfold nextOf seatedOf in refl);
+        placed-is = unfold seatedOf nextOf in (put-in (both .mid) (h .count + 1) (seatOf (h .core + 1) k l) placed′ (both .last)
+            ∙ (ap (λ (z : List (Placed ℕ)). z ++ (seatOf (h .core + 1) k l ∷ [])) (put-in placed (h .count) (seatOf (h .core) k f) (both .mid) (both .first))
+            ∙ (append-assoc (placedIn placed (h .count)) (seatOf (h .core) k f ∷ []) (seatOf (h .core + 1) k l ∷ []) ∙ ap (λ (p : ℕ). placedIn placed (h .count) ++ (seatOf (h .core) k f ∷ seatOf p k l ∷ [])) (add-one (h .core)))));
+        placed-size = both .last .size;
+        records-size = records-size;
+        seated = seated-seat (both .mid) g k l placed′ seated none;
+      }
 
-pub stick-reach : (h : Going) (k : ℕ) (base : Layout) → Reach base (stickOf h k) (stuck k)
+pub stick-reach : (h : Going) (k : ℕ) (base : List (Placed ℕ)) (placed records : List ℕ) → Reach base placed records (stickOf h k) (stuck k)
 unfolding stickOf
-stick-reach h k base = add-one k
+stick-reach h k base placed records = add-one k
 
 -- ---- the rules, as the specification has them
 
@@ -148,91 +151,102 @@ not-passes (Overloaded t) h = refl
 not-passes Undecided h = refl
 
 -- the task at place k, of the whole piece w, still to be placed
-pub record Under (m : ℕ) (c : Costs) (r k : ℕ) (w : Piece) (g h : Going) : Type 0 where
-  pub ok : LandFits m c h k
-  pub kept : h .layout ≡ g .layout
-  pub rest : place (rulesFor c r (λ (j : ℕ). w)) k (m - 1 - g .core) (g .core) (told g) ≡ place (rulesFor c r (λ (j : ℕ). w)) k (m - 1 - h .core) (h .core) (told h)
+pub record Under (m : ℕ) (c : Costs) (r k : ℕ) (w : Piece) (placed₀ : List ℕ) (g : Going) (placed records : List ℕ) (h : Going) : Type 0 where
+  pub ok : LandFits m c placed records h k
+  pub same : placed ≡ placed₀
+  pub kept : h .count ≡ g .count
+  pub rest : place (rulesFor c r (λ (j : ℕ). w)) k (m - 1 - g .core) (g .core) (told placed₀ (g .row)) ≡ place (rulesFor c r (λ (j : ℕ). w)) k (m - 1 - h .core) (h .core) (told placed (h .row))
 
-module _ (m : ℕ) (c : Costs) (r k : ℕ) (w : Piece) (g h : Going) (u : Under m c r k w g h) where
+module _ (m : ℕ) (c : Costs) (r k : ℕ) (w : Piece) (placed₀ : List ℕ) (g : Going) (placed records : List ℕ) (h : Going) (u : Under m c r k w placed₀ g placed records h) where
   R : Rules ℕ
   R = rulesFor c r (λ (j : ℕ). w)
 
-  reached : (x : Going) (o : Outcome ℕ) → place R k (m - 1 - h .core) (h .core) (told h) ≡ o → Reach (h .layout) x o → Reach (g .layout) x (place R k (m - 1 - g .core) (g .core) (told g))
-  unfolding R
-  reached x o e there = rw (u .rest ∙ e, ← u .kept) there
+  row : List Piece
+  row = told placed (h .row)
 
-  pub row-fits : RowFits c h
-  row-fits = record { costs = u .ok .costs; free = u .ok .free; numbers = each-weak (take (h .row .len) (h .row .numbers)) (u .ok .seated .placed); sizes = u .ok .sizes }
-    where
-      each-weak : (l : List ℕ) → Each (λ i. i < h .layout .count) l → Each (λ i. i < 79) l
-      each-weak [] ok = tt
-      each-weak (i ∷ l) ok = (omega (arith, ok .0, u .ok .room, u .ok .core, u .ok .cores), each-weak l (ok .1))
+  -- where the task is to be placed from g on
+  abbrev Goal : List ℕ → List ℕ → Going → Type 0
+  Goal placed′ records′ x = Reach (placedIn placed₀ (g .count)) placed′ records′ x (place (rulesFor c r (λ (j : ℕ). w)) k (m - 1 - g .core) (g .core) (told placed₀ (g .row)))
 
-  pub seat-fits : SeatFits h k
-  seat-fits = record { core = omega (arith, u .ok .core, u .ok .cores); place = u .ok .place; room = omega (arith, u .ok .room, u .ok .core, u .ok .cores); seat = omega (arith, u .ok .here, u .ok .free); free = u .ok .free }
+  reached : (placed′ records′ : List ℕ) (x : Going) (o : Outcome ℕ) → place R k (m - 1 - h .core) (h .core) row ≡ o → Reach (placedIn placed (h .count)) placed′ records′ x o → Goal placed′ records′ x
+  unfolding R row
+  reached placed′ records′ x o e there = rw (u .rest ∙ e, ← u .kept, ← u .same) there
 
-  pub seat-fits-both : (f : Piece) → (h .core + 1 ≡ m → ⊥) → SeatFits (nextOf (seatOf h k f)) k
-  unfolding seatOf nextOf putOf
-  seat-fits-both f more = record {
-    core = omega (arith, u .ok .core, u .ok .cores);
-    place = u .ok .place;
-    room = omega (arith, u .ok .room, u .ok .core, u .ok .cores);
-    seat = rw (getD-set-other (h .layout .lens) (h .core) (h .core + 1) (getD (h .layout .lens) (h .core) 0 + 1) 0 (λ same. omega arith), u .ok .ahead (h .core + 1) (omega arith)) (omega arith);
-    free = omega arith;
-  }
+  -- the row can be laid out
+  pub row-reads : Each (λ (i : ℕ). i < 79) (take (h .row .len) (h .row .numbers))
+  row-reads = each-imp (λ (i : ℕ). i < h .count) (λ (i : ℕ). i < 79) (λ i low. omega (arith, u .ok .room, u .ok .core, u .ok .cores)) (take (h .row .len) (h .row .numbers)) (u .ok .seated .below)
 
-  fits-is : (v : Verdict) → v ≡ verdictOf c (told h ++ (w ∷ [])) → R .fits (told h ++ (R .whole k ∷ [])) ≡ passes v
-  unfolding R rulesFor
-  fits-is v e = ap passes (sym e)
+  pub seat-fits : SeatFits placed h
+  seat-fits = record { room = omega (arith, u .ok .room, u .ok .core, u .ok .cores); free = u .ok .free; size = u .ok .placed-size }
 
-  cut-is : (s : Split) → s ≡ greatestSplit c r (told h) w → R .cut (told h) k ≡ splitAs c w s
+  cut-is : (s : Split) → s ≡ greatestSplit c r row w → R .cut row k ≡ splitAs c w s
   unfolding R rulesFor
   cut-is s e = ap (splitAs c w) (sym e)
 
-  whole-is : R .whole k ≡ w
-  unfolding R rulesFor
-  whole-is = refl
+  -- the row is laid out
+  module _ (laid : List ℕ) (lies : asked laid (h .row .len) ≡ told placed (h .row)) (laid-size : length laid ≡ 553) where
+    pub ask-fits : AskFits c laid (h .row .len)
+    ask-fits = record { costs = u .ok .costs; free = u .ok .free; size = laid-size; sizes = rw lies (u .ok .sizes) }
 
-  pub one-done : verdictOf c (told h ++ (w ∷ [])) ≡ Passes → Reach (g .layout) (seatOf h k w) (place (rulesFor c r (λ (j : ℕ). w)) k (m - 1 - g .core) (g .core) (told g))
-  unfolding R
-  one-done e = reached (seatOf h k w) (inOne k (m - 1 - h .core) (h .core) (told h) w)
-      (place-one R k (h .core) (told h) (m - 1 - h .core) (fits-is Passes (sym e)) ∙ ap (inOne k (m - 1 - h .core) (h .core) (told h)) whole-is)
-      (seat-reach h k (m - 1 - h .core) w (u .ok .seated) (u .ok .going) (u .ok .free) (omega (arith, u .ok .room, u .ok .core, u .ok .cores)))
+    -- and the whole piece was judged behind it
+    module _ (v : Verdict) (verdict-is : v ≡ verdictOf c (asked laid (h .row .len) ++ (w ∷ []))) (more : List ℕ) (behind : asked more (h .row .len + 1) ≡ asked laid (h .row .len) ++ (w ∷ [])) (more-size : length more ≡ 553) where
+      fits-is : R .fits (row ++ (R .whole k ∷ [])) ≡ passes v
+      unfolding R rulesFor row
+      fits-is = ap (λ (l : List Piece). passes (verdictOf c (l ++ (w ∷ [])))) (sym lies) ∙ ap passes (sym verdict-is)
 
-  module _ (v : Verdict) (verdict-is : v ≡ verdictOf c (told h ++ (w ∷ []))) (fails : passes v ≡ false) where
-    pub stuck-done : h .core + 1 ≡ m → Reach (g .layout) (stickOf h k) (place (rulesFor c r (λ (j : ℕ). w)) k (m - 1 - g .core) (g .core) (told g))
-    unfolding R
-    stuck-done last =
-        let none : m - 1 - h .core ≡ zero = omega arith in
-        reached (stickOf h k) (stuck k) (rw none (place-stuck R k (h .core) (told h) (fits-is v verdict-is ∙ fails))) (stick-reach h k (h .layout))
+      as-was : asked more (h .row .len) ≡ row
+      unfolding row
+      as-was = asked-kept laid more (h .row .len) w (omega (arith, u .ok .free)) behind ∙ lies
 
-    pub both-done : (h .core + 1 ≡ m → ⊥) → (x t : ℕ) → greatestSplit c r (told h) w ≡ Cut x t →
-        Reach (g .layout) (seatOf (nextOf (seatOf h k (firstPiece w x t))) k (lastPiece c w x t)) (place (rulesFor c r (λ (j : ℕ). w)) k (m - 1 - g .core) (g .core) (told g))
-    unfolding R
-    both-done more x t s =
-        let left : m - 1 - h .core ≡ suc (m - 1 - (h .core + 1)) = omega (arith, u .ok .core) in
-        reached (seatOf (nextOf (seatOf h k (firstPiece w x t))) k (lastPiece c w x t)) (inTwo k (m - 1 - (h .core + 1)) (h .core) (firstPiece w x t) (lastPiece c w x t))
-        (rw left (place-both R k (h .core) (told h) (m - 1 - (h .core + 1)) (firstPiece w x t) (lastPiece c w x t) (fits-is v verdict-is ∙ fails) (cut-is (Cut x t) (sym s))))
-        (both-reach h k (m - 1 - (h .core + 1)) (firstPiece w x t) (lastPiece c w x t) (u .ok .seated) (u .ok .going) (u .ok .free) (omega (arith, u .ok .room, u .ok .core, u .ok .cores)))
+      pub one-done : v ≡ Passes → (placed′ : List ℕ) → Put placed (h .count) (seatOf (h .core) k w) placed′ → Goal placed′ more (seatedOf h)
+      unfolding R rulesFor row
+      one-done e placed′ put = reached placed′ more (seatedOf h) (inOne k (m - 1 - h .core) (h .core) row w)
+          (place-one R k (h .core) row (m - 1 - h .core) (fits-is ∙ ap passes e))
+          (seat-reach placed h k (m - 1 - h .core) (u .ok .going) (u .ok .seated) (u .ok .free) placed′ more more-size w put)
 
-    pub next-under : (h .core + 1 ≡ m → ⊥) → greatestSplit c r (told h) w ≡ Nowhere → Under m c r k w g (nextOf h)
-    unfolding R nextOf
-    next-under more s =
-        let left : m - 1 - h .core ≡ suc (m - 1 - (h .core + 1)) = omega (arith, u .ok .core) in
-        record {
-          ok = record {
-            costs = u .ok .costs;
-            place = u .ok .place;
-            core = omega (arith, u .ok .core);
-            cores = u .ok .cores;
-            room = omega (arith, u .ok .room);
-            free = omega arith;
-            going = u .ok .going;
-            here = u .ok .ahead (h .core + 1) (omega arith);
-            ahead = λ p i. u .ok .ahead p (omega arith);
-            seated = seated-next h (u .ok .seated);
-            sizes = tt;
-          };
-          kept = u .kept;
-          rest = u .rest ∙ rw (left, place-next R k (h .core) (told h) (m - 1 - (h .core + 1)) (fits-is v verdict-is ∙ fails) (cut-is Nowhere (sym s)), add-one (h .core));
-        }
+      pub ask-fits-still : AskFits c more (h .row .len)
+      unfolding row
+      ask-fits-still = record { costs = u .ok .costs; free = u .ok .free; size = more-size; sizes = rw as-was (u .ok .sizes) }
+
+      module _ (fails : passes v ≡ false) where
+        pub stuck-done : h .core + 1 ≡ m → (placed′ : List ℕ) → Goal placed′ more (stickOf h k)
+        unfolding R
+        stuck-done last placed′ =
+            let none : m - 1 - h .core ≡ zero = omega arith in
+            reached placed′ more (stickOf h k) (stuck k) (rw none (place-stuck R k (h .core) row (fits-is ∙ fails))) (stick-reach h k (placedIn placed (h .count)) placed′ more)
+
+        module _ (on : h .core + 1 ≡ m → ⊥) where
+          pub both-fit : BothFit placed h
+          both-fit = record { core = omega (arith, u .ok .core, u .ok .cores); room = omega (arith, u .ok .room, u .ok .core, u .ok .cores); free = u .ok .free; size = u .ok .placed-size }
+
+          left : m - 1 - h .core ≡ suc (m - 1 - (h .core + 1))
+          left = omega (arith, u .ok .core)
+
+          module _ (z : Split) (split-is : z ≡ greatestSplit c r (asked more (h .row .len)) w) where
+            pub both-done : (x t : ℕ) → z ≡ Cut x t → (placed′ : List ℕ) → Both placed (h .count) (seatOf (h .core) k (firstPiece w x t)) (seatOf (h .core + 1) k (lastPiece c w x t)) placed′ → Goal placed′ more (seatedOf (nextOf (seatedOf h)))
+            unfolding R
+            both-done x t s placed′ both =
+                reached placed′ more (seatedOf (nextOf (seatedOf h))) (inTwo k (m - 1 - (h .core + 1)) (h .core) (firstPiece w x t) (lastPiece c w x t))
+                (rw left (place-both R k (h .core) row (m - 1 - (h .core + 1)) (firstPiece w x t) (lastPiece c w x t) (fits-is ∙ fails) (cut-is z (rw as-was at split-is) ∙ ap (splitAs c w) s)))
+                (both-reach placed h k (m - 1 - (h .core + 1)) (u .ok .going) (u .ok .seated) (u .ok .free) placed′ more more-size (firstPiece w x t) (lastPiece c w x t) both)
+
+            pub next-under : z ≡ Nowhere → Under m c r k w placed₀ g placed more (nextOf h)
+            unfolding R nextOf row
+            next-under s = record {
+              ok = record {
+                costs = u .ok .costs;
+                place = u .ok .place;
+                core = omega (arith, u .ok .core);
+                cores = u .ok .cores;
+                room = omega (arith, u .ok .room);
+                free = omega arith;
+                going = u .ok .going;
+                placed-size = u .ok .placed-size;
+                records-size = more-size;
+                seated = seated-next h (u .ok .seated);
+                sizes = tt;
+              };
+              same = u .same;
+              kept = u .kept;
+              rest = u .rest ∙ rw (left, place-next R k (h .core) row (m - 1 - (h .core + 1)) (fits-is ∙ fails) (cut-is z (rw as-was at split-is) ∙ ap (splitAs c w) s), add-one (h .core));
+            }

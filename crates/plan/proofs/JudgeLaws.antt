@@ -1,13 +1,13 @@
--- A row within the sizes with one piece more is judged and not refused, and so is a split on it.
+-- Records within the sizes with one piece more are judged and not refused, and so is a split beside them.
 -- Assumes nothing.
 --
---   judged-is, never-refused      the verdict on the row with a piece behind it
---   split-is, never-denied        the split of a whole piece beside the row
-use mathlib.Core.Path.{_≡_, refl, sym, ap, _∙_, subst}
-use mathlib.Core.List.{List, [], _∷_, _++_, map}
-use Prim.Native.Nat.{ℕ, _+_, _<_, _≤_}
+--   judged-is, never-refused      the verdict on the records with a piece behind them
+--   split-is, never-denied        the split of a whole piece beside the records
+use mathlib.Core.Path.{_≡_, sym, ap, _∙_}
+use mathlib.Core.List.{List, [], _∷_, _++_}
+use Prim.Native.Nat.{ℕ, _+_}
 use native.Mathlib.Omega.{arith}
-use lib.ListN.{length, take, set, length-append}
+use lib.ListN.{take, length-append}
 use lib.Seq.{take-all, length-take-le}
 use Rattle.demand.specs.declared.Piece.{Piece}
 use Rattle.demand.specs.declared.Costs.{Costs}
@@ -15,53 +15,51 @@ use Rattle.demand.specs.declared.Refusal.{Refusal}
 use Rattle.demand.specs.declared.Verdict.{Verdict}
 use Rattle.demand.specs.declared.Answer.{Answer}
 use Rattle.demand.specs.declared.Answer.the-variants.{Judged, Refused}
-use Rattle.demand.specs.Sizes.{Sized, Each}
+use Rattle.demand.specs.Sizes.{Sized}
 use Rattle.demand.specs.Verdict.{verdictOf}
 use Rattle.demand.specs.declared.Check.{Check}
 use Rattle.demand.specs.declared.Check.the-variants.{Fine}
 use Rattle.demand.specs.declared.Split.{Split}
+use Rattle.demand.specs.declared.Splitting.{Splitting}
 use Rattle.demand.specs.declared.Splitting.the-variants.{Best, Denied}
 use Rattle.demand.specs.Split.{greatestSplit}
 use Rattle.demand.specs.Answer.{answerOf, checkRun, splitted, splitOf}
 use Rattle.demand.proofs.Sums.{each-snoc}
-use Rattle.demand.proofs.RunLaws.{Taken, taken-check, taken-answer}
-use Rattle.plan.specs.declared.Going.{Going}
-use Rattle.plan.specs.Going.{told, RowFits}
-use Rattle.plan.proofs.Lists.{take-put}
+use Rattle.demand.proofs.RunLaws.{taken-check, taken-answer}
+use Rattle.demand.specs.Records.{recordsOf}
+use Rattle.demand.proofs.RecordLaws.{records-length}
+use Rattle.plan.specs.Going.{asked, AskFits}
 
-module _ (c : Costs) (g : Going) (q : Piece) (fits : RowFits c g) (size : Sized q) (ps : List Piece) (room : g .row .len < length ps) (row : take (g .row .len) ps ≡ told g) where
-  with-it : take (g .row .len + 1) (set ps (g .row .len) q) ≡ told g ++ (q ∷ [])
-  with-it = take-put ps (g .row .len) q room ∙ ap (λ (l : List Piece). l ++ (q ∷ [])) row
+module _ (c : Costs) (records : List ℕ) (n : ℕ) (q : Piece) (fits : AskFits c records n) (size : Sized q) where
+  -- the records with the piece behind them
+  module _ (more : List ℕ) (behind : asked more (n + 1) ≡ asked records n ++ (q ∷ [])) where
+    judged-row : answerOf c (n + 1) (recordsOf more) ≡ Judged (verdictOf c (asked records n ++ (q ∷ [])))
+    judged-row =
+        taken-answer c (n + 1) (recordsOf more) (record { few = omega (arith, fits .free); costs = fits .costs; each = rw behind (each-snoc Sized (asked records n) q (fits .sizes) size) })
+        ∙ ap (λ (l : List Piece). Judged (verdictOf c l)) behind
 
-  pub judged-row : answerOf c (g .row .len + 1) (set ps (g .row .len) q) ≡ Judged (verdictOf c (told g ++ (q ∷ [])))
-  judged-row =
-      taken-answer c (g .row .len + 1) (set ps (g .row .len) q) (record { few = omega (arith, fits .free); costs = fits .costs; each = rw with-it (each-snoc Sized (told g) q (fits .sizes) size) })
-      ∙ ap (λ (l : List Piece). Judged (verdictOf c l)) with-it
+    module _ (a : Answer) (answer-is : a ≡ answerOf c (n + 1) (recordsOf more)) where
+      pub judged-is : (v : Verdict) → a ≡ Judged v → v ≡ verdictOf c (asked records n ++ (q ∷ []))
+      judged-is v e = let f = sym e ∙ (answer-is ∙ judged-row) in cc f
 
-  pub judged-is : (v : Verdict) → answerOf c (g .row .len + 1) (set ps (g .row .len) q) ≡ Judged v → v ≡ verdictOf c (told g ++ (q ∷ []))
-  judged-is v e = let f = sym e ∙ judged-row in cc f
+      pub never-refused : (r : Refusal) → a ≡ Refused r → ⊥
+      never-refused r e = let f = sym e ∙ (answer-is ∙ judged-row) in let z : _≡_ {A = ℕ} 0 1 = cc f in omega arith
 
-  pub never-refused : (r : Refusal) → answerOf c (g .row .len + 1) (set ps (g .row .len) q) ≡ Refused r → ⊥
-  never-refused r e = let f = sym e ∙ judged-row in let z : _≡_ {A = ℕ} 0 1 = cc f in omega arith
+  -- ---- the split
 
--- ---- the split
+  all : take (n + 1) (asked records n ++ (q ∷ [])) ≡ asked records n ++ (q ∷ [])
+  all = take-all (n + 1) (asked records n ++ (q ∷ [])) (rw length-append (omega (arith, length-take-le n (recordsOf records) (omega (arith, fits .free, records-length records)))))
 
-module _ (c : Costs) (r : ℕ) (g : Going) (q : Piece) (fits : RowFits c g) (size : Sized q) (n : ℕ) (count : n ≡ g .row .len) (ps : List Piece) (room : g .row .len ≤ length ps) (row : take (g .row .len) ps ≡ told g) where
-  these : take n ps ≡ told g
-  these = ap (λ (k : ℕ). take k ps) count ∙ row
+  fine : checkRun c (n + 1) (asked records n ++ (q ∷ [])) ≡ Fine
+  fine = taken-check c (n + 1) (asked records n ++ (q ∷ [])) (record { few = omega (arith, fits .free); costs = fits .costs; each = rw all (each-snoc Sized (asked records n) q (fits .sizes) size) })
 
-  all : take (n + 1) (take n ps ++ (q ∷ [])) ≡ take n ps ++ (q ∷ [])
-  all = take-all (n + 1) (take n ps ++ (q ∷ [])) (rw length-append (omega (arith, length-take-le n ps (omega arith))))
-
-  fine : checkRun c (n + 1) (take n ps ++ (q ∷ [])) ≡ Fine
-  fine = taken-check c (n + 1) (take n ps ++ (q ∷ [])) (record { few = omega (arith, fits .free); costs = fits .costs; each = rw (all, these) (each-snoc Sized (told g) q (fits .sizes) size) })
-
-  split-row : splitOf c n ps q r ≡ Best (greatestSplit c r (told g) q)
+  split-row : (r : ℕ) → splitOf c n (recordsOf records) q r ≡ Best (greatestSplit c r (asked records n) q)
   unfolding splitOf
-  split-row = ap (λ (k : Check). splitted k (greatestSplit c r (take n ps) q)) fine ∙ ap (λ (l : List Piece). Best (greatestSplit c r l q)) these
+  split-row r = ap (λ (k : Check). splitted k (greatestSplit c r (asked records n) q)) fine
 
-  pub split-is : (s : Split) → splitOf c n ps q r ≡ Best s → s ≡ greatestSplit c r (told g) q
-  split-is s e = let f = sym e ∙ split-row in cc f
+  module _ (r : ℕ) (a : Splitting) (answer-is : a ≡ splitOf c n (recordsOf records) q r) where
+    pub split-is : (s : Split) → a ≡ Best s → s ≡ greatestSplit c r (asked records n) q
+    split-is s e = let f = sym e ∙ (answer-is ∙ split-row r) in cc f
 
-  pub never-denied : (why : Refusal) → splitOf c n ps q r ≡ Denied why → ⊥
-  never-denied why e = let f = sym e ∙ split-row in let z : _≡_ {A = ℕ} 0 1 = cc f in omega arith
+    pub never-denied : (why : Refusal) → a ≡ Denied why → ⊥
+    never-denied why e = let f = sym e ∙ (answer-is ∙ split-row r) in let z : _≡_ {A = ℕ} 0 1 = cc f in omega arith

@@ -4,6 +4,8 @@
 --   layout-append      one log after another
 --   count-is           the count of pieces
 --   lens-is            a core's length is the number of pieces put there
+--   Laying, laying-none, laying-more      the layout of the first i that lie in an array, one more
+--   core-room, place-room, row-room       and there is room for it
 use mathlib.Core.Path.{_≡_, refl, sym, ap, _∙_, subst}
 use mathlib.Core.Bool.{Bool, true, false}
 use mathlib.Core.List.{List, [], _∷_, _++_}
@@ -11,13 +13,15 @@ use Prim.Native.Nat.{ℕ, zero, suc, _+_, _<_}
 use native.Mathlib.Omega.{arith}
 use borrow.Author.Tests.{eqb-true, eqb-false}
 use lib.Dec.{eqb}
-use lib.ListN.{length, set, getD, length-set, replicate}
+use lib.ListN.{length, getD, length-set, replicate}
 use lib.Seq.{getD-set-other, getD-set-same}
 use Rattle.demand.specs.declared.Piece.{Piece}
 use Rattle.demand.specs.Sizes.{Each}
 use Rattle.plan.specs.declared.Layout.{Layout}
 use Rattle.plan.specs.Layout.{putOf, layoutOn, none}
 use Rattle.plan.specs.Walk.{Placed, keep, onCore}
+use Rattle.plan.specs.Lent.{seatOf, placedAt, placedIn, Fitting}
+use Rattle.plan.proofs.LentLaws.{placed-more, placed-front, core-fits, place-fits, row-fits}
 
 pub layout-append : (s : Layout) (k l : List (Placed ℕ)) → layoutOn s (k ++ l) ≡ layoutOn (layoutOn s k) l
 layout-append s [] l = refl
@@ -68,3 +72,43 @@ none-zero q = zeros 16 q
 pub none-count : none .count ≡ 0
 unfolding none
 none-count = refl
+
+-- ---- the layout of the first i that lie in an array
+
+pub record Laying (a : List ℕ) (s : Layout) (i : ℕ) : Type 0 where
+  pub is : s ≡ layoutOn none (placedIn a i)
+  pub count : s .count ≡ i
+  pub pieces-size : length (s .pieces) ≡ 79
+  pub rows-size : length (s .rows) ≡ 1024
+  pub lens-size : length (s .lens) ≡ 16
+  pub words-size : length (s .words) ≡ 16
+
+pub laying-none : (a : List ℕ) → Laying a none 0
+unfolding none
+laying-none a = record { is = refl; count = refl; pieces-size = refl; rows-size = refl; lens-size = refl; words-size = refl }
+
+module _ (a : List ℕ) (s : Layout) (i : ℕ) (laid : Laying a s i) (p k : ℕ) (q : Piece) (seat : seatOf p k q ≡ placedAt a i) where
+  pub laying-more : (t : Layout) → t ≡ putOf s p k q → Laying a t (i + 1)
+  unfolding putOf
+  laying-more t e = record {
+    is = e ∙ (rw (placed-more a i, layout-append none (placedIn a i) (placedAt a i ∷ []), ← laid .is, ← seat));
+    count = ap (λ (z : Layout). z .count) e ∙ omega (arith, laid .count);
+    pieces-size = ap (λ (z : Layout). length (z .pieces)) e ∙ simp length-set (laid .pieces-size);
+    rows-size = ap (λ (z : Layout). length (z .rows)) e ∙ simp length-set (laid .rows-size);
+    lens-size = ap (λ (z : Layout). length (z .lens)) e ∙ simp length-set (laid .lens-size);
+    words-size = ap (λ (z : Layout). length (z .words)) e ∙ simp length-set (laid .words-size);
+  }
+
+  -- there is room for the next, where there is for all
+  module _ (n : ℕ) (fits : Fitting (placedIn a n)) (low : i < n) where
+    pub core-room : p < 16
+    core-room = rw (ap (λ (e : Placed ℕ). e .on) seat) (core-fits a n fits i low)
+
+    pub place-room : k < 64
+    place-room = rw (ap (λ (e : Placed ℕ). e .item) seat) (place-fits a n fits i low)
+
+    pub row-room : getD (s .lens) p 0 < 64
+    row-room =
+        let on : p ≡ placedAt a i .on = ap (λ (e : Placed ℕ). e .on) seat in
+        let len : getD (s .lens) p 0 ≡ getD (none .lens) p 0 + length (onCore p (placedIn a i)) = ap (λ (z : Layout). getD (z .lens) p 0) (laid .is) ∙ lens-is (placedIn a i) none none-size (placed-front (λ e. e .on < 16) a n (fits .cores) i (omega arith)) p in
+        omega (arith, len, none-zero p, rw (← on) at (row-fits a n fits i low))

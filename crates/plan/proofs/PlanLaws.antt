@@ -1,26 +1,28 @@
 -- From the walk's code to the plan.
 -- Assumes nothing.
 --
---   times-padded       zeros past the end change no time
---   small-padded       the products of the padded list fit
+--   small-laid         the products of the tasks' times fit
 --   sized-at           a task at a place below the end is within the sizes
 --   upto-each          what holds of each place below n
 --   walk-fits          the walk over the packing order can begin
+--   all-fits           what it placed has room in a plan
 --   fault-seven        no fault of a state has the number 7
+--   no-fault           what is not refused has no fault
 --   plan-refused, plan-stuck, plan-fine      the three ways to end
 use mathlib.Core.Path.{_≡_, refl, sym, ap, subst, _∙_, fun-ext}
 use mathlib.Core.Bool.{Bool, true, false}
 use mathlib.Core.List.{List, [], _∷_, _++_}
-use Prim.Native.Nat.{ℕ, zero, suc, _+_, _-_, _<_, _≤_}
+use Prim.Native.Nat.{ℕ, zero, suc, _+_, _<_, _≤_}
 use native.Mathlib.Nat.{not-suc-le-zero, le-of-suc-le-suc}
 use native.Mathlib.Decide.{decLt}
 use native.Mathlib.Omega.{arith}
 use lib.Dec.{eqb, leb}
-use lib.ListN.{length, take, getD, replicate, List·getD-eq-default}
+use lib.ListN.{length, take, List·getD-eq-default}
 use lib.Seq.{length-take-le}
 use Rattle.demand.specs.declared.Piece.{Piece}
 use Rattle.demand.specs.declared.Costs.{Costs}
-use Rattle.demand.specs.Sizes.{Sized, SizedCosts, Each, sized, sizedCosts}
+use Rattle.demand.specs.Sizes.{Sized, Each, sized, sizedCosts}
+use Rattle.demand.proofs.Sums.{each-imp}
 use Rattle.task.specs.declared.Times.{Times}
 use Rattle.task.specs.declared.Task.{Task}
 use Rattle.task.specs.declared.Tasks.{Tasks}
@@ -28,39 +30,28 @@ use Rattle.task.specs.declared.Machine.{Machine}
 use Rattle.task.specs.Tasks.{wholePiece, past, taskAt, placeOf, rule, orElse, faultOf, firstFault, stateFault, sizedMachine, tasksMost}
 use Rattle.task.specs.Names.{formed}
 use Rattle.task.proofs.TaskLaws.{Sane}
-use Rattle.plan.specs.declared.Order.{Order}
 use Rattle.plan.specs.declared.Layout.{Layout}
 use Rattle.plan.specs.declared.Going.{Going}
-use Rattle.plan.specs.declared.Plan.{Plan}
 use Rattle.plan.specs.declared.Reply.{Reply}
-use Rattle.plan.specs.Order.{pack, denserAt, denserTask, denser, upto, Small, SmallAll}
-use Rattle.plan.specs.Walk.{Outcome, fine, stuck, walk, start, rulesFor}
+use Rattle.plan.specs.Order.{pack, denserAt, denser, upto, Small}
+use Rattle.plan.specs.Walk.{Placed, Outcome, fine, stuck, walk, start, rulesFor}
 use Rattle.plan.specs.Layout.{none, layoutOn}
-use Rattle.plan.specs.Plan.{noTask, padded, wholeAt, walked, refused, finished, unlessFault, planOf}
+use Rattle.plan.specs.Plan.{padded, wholeAt, walked, refused, finished, planOf}
+use Rattle.plan.specs.Lent.{timesAt, Laid, denserIn, wholeIn, SmallIn, placedIn, Fitting}
 use Rattle.plan.specs.Going.{WalkFits, Reach}
+use Rattle.plan.proofs.LentLaws.{placed-length}
 use Rattle.plan.proofs.OrderLaws.{pack-every}
+use Rattle.plan.proofs.WalkLaws.{IfFine, Fit, fit, Spread, spread}
+use Rattle.plan.proofs.RuleLaws.{Fine, cd-sound}
 
--- ---- zeros past the end
+-- ---- the times of the tasks, where they are laid out
 
-blank-times : (n i : ℕ) → taskAt (replicate n noTask) i .times ≡ past .times
-blank-times zero i = refl
-blank-times (suc n) zero = refl
-blank-times (suc n) (suc i) = blank-times n i
+module _ (times : List ℕ) (l : List Task) (laid : Laid times l) where
+  wholes-laid : wholeIn times ≡ wholeAt l
+  wholes-laid = fun-ext (λ i. ap wholePiece (laid i))
 
-behind-times : (l : List Task) (n i : ℕ) → taskAt (l ++ replicate n noTask) i .times ≡ taskAt l i .times
-behind-times [] n i = blank-times n i
-behind-times (t ∷ l) n zero = refl
-behind-times (t ∷ l) n (suc i) = behind-times l n i
-
-pub times-padded : (l : List Task) (i : ℕ) → taskAt (padded l) i .times ≡ taskAt l i .times
-unfolding padded
-times-padded l i = behind-times l (64 - length l) i
-
-wholes-padded : (l : List Task) → wholeAt (padded l) ≡ wholeAt l
-wholes-padded l = fun-ext (λ i. ap wholePiece (times-padded l i))
-
-densers-padded : (l : List Task) → denserAt (padded l) ≡ denserAt l
-densers-padded l = fun-ext (λ i. fun-ext (λ j. ap (λ (a : Times). denser a (taskAt (padded l) j .times)) (times-padded l i) ∙ ap (λ (b : Times). denser (taskAt l i .times) b) (times-padded l j)))
+  densers-laid : denserIn times ≡ denserAt l
+  densers-laid = fun-ext (λ i. fun-ext (λ j. ap (λ (a : Times). denser a (timesAt times j)) (laid i) ∙ ap (denser (taskAt l i .times)) (laid j)))
 
 -- ---- sizes
 
@@ -76,8 +67,8 @@ small-at l ok i = elim (decLt i (length l)) [
   | no outside ↦ rw (List·getD-eq-default l past {n = i} (omega arith)) (record { worst-fits = omega arith; deadline-fits = omega arith })
 ]
 
-pub small-padded : (l ts : List Task) → ts ≡ padded l → Each (λ t. Sized (wholePiece (t .times))) l → SmallAll ts
-small-padded l ts e ok i = rw (e, times-padded l i) (small-at l ok i)
+pub small-laid : (times : List ℕ) (l : List Task) → Laid times l → Each (λ t. Sized (wholePiece (t .times))) l → SmallIn times
+small-laid times l laid ok i = rw (laid i) (small-at l ok i)
 
 pub upto-each : (P : ℕ → Type 0) (n : ℕ) → ((i : ℕ) → i < n → P i) → Each P (upto n)
 upto-each P zero h = tt
@@ -87,48 +78,78 @@ upto-each P (suc n) h = behind (upto n) (upto-each P n (λ i less. h i (omega ar
     behind [] ok = (h n (omega arith), tt)
     behind (i ∷ l) ok = (ok .0, behind l (ok .1))
 
-module _ (m : Machine) (c : Costs) (n : ℕ) (ts : List Task) (long : length ts ≡ 64) (sane : Sane m c n ts) (clean : Tasks) (count : clean .count ≡ n) (list : clean .list ≡ padded (take n ts)) (o : Order) (size : length (o .places) ≡ 64)
-    (order : take (clean .count) (o .places) ≡ pack (denserAt (clean .list)) (upto (clean .count))) where
+module _ (m : Machine) (c : Costs) (n : ℕ) (ts : List Task) (long : length ts ≡ 64) (sane : Sane m c n ts) (times : List ℕ) (laid : Laid times (take n ts)) (order : List ℕ) (packed : take n order ≡ pack (denserIn times) (upto n)) where
   whole : length (take n ts) ≡ n
   whole = length-take-le n ts (omega (arith, sane .few))
 
-  pub walk-fits : Each (λ k. k < 64) (take (clean .count) (o .places)) → WalkFits m c clean o
-  walk-fits places = record {
+  sizes : Each (λ k. Sized (wholeIn times k)) (take n order)
+  sizes = rw packed (pack-every (denserIn times) (λ k. Sized (wholeIn times k)) (upto n)
+      (upto-each (λ k. Sized (wholeIn times k)) n (λ i less. subst (λ (w : ℕ → Piece). Sized (w i)) (sym (wholes-laid times (take n ts) laid)) (sized-at (take n ts) (sane .timed) i (omega (arith, whole))))))
+
+  pub walk-fits : length order ≡ 64 → Each (λ k. k < 64) (take n order) → (placed records : List ℕ) → length placed ≡ 711 → length records ≡ 553 → WalkFits m c times n order placed records
+  walk-fits size places placed records placed-size records-size = record {
     some = sane .cores-some;
     few = sane .cores-fit;
     costs = sane .costs;
-    count = omega (arith, sane .few);
+    count = sane .few;
     long = size;
     places = places;
-    sizes = rw order (pack-every (denserAt (clean .list)) (λ k. Sized (wholeAt (clean .list) k)) (upto (clean .count))
-        (upto-each (λ k. Sized (wholeAt (clean .list) k)) (clean .count) (λ i less. subst (λ (w : ℕ → Piece). Sized (w i)) (sym (ap wholeAt list ∙ wholes-padded (take n ts))) (sized-at (take n ts) (sane .timed) i (omega (arith, whole))))));
+    sizes = sizes;
+    placed-size = placed-size;
+    records-size = records-size;
   }
 
-  walked-is : walk (rulesFor c (m .grain) (wholeAt (clean .list))) (start (m .cores)) (take (clean .count) (o .places)) ≡ walked m c (take n ts)
+  walked-is : walk (rulesFor c (m .grain) (wholeIn times)) (start (m .cores)) (take n order) ≡ walked m c (take n ts)
   unfolding walked
-  walked-is = rw (order, list, wholes-padded (take n ts), densers-padded (take n ts), count, whole)
+  walked-is = rw (packed, wholes-laid times (take n ts) laid, densers-laid times (take n ts) laid, whole)
 
   planned : stateFault m c n ts ≡ 0 → planOf m c n ts ≡ finished m c (take n ts) (walked m c (take n ts))
   unfolding planOf
   planned faultless = rw faultless
 
-  module _ (fault : stateFault m c n ts ≡ 0) (g : Going) (there : Reach none g (walk (rulesFor c (m .grain) (wholeAt (clean .list))) (start (m .cores)) (take (clean .count) (o .places)))) where
-    pub plan-stuck : 0 < g .stuck → refused 7 (g .stuck) ≡ planOf m c n ts
-    plan-stuck some = by (walk (rulesFor c (m .grain) (wholeAt (clean .list))) (start (m .cores)) (take (clean .count) (o .places))) there ∙ (ap (finished m c (take n ts)) walked-is ∙ sym (planned fault))
+  module _ (placed records : List ℕ) (g : Going) (there : Reach [] placed records g (walk (rulesFor c (m .grain) (wholeIn times)) (start (m .cores)) (take n order))) where
+    -- what a walk that did not stick placed has room in a plan
+    pub all-fits : length order ≡ 64 → Each (λ k. k < 64) (take n order) → g .stuck ≤ 0 → (g .count ≤ 79) × Fitting (placedIn placed (g .count))
+    all-fits size places going =
+        by (walk (rulesFor c (m .grain) (wholeIn times)) (start (m .cores)) (take n order)) there
+        (fit (rulesFor c (m .grain) (wholeIn times)) (λ k. Sized (wholeIn times k)) (Fine c) (cd-sound c (m .grain) (wholeIn times) (sane .costs)) (m .cores) (take n order) sizes (sane .cores-some))
+        (spread (rulesFor c (m .grain) (wholeIn times)) (λ k. k < 64) (m .cores) (take n order) places)
       where
-        by : (x : Outcome ℕ) → Reach none g x → refused 7 (g .stuck) ≡ finished m c (take n ts) x
-        by (fine s l) r = absurd (omega (arith, r .still))
-        by (stuck k) r = ap (refused 7) r
+        short : length (take n order) ≡ n
+        short = length-take-le n order (omega (arith, sane .few))
 
-    pub plan-fine : g .stuck ≤ 0 → _≡_ {A = Reply} (record { number = 0; carries = 0; plan = record { machine = m; costs = c; tasks = clean; layout = g .layout } }) (planOf m c n ts)
-    plan-fine going = by (walk (rulesFor c (m .grain) (wholeAt (clean .list))) (start (m .cores)) (take (clean .count) (o .places))) there ∙ (ap (finished m c (take n ts)) walked-is ∙ sym (planned fault))
-      where
-        tidied : clean ≡ record { count = length (take n ts); list = padded (take n ts) }
-        tidied = (let e : _≡_ {A = Tasks} (record { count = clean .count; list = clean .list }) (record { count = length (take n ts); list = padded (take n ts) }) = cc (count ∙ sym whole, list) in e)
+        by : (x : Outcome ℕ) → Reach [] placed records g x → IfFine (Fit (Fine c) (m .cores) (length (take n order))) x → IfFine (λ s l. Spread (λ k. k < 64) (length (take n order)) l) x → (g .count ≤ 79) × Fitting (placedIn placed (g .count))
+        by (fine s l) r f h = (
+          omega (arith, placed-length placed (g .count), ap length (r .placed-is), f .count, f .cores, sane .cores-fit, sane .few, short),
+          rw (r .placed-is) (record {
+            cores = each-imp (λ (e : Placed ℕ). e .on < m .cores) (λ (e : Placed ℕ). e .on < 16) (λ e low. omega (arith, sane .cores-fit)) l (f .seats);
+            places = h .items;
+            rows = λ q. omega (arith, h .rows q, sane .few, short);
+          }),
+        )
+        by (stuck k) r f h = absurd (omega (arith, r))
 
-        by : (x : Outcome ℕ) → Reach none g x → _≡_ {A = Reply} (record { number = 0; carries = 0; plan = record { machine = m; costs = c; tasks = clean; layout = g .layout } }) (finished m c (take n ts) x)
-        by (fine s l) r = cc (r .layout-is, tidied)
-        by (stuck k) r = absurd (omega (arith, r))
+    module _ (fault : stateFault m c n ts ≡ 0) where
+      pub plan-stuck : 0 < g .stuck → refused 7 (g .stuck) ≡ planOf m c n ts
+      plan-stuck some = by (walk (rulesFor c (m .grain) (wholeIn times)) (start (m .cores)) (take n order)) there ∙ (ap (finished m c (take n ts)) walked-is ∙ sym (planned fault))
+        where
+          by : (x : Outcome ℕ) → Reach [] placed records g x → refused 7 (g .stuck) ≡ finished m c (take n ts) x
+          by (fine s l) r = absurd (omega (arith, r .still))
+          by (stuck k) r = ap (refused 7) r
+
+      pub plan-fine : g .stuck ≤ 0 → (clean : Tasks) → clean .count ≡ n → clean .list ≡ padded (take n ts) → (s : Layout) → s ≡ layoutOn none (placedIn placed (g .count)) →
+          _≡_ {A = Reply} (record { number = 0; carries = 0; plan = record { machine = m; costs = c; tasks = clean; layout = s } }) (planOf m c n ts)
+      plan-fine going clean count list s laid-out = by (walk (rulesFor c (m .grain) (wholeIn times)) (start (m .cores)) (take n order)) there ∙ (ap (finished m c (take n ts)) walked-is ∙ sym (planned fault))
+        where
+          tidied : clean ≡ record { count = length (take n ts); list = padded (take n ts) }
+          tidied = (let e : _≡_ {A = Tasks} (record { count = clean .count; list = clean .list }) (record { count = length (take n ts); list = padded (take n ts) }) = cc (count ∙ sym whole, list) in e)
+
+          by : (x : Outcome ℕ) → Reach [] placed records g x → _≡_ {A = Reply} (record { number = 0; carries = 0; plan = record { machine = m; costs = c; tasks = clean; layout = s } }) (finished m c (take n ts) x)
+          by (fine t l) r = cc (laid-out, ap (layoutOn none) (r .placed-is), tidied)
+          by (stuck k) r = absurd (omega (arith, r))
+
+pub no-fault : (m : Machine) (c : Costs) (n : ℕ) (ts : List Task) (k : ℕ) → k ≡ stateFault m c n ts → k ≡ 0 → stateFault m c n ts ≡ 0
+no-fault m c n ts k e none = sym e ∙ none
 
 pub plan-refused : (m : Machine) (c : Costs) (n : ℕ) (ts : List Task) (k : ℕ) → k ≡ stateFault m c n ts → (k ≡ 0 → ⊥) → refused k 0 ≡ planOf m c n ts
 unfolding planOf

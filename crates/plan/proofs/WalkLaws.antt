@@ -8,6 +8,7 @@
 --   Share, Shares, shares every item of a walk that does not stick is placed, whole or in two
 --   SticksAt, sticks-at   a walk that sticks does at its first item that has no place
 --   Fit, fit              what each row has, and the numbers of pieces and cores
+--   Spread, spread        of which items there are pieces, and how many to a core
 --   place-cong            an item is placed by its own whole piece alone
 use mathlib.Core.Path.{_≡_, refl, sym, ap, _∙_, subst}
 use mathlib.Core.Bool.{Bool, true, false}
@@ -264,6 +265,42 @@ module _ {A : Type 0} (R : Rules A) (Good : A → Type 0) (P : List Piece → Ty
       subst (λ (n : ℕ). IfFine (Fit P m n) (walk R (start m) xs)) (zero-add (length xs))
       (walk-keeps R Good (Fit P m) (λ i a s log g k. fit-lands i (s .left) (s .core) a g (s .row) log (place R a (s .left) (s .core) (s .row)) k (lands R a (s .left) (s .core) (s .row))) 0 xs (record { core = 0; left = m - 1; row = [] }) [] good
       (record { here = refl; ahead = λ q g. refl; rows = λ q. sound .empty; cores = omega arith; count = omega arith; short = omega arith; seats = tt }))
+
+-- ---- what is placed of the items
+
+-- nothing but of good items, and i of them bring a core no more than i pieces
+pub record Spread {A : Type 0} (Good : A → Type 0) (i : ℕ) (log : List (Placed A)) : Type 0 where
+  pub items : Each (λ e. Good (e .item)) log
+  pub rows : (q : ℕ) → length (onCore q log) ≤ i
+
+module _ {A : Type 0} (R : Rules A) (Good : A → Type 0) where
+  spread-more : (i : ℕ) (log l : List (Placed A)) → Spread Good i log → Each (λ e. Good (e .item)) l → ((q : ℕ) → length (onCore q l) ≤ 1) → Spread Good (suc i) (log ++ l)
+  spread-more i log l h good few = record {
+    items = each-join (λ e. Good (e .item)) log l (h .items) good;
+    rows = λ q. rw (on-append q log l, length-append) (omega (arith, h .rows q, few q));
+  }
+
+  spread-lands : (i n p : ℕ) (a : A) → Good a → (row : List Piece) (log : List (Placed A)) (o : Outcome A) → Spread Good i log → Lands R a n p row o → IfFine (λ s l. Spread Good (suc i) l) (behind log o)
+  spread-lands i n p a good row log o h (one e) = spread-more i log (record { on = p; item = a; piece = R .whole a } ∷ []) h (good, tt) (λ q. by (eqb p q))
+    where
+      by : (t : Bool) → length {A = Placed A} (keep t (record { on = p; item = a; piece = R .whole a }) []) ≤ 1
+      by true = omega arith
+      by false = omega arith
+  spread-lands i n p a good row log o h (sticks e) = tt
+  spread-lands i (suc n) p a good row log o h (two {f = f} {l = l} e g) = spread-more i log (record { on = p; item = a; piece = f } ∷ record { on = suc p; item = a; piece = l } ∷ []) h (good, (good, tt)) (λ q. by q (eqb p q) refl (eqb (suc p) q) refl)
+    where
+      by : (q : ℕ) (t : Bool) → eqb p q ≡ t → (u : Bool) → eqb (suc p) q ≡ u → length {A = Placed A} (keep t (record { on = p; item = a; piece = f }) (keep u (record { on = suc p; item = a; piece = l }) [])) ≤ 1
+      by q true here true there = absurd (omega (arith, eqb-true p q here, eqb-true (suc p) q there))
+      by q true here false there = omega arith
+      by q false here true there = omega arith
+      by q false here false there = omega arith
+  spread-lands i (suc n) p a good row log o h (on e g r) = spread-lands i n (suc p) a good [] log o h r
+
+  pub spread : (m : ℕ) (xs : List A) → Each Good xs → IfFine (λ s l. Spread Good (length xs) l) (walk R (start m) xs)
+  spread m xs good =
+      subst (λ (n : ℕ). IfFine (λ s l. Spread Good n l) (walk R (start m) xs)) (zero-add (length xs))
+      (walk-keeps R Good (λ i s l. Spread Good i l) (λ i a s log g k. spread-lands i (s .left) (s .core) a g (s .row) log (place R a (s .left) (s .core) (s .row)) k (lands R a (s .left) (s .core) (s .row))) 0 xs (record { core = 0; left = m - 1; row = [] }) [] good
+      (record { items = tt; rows = λ q. omega arith }))
 
 -- ---- an item is placed by its own whole piece alone
 

@@ -9,7 +9,7 @@
 --   tasksOn s p          the number of tasks on core p
 use mathlib.Core.Bool.{cond}
 use mathlib.Core.List.{List, [], _∷_}
-use Prim.Native.Nat.{ℕ, _+_, _*_, _^_, _<_}
+use Prim.Native.Nat.{ℕ, _+_, _*_, _^_}
 use lib.Count.{ones}
 use lib.Dec.{leb}
 use lib.ListN.{set, getD, replicate}
@@ -40,13 +40,6 @@ putOf s p k q = record {
   lens = set (s .lens) p (getD (s .lens) p 0 + 1);
   words = set (s .words) p (bitOr (getD (s .words) p 0) (2 ^ k));
 }
-
--- where there is room for one more
-pub record PutFits (s : Layout) (p k : ℕ) : Type 0 where
-  pub core : p < 16
-  pub place : k < 64
-  pub room : s .count < 79
-  pub seat : getD (s .lens) p 0 < 64
 
 unfoldable pub none : Layout
 none = record { count = 0; pieces = replicate 79 blank; rows = replicate 1024 0; lens = replicate 16 0; words = replicate 16 0 }

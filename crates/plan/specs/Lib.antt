@@ -3,6 +3,7 @@ pub mod Order
 pub mod Walk
 pub mod Layout
 pub mod Plan
+pub mod Lent
 pub mod Going
 pub mod Shares
 pub mod Shows

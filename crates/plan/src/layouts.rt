@@ -1,13 +1,15 @@
 // The plan's rows and words, one piece at a time.
 use crate::Layout;
 use crate::Stored;
+use crate::seats::seat_at;
 use demand::Piece;
 use demand::kind_number;
 use demand::kind_of;
 ghost use mathlib.Core.Path.{_≡_};
-ghost use Prim.Native.Nat.{_<_, _^_};
+ghost use Prim.Native.Nat.{_<_, _≤_, _^_};
 ghost use lib.Bits.{bitOr};
-ghost use Rattle.plan.specs.Layout.{stored, pieceOf, putOf, none, PutFits};
+ghost use Rattle.plan.specs.Layout.{stored, pieceOf, none, layoutOn};
+ghost use Rattle.plan.specs.Lent.{placedIn, Fitting};
 
 // A piece of the task at place k, as the plan keeps it.
 pub fn store(k: usize, q: Piece) -> Stored
@@ -48,25 +50,6 @@ pub fn with_bit(word: u64, k: usize) -> u64
     word | (1u64 << k)
 }
 
-// One piece more, of the task at place k, on core p.
-pub fn put(s: Layout, p: usize, k: usize, q: Piece) -> Layout
-    requires { ⌜ PutFits s p k ⌝ }
-    ensures { λ r. ⌜ r ≡ putOf s p k q ⌝ }
-{
-    let count = s.count;
-    let len = s.lens[p];
-    let word = s.words[p];
-    let piece = store(k, q);
-    let word = with_bit(word, k);
-    let mut next = s;
-    next.pieces[count] = piece;
-    next.rows[p * 64 + len] = count;
-    next.lens[p] = len + 1;
-    next.words[p] = word;
-    next.count = count + 1;
-    next
-}
-
 // Nothing placed yet.
 pub fn empty() -> Layout
     ensures { λ r. ⌜ r ≡ none ⌝ }
@@ -88,4 +71,28 @@ pub fn empty() -> Layout
         lens: [0usize; 16],
         words: [0u64; 16],
     }
+}
+
+// The first n that were placed, one piece at a time.
+pub fn layout_of(placed: &[u64; 711], n: usize) -> Layout
+    requires { ⌜ (n ≤ 79) × Fitting (placedIn (now placed) n) ⌝ }
+    ensures { λ r. ⌜ r ≡ layoutOn none (placedIn (now (placed .entry)) n) ⌝ }
+{
+    let mut s = empty();
+    let mut i: usize = 0;
+    while i < n {
+        let e = seat_at(placed, i);
+        let p = e.core;
+        let k = e.task;
+        let q = e.piece;
+        let len = s.lens[p];
+        let word = s.words[p];
+        s.pieces[i] = store(k, q);
+        s.rows[p * 64 + len] = i;
+        s.lens[p] = len + 1;
+        s.words[p] = with_bit(word, k);
+        i += 1;
+        s.count = i;
+    }
+    s
 }

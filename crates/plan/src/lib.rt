@@ -2,18 +2,22 @@
 mod layouts;
 mod orders;
 mod rows;
+mod seats;
+mod times;
 mod walks;
 
 use demand::Costs;
 use demand::Piece;
 use layouts::empty;
+use layouts::layout_of;
 use layouts::piece_of;
 use orders::order_of;
-use rows::no_task;
-use rows::tidy;
 use task::Machine;
 use task::Tasks;
 use task::state_fault;
+use times::lay_times;
+use times::no_task;
+use times::tidy;
 use walks::walk_over;
 ghost use mathlib.Core.Path.{_≡_};
 ghost use Rattle.plan.specs.Layout.{tasksOn, pieceOf};
@@ -56,23 +60,25 @@ pub struct Reply {
     pub plan: Plan,
 }
 
+/// A placed piece: its core, from 0, its task's place, and the piece.
+pub struct Seat {
+    pub core: usize,
+    pub task: usize,
+    pub piece: Piece,
+}
+
 /// A core's row on the walk: the numbers of its pieces, in placement order.
 pub struct Row {
     pub len: usize,
     pub numbers: [usize; 64],
 }
 
-/// A walk under way: the core, its row, and what was placed; or the place, from 1, of the task that it stuck at.
+/// A walk under way: the core, its row, and how many pieces are placed; or the place, from 1, of the task that it stuck at.
 pub struct Going {
     pub stuck: usize,
     pub core: usize,
     pub row: Row,
-    pub layout: Layout,
-}
-
-/// Places in packing order.
-pub struct Order {
-    pub places: [usize; 64],
+    pub count: usize,
 }
 
 // A refusal: its number, what it carries, and no plan.
@@ -118,14 +124,21 @@ pub fn plan_tasks(machine: Machine, costs: Costs, tasks: Tasks) -> Reply
     if fault != 0 {
         return refuse(fault, 0);
     }
-    let clean = tidy(tasks);
-    let order = order_of(clean);
-    let end = walk_over(machine, costs, clean, order);
+    let n = tasks.count;
+    let mut times: [u64; 384] = [0; 384];
+    lay_times(&mut times, tasks);
+    let mut order: [usize; 64] = [0; 64];
+    order_of(&times, n, &mut order);
+    let mut placed: [u64; 711] = [0; 711];
+    let mut records: [u64; 553] = [0; 553];
+    let end = walk_over(machine, costs, &times, n, &order, &mut placed, &mut records);
     let stuck = end.stuck;
     if 0 < stuck {
         return refuse(7, stuck);
     }
-    let layout = end.layout;
+    let count = end.count;
+    let clean = tidy(tasks);
+    let layout = layout_of(&placed, count);
     let plan = Plan {
         machine: machine,
         costs: costs,

@@ -1,83 +1,72 @@
-// The C=D walk.
+// The C=D walk. What it placed lies in a lent array, and the records to be judged in another.
 use crate::Going;
-use crate::Order;
 use crate::Row;
-use crate::layouts::empty;
-use crate::layouts::put;
-use crate::rows::run_of;
+use crate::rows::lay_row;
+use crate::seats::put_seat;
+use crate::times::times_at;
 use demand::Answer;
 use demand::Costs;
 use demand::Piece;
 use demand::Split;
 use demand::Splitting;
 use demand::Verdict;
+use demand::first_piece;
+use demand::judge_records;
+use demand::last_piece;
+use demand::put_record;
+use demand::split_records;
 use task::Machine;
-use task::Tasks;
 use task::whole_piece;
 ghost use mathlib.Core.Path.{_≡_};
 ghost use mathlib.Core.List.{[], _∷_, _++_};
-ghost use Prim.Native.Nat.{_+_, _-_, _<_, _≤_};
-ghost use lib.ListN.{take};
-ghost use Rattle.demand.specs.Sizes.{Sized, SizedCosts, Each};
+ghost use Prim.Native.Nat.{_+_, _-_, _<_};
+ghost use lib.ListN.{take, length};
+ghost use Rattle.demand.specs.Sizes.{Sized};
 ghost use Rattle.demand.specs.Split.{greatestSplit, firstPiece, lastPiece};
 ghost use Rattle.demand.specs.Verdict.{verdictOf};
-ghost use Rattle.plan.specs.Going.{told, RowFits, SeatFits, LandFits, seatOf, nextOf, stickOf, beginOf, Reach, WalkFits};
-ghost use Rattle.plan.specs.Layout.{none};
-ghost use Rattle.plan.specs.Plan.{wholeAt};
+ghost use Rattle.plan.specs.Going.{told, asked, AskFits, SeatFits, BothFit, LandFits, seatedOf, nextOf, stickOf, beginOf, Both, Reach, WalkFits};
+ghost use Rattle.plan.specs.Lent.{seatOf, placedIn, wholeIn, Put};
 ghost use Rattle.plan.specs.Walk.{place, walk, start, rulesFor};
 
-// The verdict on the core with one piece more.
-pub fn judge_with(costs: Costs, going: Going, q: Piece) -> Verdict
-    requires { ⌜ RowFits costs going ⌝ }
+// The verdict on the first n records with one piece more, which then lies behind them.
+pub fn judge_with(costs: Costs, records: &mut [u64; 553], n: usize, q: Piece) -> Verdict
+    requires { ⌜ AskFits costs (now records) n ⌝ }
     requires { ⌜ Sized q ⌝ }
-    ensures { λ r. ⌜ r ≡ verdictOf costs (told going ++ (q ∷ [])) ⌝ }
+    ensures { λ r. ⌜ (r ≡ verdictOf costs (asked (now (records .entry)) n ++ (q ∷ []))) × (asked (now (records .exit)) (n + 1) ≡ asked (now (records .entry)) n ++ (q ∷ [])) × (length (now (records .exit)) ≡ 553) ⌝ }
 {
-    let layout = going.layout;
-    let pieces = layout.pieces;
-    let row = going.row;
-    let n = row.len;
-    let mut run = run_of(pieces, row);
-    run.pieces[n] = q;
-    run.count = n + 1;
-    let Answer::Judged(v) = demand::judge(costs, run) else {
+    put_record(records, n, q);
+    let Answer::Judged(v) = judge_records(costs, records, n + 1) else {
         return Verdict::Undecided;
     };
     v
 }
 
-// The greatest split of a whole piece on the core.
-pub fn split_on(costs: Costs, grain: u64, going: Going, q: Piece) -> Split
-    requires { ⌜ RowFits costs going ⌝ }
+// The greatest split of a whole piece beside the first n records.
+pub fn split_on(costs: Costs, grain: u64, records: &[u64; 553], n: usize, q: Piece) -> Split
+    requires { ⌜ AskFits costs (now records) n ⌝ }
     requires { ⌜ Sized q ⌝ }
-    ensures { λ r. ⌜ r ≡ greatestSplit costs grain (told going) q ⌝ }
+    ensures { λ r. ⌜ r ≡ greatestSplit costs grain (asked (now (records .entry)) n) q ⌝ }
 {
-    let layout = going.layout;
-    let pieces = layout.pieces;
-    let row = going.row;
-    let run = run_of(pieces, row);
-    let Splitting::Best(s) = demand::split_task(costs, run, q, grain) else {
+    let Splitting::Best(s) = split_records(costs, records, n, q, grain) else {
         return Split::Nowhere;
     };
     s
 }
 
 // A piece of the task at place k on the core.
-pub fn seat(going: Going, k: usize, q: Piece) -> Going
-    requires { ⌜ SeatFits going k ⌝ }
-    ensures { λ r. ⌜ r ≡ seatOf going k q ⌝ }
+pub fn seat(placed: &mut [u64; 711], going: Going, k: usize, q: Piece) -> Going
+    requires { ⌜ SeatFits (now placed) going ⌝ }
+    ensures { λ r. ⌜ (r ≡ seatedOf going) × Put (now (placed .entry)) (going .count) (seatOf (going .core) k q) (now (placed .exit)) ⌝ }
 {
-    let layout = going.layout;
-    let row = going.row;
-    let core = going.core;
+    let number = going.count;
+    put_seat(placed, number, going.core, k, q);
+    let mut row = going.row;
     let n = row.len;
-    let number = layout.count;
-    let mut longer = row;
-    longer.numbers[n] = number;
-    longer.len = n + 1;
-    let more = put(layout, core, k, q);
+    row.numbers[n] = number;
+    row.len = n + 1;
     let mut next = going;
-    next.row = longer;
-    next.layout = more;
+    next.row = row;
+    next.count = number + 1;
     next
 }
 
@@ -107,7 +96,6 @@ pub fn stick(going: Going, k: usize) -> Going
 pub fn begin() -> Going
     ensures { λ r. ⌜ r ≡ beginOf ⌝ }
 {
-    let layout = empty();
     let row = Row {
         len: 0,
         numbers: [0usize; 64],
@@ -116,54 +104,80 @@ pub fn begin() -> Going
         stuck: 0,
         core: 0,
         row: row,
-        layout: layout,
-    }
-}
-
-// The task at place k, with the whole piece `whole`, from the core on: document 01's four rules.
-pub fn land(machine: Machine, costs: Costs, going: Going, k: usize, whole: Piece) -> Going
-    requires { ⌜ LandFits (machine .cores) costs going k ⌝ }
-    requires { ⌜ Sized whole ⌝ }
-    ensures { λ r. ⌜ Reach (going .layout) r (place (rulesFor costs (machine .grain) (λ j. whole)) k (machine .cores - 1 - going .core) (going .core) (told going)) ⌝ }
-{
-    let mut here = going;
-    loop {
-        let Verdict::Passes = judge_with(costs, here, whole) else {
-            if here.core + 1 == machine.cores {
-                return stick(here, k);
-            }
-            let Split::Cut(x, w) = split_on(costs, machine.grain, here, whole) else {
-                here = next_core(here);
-                continue;
-            };
-            return seat_both(costs, here, k, whole, x, w);
-        };
-        return seat(here, k, whole);
+        count: 0,
     }
 }
 
 // Both pieces of a split: the first on the core, the last alone on the next.
-pub fn seat_both(costs: Costs, going: Going, k: usize, whole: Piece, x: u64, w: u64) -> Going
-    requires { ⌜ SeatFits going k × SeatFits (nextOf (seatOf going k (firstPiece whole x w))) k ⌝ }
-    ensures { λ r. ⌜ r ≡ seatOf (nextOf (seatOf going k (firstPiece whole x w))) k (lastPiece costs whole x w) ⌝ }
+pub fn seat_both(
+    costs: Costs,
+    placed: &mut [u64; 711],
+    going: Going,
+    k: usize,
+    whole: Piece,
+    x: u64,
+    w: u64,
+) -> Going
+    requires { ⌜ BothFit (now placed) going ⌝ }
+    ensures { λ r. ⌜ (r ≡ seatedOf (nextOf (seatedOf going))) × Both (now (placed .entry)) (going .count) (seatOf (going .core) k (firstPiece whole x w)) (seatOf (going .core + 1) k (lastPiece costs whole x w)) (now (placed .exit)) ⌝ }
 {
-    let one = seat(going, k, demand::first_piece(whole, x, w));
+    let one = seat(placed, going, k, first_piece(whole, x, w));
     let two = next_core(one);
-    seat(two, k, demand::last_piece(costs, whole, x, w))
+    seat(placed, two, k, last_piece(costs, whole, x, w))
 }
 
-// The walk over the tasks in packing order.
-pub fn walk_over(machine: Machine, costs: Costs, tasks: Tasks, order: Order) -> Going
-    requires { ⌜ WalkFits machine costs tasks order ⌝ }
-    ensures { λ r. ⌜ Reach none r (walk (rulesFor costs (machine .grain) (wholeAt (tasks .list))) (start (machine .cores)) (take (tasks .count) (order .places))) ⌝ }
+// The task at place k, with the whole piece `whole`, from the core on: document 01's four rules.
+pub fn land<'a>(
+    machine: Machine,
+    costs: Costs,
+    placed: &'a mut [u64; 711],
+    records: &'a mut [u64; 553],
+    going: Going,
+    k: usize,
+    whole: Piece,
+) -> Going
+    requires { ⌜ LandFits (machine .cores) costs (now placed) (now records) going k ⌝ }
+    requires { ⌜ Sized whole ⌝ }
+    ensures { λ r. ⌜ Reach (placedIn (now (placed .entry)) (going .count)) (now (placed .exit)) (now (records .exit)) r (place (rulesFor costs (machine .grain) (λ j. whole)) k (machine .cores - 1 - going .core) (going .core) (told (now (placed .entry)) (going .row))) ⌝ }
+{
+    let mut here = going;
+    loop {
+        let row = here.row;
+        let n = row.len;
+        lay_row(records, placed, row);
+        let Verdict::Passes = judge_with(costs, records, n, whole) else {
+            if here.core + 1 == machine.cores {
+                return stick(here, k);
+            }
+            let Split::Cut(x, w) = split_on(costs, machine.grain, records, n, whole) else {
+                here = next_core(here);
+                continue;
+            };
+            return seat_both(costs, placed, here, k, whole, x, w);
+        };
+        return seat(placed, here, k, whole);
+    }
+}
+
+// The walk over the first n tasks in packing order.
+pub fn walk_over<'a>(
+    machine: Machine,
+    costs: Costs,
+    times: &'a [u64; 384],
+    n: usize,
+    order: &'a [usize; 64],
+    placed: &'a mut [u64; 711],
+    records: &'a mut [u64; 553],
+) -> Going
+    requires { ⌜ WalkFits machine costs (now times) n (now order) (now placed) (now records) ⌝ }
+    ensures { λ r. ⌜ Reach [] (now (placed .exit)) (now (records .exit)) r (walk (rulesFor costs (machine .grain) (wholeIn (now (times .entry)))) (start (machine .cores)) (take n (now (order .entry)))) ⌝ }
 {
     let mut going = begin();
     let mut i: usize = 0;
-    while i < tasks.count {
-        let k = order.places[i];
-        let task = tasks.list[k];
-        let times = task.times;
-        going = land(machine, costs, going, k, whole_piece(times));
+    while i < n {
+        let k = order[i];
+        let whole = whole_piece(times_at(times, k));
+        going = land(machine, costs, placed, records, going, k, whole);
         if 0 < going.stuck {
             return going;
         }

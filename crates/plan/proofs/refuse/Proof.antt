@@ -6,7 +6,7 @@ use Rattle.plan.proofs.refuse.Tie as tie
 use Rattle.plan.proofs.refuse.Reads as reads
 use Rattle.plan.proofs.refuse.Lts as lts
 use Rattle.plan.proofs.layouts.empty.Reads as empty-reads
-use Rattle.plan.proofs.rows.no_task.Reads as no-task-reads
+use Rattle.plan.proofs.times.no_task.Reads as no-task-reads
 
 no-task-requires : tie.Need-no-task-requires
 no-task-requires c κs = search needs

@@ -1,27 +1,32 @@
--- `walks::seat` meets its contract: the piece's number goes behind the row, the piece into the layout.
-use Rattle.plan.specs.Going.{seatOf}
+-- `walks::seat` meets its contract: the piece is placed, and its number goes behind the row.
+use mathlib.Core.Path.{refl}
+use Rattle.plan.specs.Going.{seatedOf}
 use borrow.Author.Needs.{needs}
 use Rattle.plan.proofs.walks.seat.Statement.{statement}
 use Rattle.plan.proofs.walks.seat.Tie as tie
 use Rattle.plan.proofs.walks.seat.Reads as reads
 use Rattle.plan.proofs.walks.seat.Lts as lts
-use Rattle.plan.proofs.layouts.put.Reads as put-reads
+use Rattle.plan.proofs.seats.put_seat.Reads as put-seat-reads
 
-mul-longer : tie.Need-mul-longer
-mul-longer c = search needs
+put-seat-requires : tie.Need-put-seat-requires
+put-seat-requires c κs = search needs
 
-element-write-longer : tie.Need-element-write-longer
-element-write-longer c = search needs
+mul-row : tie.Need-mul-row
+mul-row c = search needs
 
-add-longer : tie.Need-add-longer
-add-longer c = search needs
+element-write-row : tie.Need-element-write-row
+element-write-row c = search needs
 
-put-requires : tie.Need-put-requires
-put-requires c κs = search needs
+add-row : tie.Need-add-row
+add-row c = search needs
+
+add-next : tie.Need-add-next
+add-next c = search needs
 
 returns : tie.Need-returns
-unfolding seatOf
-returns c = cc
+unfolding seatedOf
+returns c = (refl, c .before .put-seat .ensures)
 
 pub seat-spec : {M : Type 1} → statement M
-seat-spec = tie.close (tie.spec mul-longer element-write-longer add-longer put-requires returns)
+seat-spec =
+    tie.close (tie.spec put-seat-requires mul-row element-write-row add-row add-next returns)

@@ -1,10 +1,9 @@
--- `walks::seat_both` meets its contract: the first piece here, the last one on the next core.
-use mathlib.Core.Path.{_≡_, sym, ap, _∙_}
+-- `walks::seat_both` meets its contract: the first piece behind the row, then the last one on the next core.
+use mathlib.Core.Path.{_≡_, ap, _∙_}
 use native.Mathlib.Omega.{arith}
-use Rattle.demand.specs.declared.Piece.{Piece}
-use Rattle.demand.specs.Split.{firstPiece}
 use Rattle.plan.specs.declared.Going.{Going}
-use Rattle.plan.specs.Going.{seatOf, nextOf, SeatFits}
+use Rattle.plan.specs.Going.{seatedOf, nextOf}
+use Rattle.plan.proofs.GoingLaws.{both-put}
 use borrow.Author.Needs.{needs}
 use Rattle.plan.proofs.walks.seat_both.Statement.{statement}
 use Rattle.plan.proofs.walks.seat_both.Tie as tie
@@ -19,24 +18,32 @@ first-piece-requires : tie.Need-first-piece-requires
 first-piece-requires c κs = search needs
 
 seat-requires : tie.Need-seat-requires
-seat-requires c κs = c .before .pre .0
+seat-requires c κs = search needs
 
 next-core-requires : tie.Need-next-core-requires
-unfolding seatOf
+unfolding seatedOf
 next-core-requires c κs =
-    let e : c .seat .result .core ≡ c .before .before .args .going .core = ap (λ (z : Going). z .core) (c .seat .ensures) in
-    omega (arith, c .before .before .pre .0 .core)
+    let e : c .seat .result .core ≡ c .before .before .before .args .going .core = ap (λ (z : Going). z .core) (c .seat .ensures .0) in
+    omega (arith, c .before .before .before .pre .core)
 
 last-piece-requires : tie.Need-last-piece-requires
 last-piece-requires c κs = search needs
 
 seat-requires-2 : tie.Need-seat-requires-2
+unfolding seatedOf nextOf
 seat-requires-2 c κs =
-    let s = c .before .before .before .before .args in
-    rw (c .before .next-core .ensures, c .before .before .seat .ensures, c .before .before .before .first-piece .ensures) (c .before .before .before .before .pre .1)
+    record {
+      room = rw (c .before .before .next-core .ensures, c .before .before .before .seat .ensures .0) (c .before .before .before .before .before .before .pre .room);
+      free = rw (c .before .before .next-core .ensures) (omega arith);
+      size = c .before .before .before .seat .ensures .1 .size;
+    }
 
 returns : tie.Need-returns
-returns c = cc (c .seat2 .ensures, c .before .last-piece .ensures, c .before .before .next-core .ensures, c .before .before .before .seat .ensures, c .before .before .before .before .first-piece .ensures)
+returns c =
+    let s = c .before .before .before .before .before .before .before .args in (
+      c .seat2 .ensures .0 ∙ ap seatedOf (c .before .before .before .next-core .ensures ∙ ap nextOf (c .before .before .before .before .seat .ensures .0)),
+      rw (← c .before .before .before .before .before .first-piece .ensures, ← c .before .last-piece .ensures) (both-put (s .placed .now) _ _ (s .going) (c .before .before .before .before .seat .result) (c .before .before .before .next-core .result) (s .k) (c .before .before .before .before .before .first-piece .result) (c .before .last-piece .result) (c .before .before .before .before .seat .ensures .0) (c .before .before .before .next-core .ensures) (c .before .before .before .before .seat .ensures .1) (c .seat2 .ensures .1)),
+    )
 
 pub seat-both-spec : {M : Type 1} → statement M
 seat-both-spec =

@@ -2,20 +2,18 @@
 use Rattle.demand.proofs.RunLaws.{length-mapped}
 use Rattle.plan.proofs.Lists.{fill-end}
 use borrow.Author.Needs.{needs}
-use mathlib.Core.Path.{_≡_, refl, sym, ap, _∙_}
-use mathlib.Core.List.{List, _++_, append-nil}
-use Prim.Native.Nat.{ℕ, _≤_, _-_}
+use mathlib.Core.Path.{_≡_, _∙_}
+use mathlib.Core.List.{_++_}
+use Prim.Native.Nat.{_≤_, _-_}
 use native.Mathlib.Omega.{arith}
-use lib.ListN.{length, take, drop, replicate, take-append-drop, length-set, drop-of-length-le}
-use lib.Seq.{length-take-le}
-use Rattle.task.specs.declared.Task.{Task}
+use lib.ListN.{length, take, drop, replicate, length-set}
 use Rattle.plan.specs.Plan.{noTask, padded}
 use Rattle.plan.proofs.Lists.{fill-more, fill-none}
-use Rattle.plan.proofs.rows.tidy.Statement.{statement}
-use Rattle.plan.proofs.rows.tidy.Tie as tie
-use Rattle.plan.proofs.rows.tidy.Reads as reads
-use Rattle.plan.proofs.rows.tidy.Lts as lts
-use Rattle.plan.proofs.rows.no_task.Reads as no-task-reads
+use Rattle.plan.proofs.times.tidy.Statement.{statement}
+use Rattle.plan.proofs.times.tidy.Tie as tie
+use Rattle.plan.proofs.times.tidy.Reads as reads
+use Rattle.plan.proofs.times.tidy.Lts as lts
+use Rattle.plan.proofs.times.no_task.Reads as no-task-reads
 
 abbrev Inv-loop : tie.InvT-loop
 Inv-loop next₀ blank i₀ next i = (next₀ .count ≤ i) × (i ≤ 64) × (next .count ≡ next₀ .count) × (blank ≡ noTask) × (length (next₀ .list) ≡ 64) × (length (next .list) ≡ 64) × (next .list ≡ (take (next₀ .count) (next₀ .list) ++ replicate (i - next₀ .count) noTask) ++ drop i (next₀ .list))

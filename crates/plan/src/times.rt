@@ -1,0 +1,89 @@
+// A list of tasks with zeros past its end; and its times, laid out once in one array of numbers, six to a task, and lent from then on.
+use task::Name;
+use task::Task;
+use task::Tasks;
+use task::Times;
+ghost use mathlib.Core.Path.{_≡_};
+ghost use Prim.Native.Nat.{_<_, _≤_};
+ghost use lib.ListN.{take, length, replicate};
+ghost use Rattle.plan.specs.Lent.{timesAt, Laid, Kept};
+ghost use Rattle.plan.specs.Plan.{noTask, padded};
+
+pub fn no_task() -> Task
+    ensures { λ r. ⌜ r ≡ noTask ⌝ }
+{
+    let name = Name {
+        len: 0,
+        bytes: [0u8; 24],
+    };
+    let times = Times {
+        worst: 0,
+        deadline: 0,
+        period: 0,
+        jitter: 0,
+        preempt: 0,
+        migrate: 0,
+    };
+    Task {
+        name: name,
+        times: times,
+    }
+}
+
+// The list with zeros past its end.
+pub fn tidy(tasks: Tasks) -> Tasks
+    requires { ⌜ tasks .count ≤ 64 ⌝ }
+    ensures { λ r. ⌜ (r .count ≡ tasks .count) × (r .list ≡ padded (take (tasks .count) (tasks .list))) ⌝ }
+{
+    let mut next = tasks;
+    let blank = no_task();
+    let mut i = tasks.count;
+    while i < 64 {
+        next.list[i] = blank;
+        i += 1;
+    }
+    next
+}
+
+// The times of the task at place i.
+pub fn times_at(times: &[u64; 384], i: usize) -> Times
+    requires { ⌜ i < 64 ⌝ }
+    ensures { λ r. ⌜ r ≡ timesAt (now (times .entry)) i ⌝ }
+{
+    let at = 6 * i;
+    Times {
+        worst: times[at],
+        deadline: times[at + 1],
+        period: times[at + 2],
+        jitter: times[at + 3],
+        preempt: times[at + 4],
+        migrate: times[at + 5],
+    }
+}
+
+// The times t go to place i.
+pub fn put_times(times: &mut [u64; 384], i: usize, t: Times)
+    requires { ⌜ (i < 64) × (length (now times) ≡ 384) ⌝ }
+    ensures { λ r. ⌜ (timesAt (now (times .exit)) i ≡ t) × Kept i (now (times .entry)) (now (times .exit)) × (length (now (times .exit)) ≡ 384) ⌝ }
+{
+    let at = 6 * i;
+    times[at] = t.worst;
+    times[at + 1] = t.deadline;
+    times[at + 2] = t.period;
+    times[at + 3] = t.jitter;
+    times[at + 4] = t.preempt;
+    times[at + 5] = t.migrate;
+}
+
+// The times of the tasks go into an array of zeros.
+pub fn lay_times(times: &mut [u64; 384], tasks: Tasks)
+    requires { ⌜ (tasks .count ≤ 64) × (now times ≡ replicate 384 0) ⌝ }
+    ensures { λ r. ⌜ Laid (now (times .exit)) (take (tasks .count) (tasks .list)) ⌝ }
+{
+    let mut i: usize = 0;
+    while i < tasks.count {
+        let task = tasks.list[i];
+        put_times(times, i, task.times);
+        i += 1;
+    }
+}
