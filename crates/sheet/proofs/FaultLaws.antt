@@ -3,14 +3,13 @@
 --
 --   rule-kept                               a rule that is not broken
 --   line-machine, -cost, -part, -fit        every rule of a good line holds
---   room-none, room-some                    whether one more has room, by the count
---   times-absent, -inside, -there           the times of the part at a place
+--   times-inside, times-there               the times of the part at a place
 use mathlib.Core.Path.{_≡_, refl, sym, ap, _∙_}
 use mathlib.Core.Bool.{Bool, true, false, cond, not}
 use mathlib.Core.List.{List, [], _∷_}
 use Prim.Native.Nat.{ℕ, suc, _+_, _-_, _≤_, _<_}
 use native.Mathlib.Omega.{arith}
-use borrow.Author.Tests.{eqb-true, eqb-false, ltb-true, leb-true, lt-ltb, le-ltb, not-true}
+use borrow.Author.Tests.{eqb-true, eqb-false, ltb-true, leb-true, not-true}
 use lib.Dec.{leb, eqb}
 use lib.ListN.{length, take, getD, length-take}
 use lib.Seq.{getD-take}
@@ -23,7 +22,6 @@ use Rattle.task.specs.Names.{sameName}
 use Rattle.task.specs.Tasks.{tasksMost, sizedMachine, wholePiece, placeOf, rule}
 use Rattle.lines.specs.declared.Word.{Word}
 use Rattle.lines.specs.declared.Line.{Line}
-use Rattle.lines.specs.Forms.{noTimes}
 use Rattle.sheet.specs.Sheet.{Above, atTop, belowMachine, amongParts, free, room, machineFault, costFault, partFault, fitFault, wordFault, lineFault, partTimes}
 
 -- ---- good lines
@@ -102,24 +100,7 @@ module _ (a : Above) (l : Line) (none : lineFault a l ≡ 0) where
   pub line-fit : l .word ≡ Word.Fit → FitKept (a .stage) (l .task .name) (l .part) (a .parts) (a .tasks)
   line-fit word = fit-kept (a .stage) (l .task .name) (l .part) (a .parts) (a .tasks) (by-word Word.Fit word)
 
--- ---- room, by the count of an array that is full at 64
-
-module _ (count : ℕ) (list : List Task) (long : length list ≡ tasksMost) where
-  pub room-none : tasksMost ≤ count → room (take count list) ≡ false
-  room-none full = le-ltb (length (take count list)) tasksMost (omega (arith, length-take count list))
-
-  pub room-some : count < tasksMost → room (take count list) ≡ true
-  room-some less = lt-ltb (length (take count list)) tasksMost (omega (arith, length-take count list))
-
 -- ---- the times of a part
-
-times-none : (k : ℕ) (n : Name) (ts : List Task) → 1 ≤ k → placeOf k n ts ≡ 0 → partTimes n ts ≡ noTimes
-times-none k n [] pos none = refl
-times-none k n (t ∷ ts) pos none = by-test (sameName n (t .name)) (λ h. times-none (k + 1) n ts (omega arith) h) none
-  where
-    by-test : (b : Bool) → (placeOf (k + 1) n ts ≡ 0 → partTimes n ts ≡ noTimes) → cond b k (placeOf (k + 1) n ts) ≡ 0 → cond b (t .times) (partTimes n ts) ≡ noTimes
-    by-test true h e = absurd (omega arith)
-    by-test false h e = h e
 
 -- the place of a part, counted from k, and its times
 record At (k : ℕ) (n : Name) (ts : List Task) (p : ℕ) : Type 0 where
@@ -145,9 +126,6 @@ times-some k n (t ∷ ts) pos some = by-test (sameName n (t .name)) refl (λ h. 
 
 -- the same in an array
 module _ (n : Name) (count : ℕ) (list : List Task) (long : length list ≡ tasksMost) (k : ℕ) (place : k ≡ placeOf 1 n (take count list)) where
-  pub times-absent : k ≡ 0 → partTimes n (take count list) ≡ noTimes
-  times-absent none = times-none 1 n (take count list) (omega arith) (sym place ∙ none)
-
   module _ (some : k ≡ 0 → ⊥) where
     found : At 1 n (take count list) k
     found = rw place (times-some 1 n (take count list) (omega arith) (λ none. some (place ∙ none)))

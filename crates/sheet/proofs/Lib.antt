@@ -2,6 +2,7 @@
 pub mod FaultLaws
 pub mod DraftLaws
 pub mod ReadLaws
+pub mod StandLaws
 pub mod WholeLaws
 pub mod ArrowLaws
 pub mod RuleLaws

@@ -2,7 +2,7 @@
 -- Assumes nothing.
 --
 --   Fits a                   what stands above has at most 64 parts and 64 tasks
---   Reached bytes d at n     the lines above line n are read into the draft d, and line n starts at `at`
+--   Reached bytes a at n     the lines above line n say a, and line n starts at `at`
 --   read-long                over 16,384 bytes
 --   reached-top, -cut, -bad, -line, -missing, -whole
 use mathlib.Core.Path.{_≡_, refl, sym, ap, _∙_}
@@ -14,14 +14,11 @@ use lib.ListN.{length, take, length-append, drop-of-length-le}
 use Rattle.task.specs.Tasks.{tasksMost}
 use Rattle.lines.specs.declared.Word.{Word}
 use Rattle.lines.specs.declared.Line.{Line}
-use Rattle.sheet.specs.declared.Draft.{Draft}
 use Rattle.lines.specs.Lines.{newline, upTo, beyond}
 use Rattle.lines.specs.Forms.{lineOf}
 use Rattle.sheet.specs.Sheet.{Above, top, amongParts, lineFault, wordAfter, after, Outcome, refused, whole, ending, next, readFrom, sheetMost, outcomeOf, shown, readOf}
-use Rattle.sheet.specs.Held.{told, laid}
 use Rattle.lines.proofs.LineLaws.{rest, rest-drop, rest-length, rest-rest, run-le, run-take, run-whole, run-last, run-more}
 use Rattle.sheet.proofs.FaultLaws.{line-part, line-fit}
-use Rattle.sheet.proofs.DraftLaws.{told-laid}
 
 -- ---- a good line leaves room for what it adds
 
@@ -52,43 +49,35 @@ next-bad : (k n : ℕ) (others : Outcome) → (k ≡ 0 → ⊥) → next k n oth
 next-bad zero n others bad = absurd (bad refl)
 next-bad (suc k) n others bad = refl
 
-pub record Reached (bytes : List ℕ) (d : Draft) (at n : ℕ) : Type 0 where
+pub record Reached (bytes : List ℕ) (a : Above) (at n : ℕ) : Type 0 where
   pub on : at ≤ length bytes
   pub near : n ≤ at + 1
-  pub kept : d ≡ laid (told d)
-  pub fits : Fits (told d)
-  pub so-far : outcomeOf bytes ≡ readFrom (told d) n (upTo newline (rest bytes at)) (beyond newline (rest bytes at))
+  pub fits : Fits a
+  pub so-far : outcomeOf bytes ≡ readFrom a n (upTo newline (rest bytes at)) (beyond newline (rest bytes at))
 
--- a draft that holds what stands above
-held : (d : Draft) (a : Above) → Fits a → d ≡ laid a → told d ≡ a
-held d a fits e = ap told e ∙ told-laid a (fits .parts-fit) (fits .tasks-fit)
-
-pub reached-top : (bytes : List ℕ) (d : Draft) → d ≡ laid top → length bytes ≤ sheetMost → Reached bytes d 0 1
+pub reached-top : (bytes : List ℕ) → length bytes ≤ sheetMost → Reached bytes top 0 1
 unfolding outcomeOf
-reached-top bytes d blank short =
-    let fits : Fits top = record { parts-fit = omega arith; tasks-fit = omega arith } in
-    let tells : told d ≡ top = held d top fits blank in
+reached-top bytes short =
     record {
       on = omega arith;
       near = omega arith;
-      kept = blank ∙ ap laid (sym tells);
-      fits = rw tells fits;
-      so-far = rw (tells, rest-drop bytes 0, le-leb (length bytes) sheetMost short);
+      fits = record { parts-fit = omega arith; tasks-fit = omega arith };
+      so-far = rw (rest-drop bytes 0, le-leb (length bytes) sheetMost short);
     }
 
-module _ (bytes : List ℕ) (d : Draft) (at n : ℕ) (r : Reached bytes d at n) where
+module _ (bytes : List ℕ) (a : Above) (at n : ℕ) (r : Reached bytes a at n) where
   -- no line is left
-  at-end : length bytes ≤ at → outcomeOf bytes ≡ ending (told d) n []
+  at-end : length bytes ≤ at → outcomeOf bytes ≡ ending a n []
   unfolding readFrom upTo beyond
   at-end end = r .so-far ∙ rw (rest-drop bytes at, drop-of-length-le bytes {i = at} end)
 
-  pub reached-missing : length bytes ≤ at → d .stage < amongParts → shown (refused 8 n) ≡ readOf bytes
-  unfolding readOf told
-  reached-missing end early = rw (at-end end, lt-leb amongParts (d .stage) early)
+  pub reached-missing : length bytes ≤ at → a .stage < amongParts → shown (refused 8 n) ≡ readOf bytes
+  unfolding readOf
+  reached-missing end early = rw (at-end end, lt-leb amongParts (a .stage) early)
 
-  pub reached-whole : length bytes ≤ at → amongParts ≤ d .stage → shown (whole (told d)) ≡ readOf bytes
-  unfolding readOf told
-  reached-whole end late = rw (at-end end, le-leb amongParts (d .stage) late)
+  pub reached-whole : length bytes ≤ at → amongParts ≤ a .stage → shown (whole a) ≡ readOf bytes
+  unfolding readOf
+  reached-whole end late = rw (at-end end, le-leb amongParts (a .stage) late)
 
   module _ (e : ℕ) (run : e ≡ length (upTo newline (rest bytes at))) where
     -- a line without its newline
@@ -98,30 +87,27 @@ module _ (bytes : List ℕ) (d : Draft) (at n : ℕ) (r : Reached bytes d at n) 
         rw (r .so-far, run-last newline (rest bytes at) e run (omega arith), run-whole newline (rest bytes at) e run (omega arith))
         (some-left (rest bytes at) (omega (arith, rest-length bytes at)))
       where
-        some-left : (l : List ℕ) → 0 < length l → shown (refused 8 n) ≡ shown (ending (told d) n l)
+        some-left : (l : List ℕ) → 0 < length l → shown (refused 8 n) ≡ shown (ending a n l)
         some-left [] some = absurd (omega arith)
         some-left (b ∷ l) some = refl
 
     module _ (ended : e ≡ length (rest bytes at) → ⊥) (line : Line) (says : line ≡ lineOf (take e (rest bytes at))) where
-      one-line : outcomeOf bytes ≡ next (lineFault (told d) line) n (readFrom (after (told d) line) (n + 1) (upTo newline (rest bytes (at + e + 1))) (beyond newline (rest bytes (at + e + 1))))
+      one-line : outcomeOf bytes ≡ next (lineFault a line) n (readFrom (after a line) (n + 1) (upTo newline (rest bytes (at + e + 1))) (beyond newline (rest bytes (at + e + 1))))
       unfolding readFrom
       one-line =
           let more = run-more newline (rest bytes at) e run (omega (arith, run-le newline (rest bytes at) e run)) in
           r .so-far ∙ rw (more, rest-rest bytes at e, ← run-take newline (rest bytes at) e run, ← says)
 
-      pub reached-bad : (fault : ℕ) → fault ≡ lineFault (told d) line → (fault ≡ 0 → ⊥) → shown (refused fault n) ≡ readOf bytes
+      pub reached-bad : (fault : ℕ) → fault ≡ lineFault a line → (fault ≡ 0 → ⊥) → shown (refused fault n) ≡ readOf bytes
       unfolding readOf
       reached-bad fault judged bad = rw (one-line, ← judged) (ap shown (sym (next-bad fault n _ bad)))
 
-      pub reached-line : (fault : ℕ) → fault ≡ lineFault (told d) line → fault ≡ 0 → (t : Draft) → t ≡ laid (after (told d) line) → Reached bytes t (at + e + 1) (n + 1)
-      reached-line fault judged good t left =
-          let none : lineFault (told d) line ≡ 0 = sym judged ∙ good in
-          let fits = after-fits (told d) line none (r .fits) in
-          let tells : told t ≡ after (told d) line = held t (after (told d) line) fits left in
+      pub reached-line : (fault : ℕ) → fault ≡ lineFault a line → fault ≡ 0 → Reached bytes (after a line) (at + e + 1) (n + 1)
+      reached-line fault judged good =
+          let none : lineFault a line ≡ 0 = sym judged ∙ good in
           record {
             on = omega (arith, r .on, rest-length bytes at, run-le newline (rest bytes at) e run);
             near = omega (arith, r .near);
-            kept = left ∙ ap laid (sym tells);
-            fits = rw tells fits;
-            so-far = one-line ∙ rw (none, tells);
+            fits = after-fits a line none (r .fits);
+            so-far = one-line ∙ rw none;
           }

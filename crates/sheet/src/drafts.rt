@@ -1,22 +1,22 @@
 // What stands above a line, and what the line makes of it.
-use crate::Draft;
+use crate::Head;
 use demand::Costs;
 use lines::Line;
 use lines::Word;
 use lines::no_line;
 use task::Machine;
 use task::Name;
-use task::Task;
 use task::Tasks;
 use task::Times;
-use task::place_of;
 use task::whole_piece;
+ghost use mathlib.Core.Bool.{not};
 ghost use mathlib.Core.Path.{_≡_};
-ghost use mathlib.Core.List.{[], _∷_, _++_};
-ghost use Prim.Native.Nat.{_<_};
-ghost use Rattle.sheet.specs.Sheet.{top, machineFault, costFault, partFault, fitFault, lineFault, partTimes, withMachine, withCosts, withPart, withTask, after, tasksOf};
-ghost use Rattle.task.specs.Tasks.{listOf};
-ghost use Rattle.sheet.specs.Held.{told, laid};
+ghost use mathlib.Core.List.{[]};
+ghost use lib.Dec.{leb, ltb, eqb};
+ghost use Rattle.demand.specs.Sizes.{sized};
+ghost use Rattle.task.specs.Tasks.{wholePiece, rule};
+ghost use Rattle.sheet.specs.Sheet.{Above, machineFault, costFault, lineFault, after, tasksOf};
+ghost use Rattle.sheet.specs.Held.{headOf, sought, Found};
 
 // No task.
 pub fn no_tasks() -> Tasks
@@ -27,23 +27,6 @@ pub fn no_tasks() -> Tasks
     Tasks {
         count: 0,
         list: [none; 64],
-    }
-}
-
-// What stands above the first line.
-pub fn blank() -> Draft
-    ensures { λ r. ⌜ r ≡ laid top ⌝ }
-{
-    let line = no_line();
-    let machine = line.machine;
-    let costs = line.costs;
-    let none = no_tasks();
-    Draft {
-        stage: 0,
-        machine,
-        costs,
-        parts: none,
-        tasks: none,
     }
 }
 
@@ -73,55 +56,72 @@ pub fn cost_fault(stage: u64, costs: Costs) -> u64
     0
 }
 
-// What is wrong with a `part` line below these parts.
-pub fn part_fault(stage: u64, part: Task, parts: Tasks) -> u64
-    ensures { λ r. ⌜ r ≡ partFault stage part (listOf parts) ⌝ }
+// What is wrong with a `part` line with these times, where its name has that place among so many parts.
+pub fn part_fault(stage: u64, times: Times, twin: usize, parts: usize) -> u64
+    ensures { λ r. ⌜ r ≡ rule (eqb stage 2) 8 (rule (sized (wholePiece times)) 3 (rule (eqb twin 0) 4 (rule (ltb parts 64) 6 0))) ⌝ }
 {
     if stage != 2 {
         return 8;
     }
-    let name = part.name;
-    let times = part.times;
     if !demand::within_sizes(whole_piece(times)) {
         return 3;
     }
-    if place_of(name, parts) != 0 {
+    if twin != 0 {
         return 4;
     }
-    if 64 <= parts.count {
+    if 64 <= parts {
         return 6;
     }
     0
 }
 
-// What is wrong with a `fit` line below these parts and tasks.
-pub fn fit_fault(stage: u64, name: Name, part: Name, parts: Tasks, tasks: Tasks) -> u64
-    ensures { λ r. ⌜ r ≡ fitFault stage name part (listOf parts) (listOf tasks) ⌝ }
+// What is wrong with a `fit` line, where its part has that place, and its task that place among so many tasks.
+pub fn fit_fault(stage: u64, source: usize, twin: usize, tasks: usize) -> u64
+    ensures { λ r. ⌜ r ≡ rule (leb 2 stage) 8 (rule (eqb twin 0) 4 (rule (not (eqb source 0)) 5 (rule (ltb tasks 64) 6 0))) ⌝ }
 {
     if stage < 2 {
         return 8;
     }
-    if place_of(name, tasks) != 0 {
+    if twin != 0 {
         return 4;
     }
-    if place_of(part, parts) == 0 {
+    if source == 0 {
         return 5;
     }
-    if 64 <= tasks.count {
+    if 64 <= tasks {
         return 6;
     }
     0
 }
 
-// What is wrong with a line, or 0.
-pub fn line_fault(draft: Draft, line: Line) -> u64
-    ensures { λ r. ⌜ r ≡ lineFault (told draft) line ⌝ }
+// The name that a line looks for among the parts: a part's own, and that of a task's part.
+pub fn part_sought(line: Line) -> Name
+    ensures { λ r. ⌜ r ≡ sought (line .word) line ⌝ }
 {
-    let stage = draft.stage;
     let word = line.word;
     let task = line.task;
-    let name = task.name;
-    let parts = draft.parts;
+    match word {
+        Word::Machine => line.part,
+        Word::Cost => line.part,
+        Word::Part => task.name,
+        Word::Fit => line.part,
+        Word::Other => line.part,
+    }
+}
+
+// What is wrong with a line, or 0: its part has the place `source` among so many parts, and its task the place `twin` among so many tasks.
+pub fn line_fault(
+    stage: u64,
+    line: Line,
+    source: usize,
+    parts: usize,
+    twin: usize,
+    tasks: usize,
+) -> u64
+    ensures { λ r. ⌜ ((a : Above) → a .stage ≡ stage → Found a line source parts twin tasks → r ≡ lineFault a line) ⌝ }
+{
+    let word = line.word;
+    let task = line.task;
     match word {
         Word::Machine => {
             let machine = line.machine;
@@ -131,115 +131,42 @@ pub fn line_fault(draft: Draft, line: Line) -> u64
             let costs = line.costs;
             cost_fault(stage, costs)
         }
-        Word::Part => part_fault(stage, task, parts),
-        Word::Fit => {
-            let part = line.part;
-            let tasks = draft.tasks;
-            fit_fault(stage, name, part, parts, tasks)
+        Word::Part => {
+            let times = task.times;
+            part_fault(stage, times, source, parts)
         }
+        Word::Fit => fit_fault(stage, source, twin, tasks),
         Word::Other => 8,
     }
 }
 
-// One more at the end.
-pub fn put(held: Tasks, task: Task) -> Tasks
-    requires { ⌜ (held ≡ tasksOf (listOf held)) × (held .count < 64) ⌝ }
-    ensures { λ r. ⌜ r ≡ tasksOf (listOf held ++ (task ∷ [])) ⌝ }
-{
-    let n = held.count;
-    let mut more = held;
-    more.list[n] = task;
-    more.count = n + 1;
-    more
-}
-
-// The times of the part of that name.
-pub fn part_times(name: Name, parts: Tasks) -> Times
-    ensures { λ r. ⌜ r ≡ partTimes name (listOf parts) ⌝ }
-{
-    let k = place_of(name, parts);
-    if k == 0 {
-        let line = no_line();
-        let none = line.task;
-        return none.times;
-    }
-    let i = k - 1;
-    let part = parts.list[i];
-    part.times
-}
-
-// With this machine.
-pub fn with_machine(draft: Draft, machine: Machine) -> Draft
-    requires { ⌜ draft ≡ laid (told draft) ⌝ }
-    ensures { λ r. ⌜ r ≡ laid (withMachine (told draft) machine) ⌝ }
-{
-    let mut next = draft;
-    next.stage = 1;
-    next.machine = machine;
-    next
-}
-
-// With these costs.
-pub fn with_costs(draft: Draft, costs: Costs) -> Draft
-    requires { ⌜ draft ≡ laid (told draft) ⌝ }
-    ensures { λ r. ⌜ r ≡ laid (withCosts (told draft) costs) ⌝ }
-{
-    let mut next = draft;
-    next.stage = 2;
-    next.costs = costs;
-    next
-}
-
-// With one part more.
-pub fn with_part(draft: Draft, part: Task) -> Draft
-    requires { ⌜ (draft ≡ laid (told draft)) × (draft .parts .count < 64) ⌝ }
-    ensures { λ r. ⌜ r ≡ laid (withPart (told draft) part) ⌝ }
-{
-    let parts = draft.parts;
-    let more = put(parts, part);
-    let mut next = draft;
-    next.stage = 2;
-    next.parts = more;
-    next
-}
-
-// With one task more.
-pub fn with_task(draft: Draft, task: Task) -> Draft
-    requires { ⌜ (draft ≡ laid (told draft)) × (draft .tasks .count < 64) ⌝ }
-    ensures { λ r. ⌜ r ≡ laid (withTask (told draft) task) ⌝ }
-{
-    let tasks = draft.tasks;
-    let more = put(tasks, task);
-    let mut next = draft;
-    next.stage = 3;
-    next.tasks = more;
-    next
-}
-
-// What stands after a good line.
-pub fn after(draft: Draft, line: Line) -> Draft
-    requires { ⌜ (draft ≡ laid (told draft)) × (lineFault (told draft) line ≡ 0) ⌝ }
-    ensures { λ r. ⌜ r ≡ laid (after (told draft) line) ⌝ }
+// What stands after a good line, but for the parts and tasks.
+pub fn head_after(head: Head, line: Line) -> Head
+    ensures { λ r. ⌜ ((a : Above) → head ≡ headOf a → r ≡ headOf (after a line)) ⌝ }
 {
     let word = line.word;
-    let task = line.task;
+    let mut next = head;
     match word {
         Word::Machine => {
             let machine = line.machine;
-            with_machine(draft, machine)
+            next.stage = 1;
+            next.machine = machine;
+            next
         }
         Word::Cost => {
             let costs = line.costs;
-            with_costs(draft, costs)
+            next.stage = 2;
+            next.costs = costs;
+            next
         }
-        Word::Part => with_part(draft, task),
+        Word::Part => {
+            next.stage = 2;
+            next
+        }
         Word::Fit => {
-            let name = task.name;
-            let from = line.part;
-            let parts = draft.parts;
-            let times = part_times(from, parts);
-            with_task(draft, Task { name, times })
+            next.stage = 3;
+            next
         }
-        Word::Other => draft,
+        Word::Other => head,
     }
 }

@@ -2,16 +2,20 @@
 mod drafts;
 
 use demand::Costs;
-use drafts::after;
-use drafts::blank;
+use drafts::head_after;
 use drafts::line_fault;
+use drafts::no_tasks;
+use drafts::part_sought;
+use lines::Word;
 use lines::line_of;
+use lines::no_line;
 use lines::until;
 use task::Machine;
+use task::Task;
 use task::Tasks;
+use task::same_name;
 ghost use mathlib.Core.Path.{_≡_};
-ghost use Rattle.sheet.specs.Sheet.{top, refused, whole, sheetOf, shown, readOf};
-ghost use Rattle.sheet.specs.Held.{told, laid};
+ghost use Rattle.sheet.specs.Sheet.{refused, shown, readOf};
 
 /// What a sheet says: the machine, the nine cost constants, and the tasks with their parts' times.
 pub struct Sheet {
@@ -27,13 +31,12 @@ pub struct Read {
     pub sheet: Sheet,
 }
 
-/// What stands above a line. The stage is 0 at the top, 1 below `machine`, 2 below `cost` and among the parts, 3 among the fits.
-pub struct Draft {
+/// What stands above a line, but for the parts and tasks. The stage is 0 at the top, 1 below `machine`, 2 below `cost` and among the parts, 3 among
+/// the fits.
+pub struct Head {
     pub stage: u64,
     pub machine: Machine,
     pub costs: Costs,
-    pub parts: Tasks,
-    pub tasks: Tasks,
 }
 
 /// The sheet in these bytes, or the refusal with its line.
@@ -43,7 +46,16 @@ pub fn read_sheet(bytes: &[u8]) -> Read
     if 16384 < bytes.len() {
         return refuse(9, 0);
     }
-    let mut draft = blank();
+    let top = no_line();
+    let machine = top.machine;
+    let costs = top.costs;
+    let mut head = Head {
+        stage: 0,
+        machine,
+        costs,
+    };
+    let mut parts = no_tasks();
+    let mut tasks = no_tasks();
     let mut at = 0;
     let mut number: u64 = 1;
     while at < bytes.len() {
@@ -53,31 +65,66 @@ pub fn read_sheet(bytes: &[u8]) -> Read
             return refuse(8, number);
         }
         let line = line_of(&rest[..e]);
-        let fault = line_fault(draft, line);
+        let word = line.word;
+        let task = line.task;
+        let name = task.name;
+        // the part that the line names, by its place from 1, or 0
+        let sought = part_sought(line);
+        let mut source: usize = 0;
+        let mut i: usize = 0;
+        while i < parts.count {
+            let part = parts.list[i];
+            i += 1;
+            if same_name(sought, part.name) {
+                source = i;
+                i = parts.count;
+            }
+        }
+        // and a task of its name
+        let mut twin: usize = 0;
+        let mut j: usize = 0;
+        while j < tasks.count {
+            let other = tasks.list[j];
+            j += 1;
+            if same_name(name, other.name) {
+                twin = j;
+                j = tasks.count;
+            }
+        }
+        let fault = line_fault(head.stage, line, source, parts.count, twin, tasks.count);
         if fault != 0 {
             return refuse(fault, number);
         }
-        draft = after(draft, line);
+        head = head_after(head, line);
         at = at + e + 1;
         number += 1;
+        match word {
+            Word::Machine => {}
+            Word::Cost => {}
+            Word::Part => {
+                let n = parts.count;
+                parts.list[n] = task;
+                parts.count = n + 1;
+            }
+            Word::Fit => {
+                let k = source - 1;
+                let part = parts.list[k];
+                let times = part.times;
+                let n = tasks.count;
+                tasks.list[n] = Task { name, times };
+                tasks.count = n + 1;
+            }
+            Word::Other => {}
+        }
     }
-    if draft.stage < 2 {
+    if head.stage < 2 {
         return refuse(8, number);
     }
-    accept(draft)
-}
-
-// A refusal, with the empty sheet.
-fn refuse(number: u64, line: u64) -> Read
-    ensures { λ r. ⌜ r ≡ shown (refused number line) ⌝ }
-{
-    let none = blank();
-    let machine = none.machine;
-    let costs = none.costs;
-    let tasks = none.tasks;
+    let machine = head.machine;
+    let costs = head.costs;
     Read {
-        number,
-        carries: line,
+        number: 0,
+        carries: 0,
         sheet: Sheet {
             machine,
             costs,
@@ -86,17 +133,17 @@ fn refuse(number: u64, line: u64) -> Read
     }
 }
 
-// The sheet of all that stands at the end.
-fn accept(draft: Draft) -> Read
-    requires { ⌜ draft ≡ laid (told draft) ⌝ }
-    ensures { λ r. ⌜ r ≡ shown (whole (told draft)) ⌝ }
+// A refusal, with the empty sheet.
+fn refuse(number: u64, line: u64) -> Read
+    ensures { λ r. ⌜ r ≡ shown (refused number line) ⌝ }
 {
-    let machine = draft.machine;
-    let costs = draft.costs;
-    let tasks = draft.tasks;
+    let none = no_line();
+    let machine = none.machine;
+    let costs = none.costs;
+    let tasks = no_tasks();
     Read {
-        number: 0,
-        carries: 0,
+        number,
+        carries: line,
         sheet: Sheet {
             machine,
             costs,

@@ -1,110 +1,282 @@
--- `read_sheet` meets its contract: the lines above are read into the draft, and what is left decides the outcome as the whole sheet does. The
--- measure is what is left of the bytes.
+-- `read_sheet` meets its contract: what stands above a line is held as arrays, and what is left decides the outcome as the whole sheet does. A line's
+-- two names are looked for place by place. The measures are what is left of the bytes, of the parts, and of the tasks.
 -- Assumes nothing.
 use borrow.Author.Needs.{needs}
-use mathlib.Core.Path.{sym, _∙_}
-use Prim.Native.Nat.{_-_, _≤_}
+use mathlib.Core.Path.{_≡_, refl, sym, _∙_}
+use Prim.Native.Nat.{_-_, _≤_, _<_}
 use native.Mathlib.Omega.{arith}
 use lib.ListN.{length}
 use lib.Seq.{length-take-le}
+use Rattle.task.specs.Tasks.{past}
+use Rattle.lines.specs.declared.Word.{Word}
 use Rattle.lines.specs.Lines.{newline}
 use Rattle.lines.proofs.LineLaws.{rest, rest-length, run-le}
-use Rattle.sheet.proofs.ReadLaws.{Reached, read-long, reached-top, reached-cut, reached-bad, reached-line, reached-missing, reached-whole}
+use Rattle.sheet.proofs.DraftLaws.{Seeking, seek-start, seek-other, seek-here}
+use Rattle.sheet.proofs.ReadLaws.{read-long, reached-cut}
+use Rattle.sheet.proofs.StandLaws.{Standing, stand-top, parts-few, parts-long, tasks-few, tasks-long, stand-missing, stand-whole, LineRead, line-read, line-bad, part-space, task-space, source-some, source-low, stand-same, stand-part, stand-fit}
 use Rattle.sheet.proofs.read_sheet.Statement.{statement}
 use Rattle.sheet.proofs.read_sheet.Tie as tie
+use Rattle.sheet.proofs.read_sheet.Lts as lts
+use Rattle.lines.proofs.line_of.Reads as line-of-reads
+use Rattle.lines.proofs.no_line.Reads as no-line-reads
+use Rattle.lines.proofs.until.Reads as until-reads
+use Rattle.sheet.proofs.drafts.head_after.Reads as head-after-reads
+use Rattle.sheet.proofs.drafts.line_fault.Reads as line-fault-reads
+use Rattle.sheet.proofs.drafts.no_tasks.Reads as no-tasks-reads
+use Rattle.sheet.proofs.drafts.part_sought.Reads as part-sought-reads
+use Rattle.sheet.proofs.refuse.Reads as refuse-reads
+use Rattle.task.proofs.same_name.Reads as same-name-reads
+
+abbrev Inv-loop2 : tie.InvT-loop2
+Inv-loop2 bytes head parts tasks at number e line word task name sought source₀ i₀ source i = Seeking sought parts i source
+
+abbrev μ-loop2 : tie.MeasureT-loop2
+μ-loop2 bytes head parts tasks at number e line word task name sought source₀ i₀ source i = parts .count - i
+
+abbrev Inv-loop3 : tie.InvT-loop3
+Inv-loop3 bytes head parts tasks at number e line word task name source i twin₀ j₀ twin j = Seeking name tasks j twin
+
+abbrev μ-loop3 : tie.MeasureT-loop3
+μ-loop3 bytes head parts tasks at number e line word task name source i twin₀ j₀ twin j = tasks .count - j
 
 abbrev Inv-loop : tie.InvT-loop
-Inv-loop bytes draft₀ at₀ number₀ draft at number = (length bytes ≤ 16384) × Reached bytes draft at number
+Inv-loop bytes head₀ parts₀ tasks₀ at₀ number₀ head parts tasks at number = (length bytes ≤ 16384) × Standing bytes head parts tasks at number
 
 abbrev μ-loop : tie.MeasureT-loop
-μ-loop bytes draft₀ at₀ number₀ draft at number = length bytes - at
+μ-loop bytes head₀ parts₀ tasks₀ at₀ number₀ head parts tasks at number = length bytes - at
 
-refuse-requires : tie.Need-refuse-requires Inv-loop μ-loop
+-- the line that was read, and what was found for it
+judged : (c : tie.After-line-fault Inv-loop2 μ-loop2 Inv-loop3 μ-loop3 Inv-loop μ-loop) → LineRead (c .before .before .before .before .before .before .before .before .before .before .before .before .before .before .loop .inv .1) (c .before .before .before .before .before .before .before .before .before .before .before .until .result) (c .before .before .before .before .before .before .before .before .line-of .result) (c .before .before .before .before .loop2 .source) (c .line-fault .result)
+judged c = line-read (c .before .before .before .before .before .before .before .before .before .before .before .before .before .before .loop .inv .1) (c .before .before .before .before .before .before .before .before .before .before .before .until .result) (c .before .before .before .before .before .before .before .before .before .before .before .until .ensures) (c .before .before .before .before .before .before .before .before .before .before .if2 .left) (c .before .before .before .before .before .before .before .before .line-of .result) (c .before .before .before .before .before .before .before .before .line-of .ensures) (c .before .before .before .before .before .part-sought .result) (c .before .before .before .before .before .part-sought .ensures) (c .before .before .before .before .loop2 .i) (c .before .before .before .before .loop2 .source) (c .before .before .before .before .loop2 .inv) (c .before .before .before .loop2-test .left) (c .before .before .loop3 .j) (c .before .before .loop3 .twin) (c .before .before .loop3 .inv) (c .before .loop3-test .left) (c .line-fault .result) (c .line-fault .ensures)
+
+refuse-requires : tie.Need-refuse-requires Inv-loop2 μ-loop2 Inv-loop3 μ-loop3 Inv-loop μ-loop
 refuse-requires c κs = search needs
 
-returns : tie.Need-returns Inv-loop μ-loop
+returns : tie.Need-returns Inv-loop2 μ-loop2 Inv-loop3 μ-loop3 Inv-loop μ-loop
 returns c = c .refuse .ensures ∙ read-long (c .before .before .before .args .bytes .now) (c .before .if1 .taken)
 
-blank-requires : tie.Need-blank-requires Inv-loop μ-loop
-blank-requires c κs = search needs
+no-line-requires : tie.Need-no-line-requires Inv-loop2 μ-loop2 Inv-loop3 μ-loop3 Inv-loop μ-loop
+no-line-requires c κs = search needs
 
-loop-holds : tie.Need-loop-holds Inv-loop μ-loop
-loop-holds c = (c .before .if1 .left, reached-top (c .before .before .before .args .bytes .now) (c .blank .result) (c .blank .ensures) (c .before .if1 .left))
+no-tasks-requires : tie.Need-no-tasks-requires Inv-loop2 μ-loop2 Inv-loop3 μ-loop3 Inv-loop μ-loop
+no-tasks-requires c κs = search needs
 
-sub-rest : tie.Need-sub-rest Inv-loop μ-loop
-sub-rest c = omega (arith, c .before .loop .inv .1 .on)
+no-tasks-requires-2 : tie.Need-no-tasks-requires-2 Inv-loop2 μ-loop2 Inv-loop3 μ-loop3 Inv-loop μ-loop
+no-tasks-requires-2 c κs = search needs
 
-part-rest-start : tie.Need-part-rest-start Inv-loop μ-loop
-part-rest-start c = omega (arith, c .before .loop .inv .1 .on)
+loop-holds : tie.Need-loop-holds Inv-loop2 μ-loop2 Inv-loop3 μ-loop3 Inv-loop μ-loop
+loop-holds c = (c .before .before .before .before .before .if1 .left, stand-top _ _ _ _ (c .before .before .before .before .before .if1 .left) (rw (c .before .before .before .before .no-line .ensures)) (c .before .no-tasks .ensures) (c .no-tasks2 .ensures))
 
-part-rest-end : tie.Need-part-rest-end Inv-loop μ-loop
-part-rest-end c = omega (arith, c .before .loop .inv .1 .on)
+sub-rest : tie.Need-sub-rest Inv-loop2 μ-loop2 Inv-loop3 μ-loop3 Inv-loop μ-loop
+sub-rest c = omega (arith, c .before .loop .inv .1 .reached .on)
 
-until-requires : tie.Need-until-requires Inv-loop μ-loop
+part-rest-start : tie.Need-part-rest-start Inv-loop2 μ-loop2 Inv-loop3 μ-loop3 Inv-loop μ-loop
+part-rest-start c = omega (arith, c .before .loop .inv .1 .reached .on)
+
+part-rest-end : tie.Need-part-rest-end Inv-loop2 μ-loop2 Inv-loop3 μ-loop3 Inv-loop μ-loop
+part-rest-end c = omega (arith, c .before .loop .inv .1 .reached .on)
+
+until-requires : tie.Need-until-requires Inv-loop2 μ-loop2 Inv-loop3 μ-loop3 Inv-loop μ-loop
 until-requires c κs = search needs
 
-refuse-requires-2 : tie.Need-refuse-requires-2 Inv-loop μ-loop
+refuse-requires-2 : tie.Need-refuse-requires-2 Inv-loop2 μ-loop2 Inv-loop3 μ-loop3 Inv-loop μ-loop
 refuse-requires-2 c κs = search needs
 
-returns-2 : tie.Need-returns-2 Inv-loop μ-loop
-returns-2 c = c .refuse2 .ensures ∙ reached-cut (c .before .before .before .before .before .before .before .before .before .args .bytes .now) (c .before .before .before .before .before .loop .draft) (c .before .before .before .before .before .loop .at) (c .before .before .before .before .before .loop .number) (c .before .before .before .before .before .loop .inv .1) (c .before .before .until .result) (c .before .before .until .ensures) (c .before .before .before .before .loop-test .taken) (c .before .if2 .taken)
+returns-2 : tie.Need-returns-2 Inv-loop2 μ-loop2 Inv-loop3 μ-loop3 Inv-loop μ-loop
+returns-2 c =
+    let s = c .before .before .before .before .before .loop .inv .1 in
+    c .refuse2 .ensures ∙ reached-cut (c .before .before .before .before .before .before .before .before .before .before .before .before .before .args .bytes .now) (s .above) (c .before .before .before .before .before .loop .at) (c .before .before .before .before .before .loop .number) (s .reached) (c .before .before .until .result) (c .before .before .until .ensures) (c .before .before .before .before .loop-test .taken) (c .before .if2 .taken)
 
-slice-aggregate-line-of : tie.Need-slice-aggregate-line-of Inv-loop μ-loop
+slice-aggregate-line-of : tie.Need-slice-aggregate-line-of Inv-loop2 μ-loop2 Inv-loop3 μ-loop3 Inv-loop μ-loop
 slice-aggregate-line-of c =
-    let s = rest (c .before .before .before .before .before .before .before .before .before .args .bytes .now) (c .before .before .before .before .before .loop .at) in
+    let s = rest (c .before .before .before .before .before .before .before .before .before .before .before .before .before .args .bytes .now) (c .before .before .before .before .before .loop .at) in
     sym (length-take-le (c .before .before .until .result) s (run-le newline s (c .before .before .until .result) (c .before .before .until .ensures)))
 
-line-of-requires : tie.Need-line-of-requires Inv-loop μ-loop
+line-of-requires : tie.Need-line-of-requires Inv-loop2 μ-loop2 Inv-loop3 μ-loop3 Inv-loop μ-loop
 line-of-requires c κs = search needs
 
-line-fault-requires : tie.Need-line-fault-requires Inv-loop μ-loop
+part-sought-requires : tie.Need-part-sought-requires Inv-loop2 μ-loop2 Inv-loop3 μ-loop3 Inv-loop μ-loop
+part-sought-requires c κs = search needs
+
+loop2-holds : tie.Need-loop2-holds Inv-loop2 μ-loop2 Inv-loop3 μ-loop3 Inv-loop μ-loop
+loop2-holds c = seek-start _ _
+
+mul-part : tie.Need-mul-part Inv-loop2 μ-loop2 Inv-loop3 μ-loop3 Inv-loop μ-loop
+mul-part c = omega (arith, c .loop2-test .taken, parts-few (c .before .before .before .before .before .before .before .before .before .before .before .loop .inv .1))
+
+element-copy-out-part : tie.Need-element-copy-out-part Inv-loop2 μ-loop2 Inv-loop3 μ-loop3 Inv-loop μ-loop
+element-copy-out-part c = omega (arith, c .loop2-test .taken, parts-few (c .before .before .before .before .before .before .before .before .before .before .before .loop .inv .1))
+
+add-i : tie.Need-add-i Inv-loop2 μ-loop2 Inv-loop3 μ-loop3 Inv-loop μ-loop
+add-i c = omega (arith, c .before .loop2-test .taken, parts-few (c .before .before .before .before .before .before .before .before .before .before .before .before .loop .inv .1))
+
+same-name-requires : tie.Need-same-name-requires Inv-loop2 μ-loop2 Inv-loop3 μ-loop3 Inv-loop μ-loop
+same-name-requires c κs = search needs
+
+loop2-less : tie.Need-loop2-less Inv-loop2 μ-loop2 Inv-loop3 μ-loop3 Inv-loop μ-loop
+loop2-less c = omega (arith, c .before .before .before .loop2-test .taken)
+
+loop2-again : tie.Need-loop2-again Inv-loop2 μ-loop2 Inv-loop3 μ-loop3 Inv-loop μ-loop
+loop2-again c =
+    let s = c .before .before .before .before .before .before .before .before .before .before .before .before .before .before .loop .inv .1 in
+    seek-here _ _ (c .before .before .before .before .loop2 .i) (c .before .before .before .before .loop2 .source) (c .before .before .before .before .loop2 .inv) (c .before .before .before .loop2-test .taken) (omega (arith, c .before .before .before .loop2-test .taken, parts-few s, parts-long s)) past (sym (c .before .same-name .ensures) ∙ c .if3 .taken)
+
+loop2-less-2 : tie.Need-loop2-less-2 Inv-loop2 μ-loop2 Inv-loop3 μ-loop3 Inv-loop μ-loop
+loop2-less-2 c = omega (arith, c .before .before .before .loop2-test .taken)
+
+loop2-again-2 : tie.Need-loop2-again-2 Inv-loop2 μ-loop2 Inv-loop3 μ-loop3 Inv-loop μ-loop
+loop2-again-2 c =
+    let s = c .before .before .before .before .before .before .before .before .before .before .before .before .before .before .loop .inv .1 in
+    seek-other _ _ (c .before .before .before .before .loop2 .i) (c .before .before .before .before .loop2 .source) (c .before .before .before .before .loop2 .inv) (c .before .before .before .loop2-test .taken) (omega (arith, c .before .before .before .loop2-test .taken, parts-few s, parts-long s)) past (sym (c .before .same-name .ensures) ∙ c .if3 .left)
+
+loop3-holds : tie.Need-loop3-holds Inv-loop2 μ-loop2 Inv-loop3 μ-loop3 Inv-loop μ-loop
+loop3-holds c = seek-start _ _
+
+mul-other : tie.Need-mul-other Inv-loop2 μ-loop2 Inv-loop3 μ-loop3 Inv-loop μ-loop
+mul-other c = omega (arith, c .loop3-test .taken, tasks-few (c .before .before .before .before .before .before .before .before .before .before .before .before .before .loop .inv .1))
+
+element-copy-out-other : tie.Need-element-copy-out-other Inv-loop2 μ-loop2 Inv-loop3 μ-loop3 Inv-loop μ-loop
+element-copy-out-other c = omega (arith, c .loop3-test .taken, tasks-few (c .before .before .before .before .before .before .before .before .before .before .before .before .before .loop .inv .1))
+
+add-j : tie.Need-add-j Inv-loop2 μ-loop2 Inv-loop3 μ-loop3 Inv-loop μ-loop
+add-j c = omega (arith, c .before .loop3-test .taken, tasks-few (c .before .before .before .before .before .before .before .before .before .before .before .before .before .before .loop .inv .1))
+
+same-name-requires-2 : tie.Need-same-name-requires-2 Inv-loop2 μ-loop2 Inv-loop3 μ-loop3 Inv-loop μ-loop
+same-name-requires-2 c κs = search needs
+
+loop3-less : tie.Need-loop3-less Inv-loop2 μ-loop2 Inv-loop3 μ-loop3 Inv-loop μ-loop
+loop3-less c = omega (arith, c .before .before .before .loop3-test .taken)
+
+loop3-again : tie.Need-loop3-again Inv-loop2 μ-loop2 Inv-loop3 μ-loop3 Inv-loop μ-loop
+loop3-again c =
+    let s = c .before .before .before .before .before .before .before .before .before .before .before .before .before .before .before .before .loop .inv .1 in
+    seek-here _ _ (c .before .before .before .before .loop3 .j) (c .before .before .before .before .loop3 .twin) (c .before .before .before .before .loop3 .inv) (c .before .before .before .loop3-test .taken) (omega (arith, c .before .before .before .loop3-test .taken, tasks-few s, tasks-long s)) past (sym (c .before .same-name2 .ensures) ∙ c .if4 .taken)
+
+loop3-less-2 : tie.Need-loop3-less-2 Inv-loop2 μ-loop2 Inv-loop3 μ-loop3 Inv-loop μ-loop
+loop3-less-2 c = omega (arith, c .before .before .before .loop3-test .taken)
+
+loop3-again-2 : tie.Need-loop3-again-2 Inv-loop2 μ-loop2 Inv-loop3 μ-loop3 Inv-loop μ-loop
+loop3-again-2 c =
+    let s = c .before .before .before .before .before .before .before .before .before .before .before .before .before .before .before .before .loop .inv .1 in
+    seek-other _ _ (c .before .before .before .before .loop3 .j) (c .before .before .before .before .loop3 .twin) (c .before .before .before .before .loop3 .inv) (c .before .before .before .loop3-test .taken) (omega (arith, c .before .before .before .loop3-test .taken, tasks-few s, tasks-long s)) past (sym (c .before .same-name2 .ensures) ∙ c .if4 .left)
+
+line-fault-requires : tie.Need-line-fault-requires Inv-loop2 μ-loop2 Inv-loop3 μ-loop3 Inv-loop μ-loop
 line-fault-requires c κs = search needs
 
-refuse-requires-3 : tie.Need-refuse-requires-3 Inv-loop μ-loop
+refuse-requires-3 : tie.Need-refuse-requires-3 Inv-loop2 μ-loop2 Inv-loop3 μ-loop3 Inv-loop μ-loop
 refuse-requires-3 c κs = search needs
 
-returns-3 : tie.Need-returns-3 Inv-loop μ-loop
-returns-3 c = c .refuse3 .ensures ∙ reached-bad (c .before .before .before .before .before .before .before .before .before .before .before .before .before .args .bytes .now) (c .before .before .before .before .before .before .before .before .before .loop .draft) (c .before .before .before .before .before .before .before .before .before .loop .at) (c .before .before .before .before .before .before .before .before .before .loop .number) (c .before .before .before .before .before .before .before .before .before .loop .inv .1) (c .before .before .before .before .before .before .until .result) (c .before .before .before .before .before .before .until .ensures) (c .before .before .before .before .before .if2 .left) (c .before .before .before .line-of .result) (c .before .before .before .line-of .ensures) (c .before .before .line-fault .result) (c .before .before .line-fault .ensures) (c .before .if3 .taken)
+returns-3 : tie.Need-returns-3 Inv-loop2 μ-loop2 Inv-loop3 μ-loop3 Inv-loop μ-loop
+returns-3 c = c .refuse3 .ensures ∙ line-bad (c .before .before .before .before .before .before .before .before .before .before .before .before .before .before .before .before .loop .inv .1) (judged (c .before .before)) (c .before .if5 .taken)
 
-after-requires : tie.Need-after-requires Inv-loop μ-loop
-after-requires c κs = (c .before .before .before .before .before .before .before .before .loop .inv .1 .kept, sym (c .before .line-fault .ensures) ∙ c .if3 .left)
+head-after-requires : tie.Need-head-after-requires Inv-loop2 μ-loop2 Inv-loop3 μ-loop3 Inv-loop μ-loop
+head-after-requires c κs = search needs
 
-add-at : tie.Need-add-at Inv-loop μ-loop
-add-at c = omega (arith, run-le newline (rest (c .before .before .before .before .before .before .before .before .before .before .before .before .before .args .bytes .now) (c .before .before .before .before .before .before .before .before .before .loop .at)) (c .before .before .before .before .before .before .until .result) (c .before .before .before .before .before .before .until .ensures), rest-length (c .before .before .before .before .before .before .before .before .before .before .before .before .before .args .bytes .now) (c .before .before .before .before .before .before .before .before .before .loop .at), c .before .before .before .before .before .before .before .before .before .loop .inv .0)
+add-at : tie.Need-add-at Inv-loop2 μ-loop2 Inv-loop3 μ-loop3 Inv-loop μ-loop
+add-at c = omega (arith, run-le newline (rest (c .before .before .before .before .before .before .before .before .before .before .before .before .before .before .before .before .before .before .before .before .before .before .before .before .args .bytes .now) (c .before .before .before .before .before .before .before .before .before .before .before .before .before .before .before .before .loop .at)) (c .before .before .before .before .before .before .before .before .before .before .before .before .before .until .result) (c .before .before .before .before .before .before .before .before .before .before .before .before .before .until .ensures), rest-length (c .before .before .before .before .before .before .before .before .before .before .before .before .before .before .before .before .before .before .before .before .before .before .before .before .args .bytes .now) (c .before .before .before .before .before .before .before .before .before .before .before .before .before .before .before .before .loop .at), c .before .before .before .before .before .before .before .before .before .before .before .before .before .before .before .before .loop .inv .0)
 
-add-at-2 : tie.Need-add-at-2 Inv-loop μ-loop
-add-at-2 c = omega (arith, run-le newline (rest (c .before .before .before .before .before .before .before .before .before .before .before .before .before .args .bytes .now) (c .before .before .before .before .before .before .before .before .before .loop .at)) (c .before .before .before .before .before .before .until .result) (c .before .before .before .before .before .before .until .ensures), rest-length (c .before .before .before .before .before .before .before .before .before .before .before .before .before .args .bytes .now) (c .before .before .before .before .before .before .before .before .before .loop .at), c .before .before .before .before .before .before .before .before .before .loop .inv .0)
+add-at-2 : tie.Need-add-at-2 Inv-loop2 μ-loop2 Inv-loop3 μ-loop3 Inv-loop μ-loop
+add-at-2 c = omega (arith, run-le newline (rest (c .before .before .before .before .before .before .before .before .before .before .before .before .before .before .before .before .before .before .before .before .before .before .before .before .args .bytes .now) (c .before .before .before .before .before .before .before .before .before .before .before .before .before .before .before .before .loop .at)) (c .before .before .before .before .before .before .before .before .before .before .before .before .before .until .result) (c .before .before .before .before .before .before .before .before .before .before .before .before .before .until .ensures), rest-length (c .before .before .before .before .before .before .before .before .before .before .before .before .before .before .before .before .before .before .before .before .before .before .before .before .args .bytes .now) (c .before .before .before .before .before .before .before .before .before .before .before .before .before .before .before .before .loop .at), c .before .before .before .before .before .before .before .before .before .before .before .before .before .before .before .before .loop .inv .0)
 
-add-number : tie.Need-add-number Inv-loop μ-loop
-add-number c = omega (arith, c .before .before .before .before .before .before .before .before .before .loop .inv .1 .near, c .before .before .before .before .before .before .before .before .before .loop .inv .0)
+add-number : tie.Need-add-number Inv-loop2 μ-loop2 Inv-loop3 μ-loop3 Inv-loop μ-loop
+add-number c = omega (arith, c .before .before .before .before .before .before .before .before .before .before .before .before .before .before .before .before .loop .inv .1 .reached .near, c .before .before .before .before .before .before .before .before .before .before .before .before .before .before .before .before .loop .inv .1 .reached .on, c .before .before .before .before .before .before .before .before .before .before .before .before .before .before .before .before .loop .inv .0)
 
-loop-less : tie.Need-loop-less Inv-loop μ-loop
-loop-less c = omega (arith, c .before .before .before .before .before .before .before .before .loop-test .taken)
+enum-told : tie.Need-enum-told Inv-loop2 μ-loop2 Inv-loop3 μ-loop3 Inv-loop μ-loop
+enum-told c = search needs
 
-loop-again : tie.Need-loop-again Inv-loop μ-loop
-loop-again c = (c .before .before .before .before .before .before .before .before .before .loop .inv .0, reached-line (c .before .before .before .before .before .before .before .before .before .before .before .before .before .args .bytes .now) (c .before .before .before .before .before .before .before .before .before .loop .draft) (c .before .before .before .before .before .before .before .before .before .loop .at) (c .before .before .before .before .before .before .before .before .before .loop .number) (c .before .before .before .before .before .before .before .before .before .loop .inv .1) (c .before .before .before .before .before .before .until .result) (c .before .before .before .before .before .before .until .ensures) (c .before .before .before .before .before .if2 .left) (c .before .before .before .line-of .result) (c .before .before .before .line-of .ensures) (c .before .before .line-fault .result) (c .before .before .line-fault .ensures) (c .before .if3 .left) (c .after .result) (c .after .ensures))
+loop-less : tie.Need-loop-less Inv-loop2 μ-loop2 Inv-loop3 μ-loop3 Inv-loop μ-loop
+loop-less c = omega (arith, c .before .before .before .before .before .before .before .before .before .before .before .before .before .before .before .before .before .loop-test .taken)
 
-refuse-requires-4 : tie.Need-refuse-requires-4 Inv-loop μ-loop
+loop-again : tie.Need-loop-again Inv-loop2 μ-loop2 Inv-loop3 μ-loop3 Inv-loop μ-loop
+loop-again c = (c .before .before .before .before .before .before .before .before .before .before .before .before .before .before .before .before .before .before .loop .inv .0, stand-same (c .before .before .before .before .before .before .before .before .before .before .before .before .before .before .before .before .before .before .loop .inv .1) (judged (c .before .before .before .before)) (c .before .before .before .if5 .left) (c .before .before .head-after .result) (c .before .before .head-after .ensures) Word.Machine (c .enum-told .given .1) refl refl)
+
+enum-told-2 : tie.Need-enum-told-2 Inv-loop2 μ-loop2 Inv-loop3 μ-loop3 Inv-loop μ-loop
+enum-told-2 c = search needs
+
+loop-less-2 : tie.Need-loop-less-2 Inv-loop2 μ-loop2 Inv-loop3 μ-loop3 Inv-loop μ-loop
+loop-less-2 c = omega (arith, c .before .before .before .before .before .before .before .before .before .before .before .before .before .before .before .before .before .loop-test .taken)
+
+loop-again-2 : tie.Need-loop-again-2 Inv-loop2 μ-loop2 Inv-loop3 μ-loop3 Inv-loop μ-loop
+loop-again-2 c = (c .before .before .before .before .before .before .before .before .before .before .before .before .before .before .before .before .before .before .loop .inv .0, stand-same (c .before .before .before .before .before .before .before .before .before .before .before .before .before .before .before .before .before .before .loop .inv .1) (judged (c .before .before .before .before)) (c .before .before .before .if5 .left) (c .before .before .head-after .result) (c .before .before .head-after .ensures) Word.Cost (c .enum-told2 .given .1) refl refl)
+
+enum-told-3 : tie.Need-enum-told-3 Inv-loop2 μ-loop2 Inv-loop3 μ-loop3 Inv-loop μ-loop
+enum-told-3 c = search needs
+
+mul-task : tie.Need-mul-task Inv-loop2 μ-loop2 Inv-loop3 μ-loop3 Inv-loop μ-loop
+mul-task c = omega (arith, part-space (c .before .before .before .before .before .before .before .before .before .before .before .before .before .before .before .before .before .before .loop .inv .1) (judged (c .before .before .before .before)) (c .before .before .before .if5 .left) (c .enum-told3 .given .1))
+
+element-set-from-task : tie.Need-element-set-from-task Inv-loop2 μ-loop2 Inv-loop3 μ-loop3 Inv-loop μ-loop
+element-set-from-task c = omega (arith, part-space (c .before .before .before .before .before .before .before .before .before .before .before .before .before .before .before .before .before .before .loop .inv .1) (judged (c .before .before .before .before)) (c .before .before .before .if5 .left) (c .enum-told3 .given .1))
+
+add-parts : tie.Need-add-parts Inv-loop2 μ-loop2 Inv-loop3 μ-loop3 Inv-loop μ-loop
+add-parts c = omega (arith, part-space (c .before .before .before .before .before .before .before .before .before .before .before .before .before .before .before .before .before .before .loop .inv .1) (judged (c .before .before .before .before)) (c .before .before .before .if5 .left) (c .enum-told3 .given .1))
+
+loop-less-3 : tie.Need-loop-less-3 Inv-loop2 μ-loop2 Inv-loop3 μ-loop3 Inv-loop μ-loop
+loop-less-3 c = omega (arith, c .before .before .before .before .before .before .before .before .before .before .before .before .before .before .before .before .before .loop-test .taken)
+
+loop-again-3 : tie.Need-loop-again-3 Inv-loop2 μ-loop2 Inv-loop3 μ-loop3 Inv-loop μ-loop
+loop-again-3 c = (c .before .before .before .before .before .before .before .before .before .before .before .before .before .before .before .before .before .before .loop .inv .0, stand-part (c .before .before .before .before .before .before .before .before .before .before .before .before .before .before .before .before .before .before .loop .inv .1) (judged (c .before .before .before .before)) (c .before .before .before .if5 .left) (c .before .before .head-after .result) (c .before .before .head-after .ensures) (c .enum-told3 .given .1))
+
+enum-told-4 : tie.Need-enum-told-4 Inv-loop2 μ-loop2 Inv-loop3 μ-loop3 Inv-loop μ-loop
+enum-told-4 c = search needs
+
+sub-k : tie.Need-sub-k Inv-loop2 μ-loop2 Inv-loop3 μ-loop3 Inv-loop μ-loop
+sub-k c = omega (arith, source-some (c .before .before .before .before .before .before .before .before .before .before .before .before .before .before .before .before .before .before .loop .inv .1) (judged (c .before .before .before .before)) (c .before .before .before .if5 .left) (c .enum-told4 .given .1))
+
+mul-part-2 : tie.Need-mul-part-2 Inv-loop2 μ-loop2 Inv-loop3 μ-loop3 Inv-loop μ-loop
+mul-part-2 c = omega (arith, source-low (c .before .before .before .before .before .before .before .before .before .before .before .before .before .before .before .before .before .before .loop .inv .1) (judged (c .before .before .before .before)) (c .before .before .before .if5 .left) (c .enum-told4 .given .1))
+
+element-copy-out-part-2 : tie.Need-element-copy-out-part-2 Inv-loop2 μ-loop2 Inv-loop3 μ-loop3 Inv-loop μ-loop
+element-copy-out-part-2 c = omega (arith, source-low (c .before .before .before .before .before .before .before .before .before .before .before .before .before .before .before .before .before .before .loop .inv .1) (judged (c .before .before .before .before)) (c .before .before .before .if5 .left) (c .enum-told4 .given .1))
+
+mul-t56 : tie.Need-mul-t56 Inv-loop2 μ-loop2 Inv-loop3 μ-loop3 Inv-loop μ-loop
+mul-t56 c = omega (arith, task-space (c .before .before .before .before .before .before .before .before .before .before .before .before .before .before .before .before .before .before .before .before .loop .inv .1) (judged (c .before .before .before .before .before .before)) (c .before .before .before .before .before .if5 .left) (c .before .before .enum-told4 .given .1))
+
+element-set-from-tasks : tie.Need-element-set-from-tasks Inv-loop2 μ-loop2 Inv-loop3 μ-loop3 Inv-loop μ-loop
+element-set-from-tasks c = omega (arith, task-space (c .before .before .before .before .before .before .before .before .before .before .before .before .before .before .before .before .before .before .before .before .loop .inv .1) (judged (c .before .before .before .before .before .before)) (c .before .before .before .before .before .if5 .left) (c .before .before .enum-told4 .given .1))
+
+add-tasks : tie.Need-add-tasks Inv-loop2 μ-loop2 Inv-loop3 μ-loop3 Inv-loop μ-loop
+add-tasks c = omega (arith, task-space (c .before .before .before .before .before .before .before .before .before .before .before .before .before .before .before .before .before .before .before .before .loop .inv .1) (judged (c .before .before .before .before .before .before)) (c .before .before .before .before .before .if5 .left) (c .before .before .enum-told4 .given .1))
+
+loop-less-4 : tie.Need-loop-less-4 Inv-loop2 μ-loop2 Inv-loop3 μ-loop3 Inv-loop μ-loop
+loop-less-4 c = omega (arith, c .before .before .before .before .before .before .before .before .before .before .before .before .before .before .before .before .before .before .before .loop-test .taken)
+
+loop-again-4 : tie.Need-loop-again-4 Inv-loop2 μ-loop2 Inv-loop3 μ-loop3 Inv-loop μ-loop
+loop-again-4 c = (c .before .before .before .before .before .before .before .before .before .before .before .before .before .before .before .before .before .before .before .before .loop .inv .0, stand-fit (c .before .before .before .before .before .before .before .before .before .before .before .before .before .before .before .before .before .before .before .before .loop .inv .1) (judged (c .before .before .before .before .before .before)) (c .before .before .before .before .before .if5 .left) (c .before .before .before .before .head-after .result) (c .before .before .before .before .head-after .ensures) (c .before .before .enum-told4 .given .1) past)
+
+enum-told-5 : tie.Need-enum-told-5 Inv-loop2 μ-loop2 Inv-loop3 μ-loop3 Inv-loop μ-loop
+enum-told-5 c = search needs
+
+loop-less-5 : tie.Need-loop-less-5 Inv-loop2 μ-loop2 Inv-loop3 μ-loop3 Inv-loop μ-loop
+loop-less-5 c = omega (arith, c .before .before .before .before .before .before .before .before .before .before .before .before .before .before .before .before .before .loop-test .taken)
+
+loop-again-5 : tie.Need-loop-again-5 Inv-loop2 μ-loop2 Inv-loop3 μ-loop3 Inv-loop μ-loop
+loop-again-5 c = (c .before .before .before .before .before .before .before .before .before .before .before .before .before .before .before .before .before .before .loop .inv .0, stand-same (c .before .before .before .before .before .before .before .before .before .before .before .before .before .before .before .before .before .before .loop .inv .1) (judged (c .before .before .before .before)) (c .before .before .before .if5 .left) (c .before .before .head-after .result) (c .before .before .head-after .ensures) Word.Other (c .enum-told5 .given .1) refl refl)
+
+refuse-requires-4 : tie.Need-refuse-requires-4 Inv-loop2 μ-loop2 Inv-loop3 μ-loop3 Inv-loop μ-loop
 refuse-requires-4 c κs = search needs
 
-returns-4 : tie.Need-returns-4 Inv-loop μ-loop
-returns-4 c = c .refuse4 .ensures ∙ reached-missing (c .before .before .before .before .before .before .before .before .args .bytes .now) (c .before .before .before .before .loop .draft) (c .before .before .before .before .loop .at) (c .before .before .before .before .loop .number) (c .before .before .before .before .loop .inv .1) (c .before .before .before .loop-test .left) (c .before .if4 .taken)
+returns-4 : tie.Need-returns-4 Inv-loop2 μ-loop2 Inv-loop3 μ-loop3 Inv-loop μ-loop
+returns-4 c = c .refuse4 .ensures ∙ stand-missing (c .before .before .before .before .loop .inv .1) (c .before .before .before .loop-test .left) (c .before .if6 .taken)
 
-accept-requires : tie.Need-accept-requires Inv-loop μ-loop
-accept-requires c κs = c .before .before .before .loop .inv .1 .kept
-
-returns-5 : tie.Need-returns-5 Inv-loop μ-loop
-returns-5 c = c .accept .ensures ∙ reached-whole (c .before .before .before .before .before .before .before .before .args .bytes .now) (c .before .before .before .before .loop .draft) (c .before .before .before .before .loop .at) (c .before .before .before .before .loop .number) (c .before .before .before .before .loop .inv .1) (c .before .before .before .loop-test .left) (c .before .if4 .left)
+returns-5 : tie.Need-returns-5 Inv-loop2 μ-loop2 Inv-loop3 μ-loop3 Inv-loop μ-loop
+returns-5 c = stand-whole (c .before .before .before .before .before .loop .inv .1) (c .before .before .before .before .loop-test .left) (c .before .before .if6 .left)
 
 pub read-sheet-spec : {M : Type 1} → statement M
 read-sheet-spec =
     tie.close
     (tie.spec
+    Inv-loop2
+    μ-loop2
+    Inv-loop3
+    μ-loop3
     Inv-loop
     μ-loop
     refuse-requires
     returns
-    blank-requires
+    no-line-requires
+    no-tasks-requires
+    no-tasks-requires-2
     loop-holds
     sub-rest
     part-rest-start
@@ -114,16 +286,56 @@ read-sheet-spec =
     returns-2
     slice-aggregate-line-of
     line-of-requires
+    part-sought-requires
+    loop2-holds
+    mul-part
+    element-copy-out-part
+    add-i
+    same-name-requires
+    loop2-less
+    loop2-again
+    loop2-less-2
+    loop2-again-2
+    loop3-holds
+    mul-other
+    element-copy-out-other
+    add-j
+    same-name-requires-2
+    loop3-less
+    loop3-again
+    loop3-less-2
+    loop3-again-2
     line-fault-requires
     refuse-requires-3
     returns-3
-    after-requires
+    head-after-requires
     add-at
     add-at-2
     add-number
+    enum-told
     loop-less
     loop-again
+    enum-told-2
+    loop-less-2
+    loop-again-2
+    enum-told-3
+    mul-task
+    element-set-from-task
+    add-parts
+    loop-less-3
+    loop-again-3
+    enum-told-4
+    sub-k
+    mul-part-2
+    element-copy-out-part-2
+    mul-t56
+    element-set-from-tasks
+    add-tasks
+    loop-less-4
+    loop-again-4
+    enum-told-5
+    loop-less-5
+    loop-again-5
     refuse-requires-4
     returns-4
-    accept-requires
     returns-5)

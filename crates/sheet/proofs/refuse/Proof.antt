@@ -1,16 +1,21 @@
--- `refuse` meets its contract: the empty sheet is the blank draft's.
+-- `refuse` meets its contract: the empty sheet.
 -- Assumes nothing.
-use Rattle.sheet.specs.Held.{laid}
 use borrow.Author.Needs.{needs}
 use Rattle.sheet.proofs.refuse.Statement.{statement}
 use Rattle.sheet.proofs.refuse.Tie as tie
+use Rattle.sheet.proofs.refuse.Reads as reads
+use Rattle.sheet.proofs.refuse.Lts as lts
+use Rattle.lines.proofs.no_line.Reads as no-line-reads
+use Rattle.sheet.proofs.drafts.no_tasks.Reads as no-tasks-reads
 
-blank-requires : tie.Need-blank-requires
-blank-requires c κs = search needs
+no-line-requires : tie.Need-no-line-requires
+no-line-requires c κs = search needs
+
+no-tasks-requires : tie.Need-no-tasks-requires
+no-tasks-requires c κs = search needs
 
 returns : tie.Need-returns
-unfolding laid
-returns c = rw (c .before .before .before .blank .ensures)
+returns c = rw (c .before .before .before .no-line .ensures, c .no-tasks .ensures)
 
 pub refuse-spec : {M : Type 1} → statement M
-refuse-spec = tie.close (tie.spec blank-requires returns)
+refuse-spec = tie.close (tie.spec no-line-requires no-tasks-requires returns)

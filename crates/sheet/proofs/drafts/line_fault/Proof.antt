@@ -1,10 +1,17 @@
--- `drafts::line_fault` meets its contract: the rules of its word.
+-- `drafts::line_fault` meets its contract: the rules of its word, by what was found.
 -- Assumes nothing.
+use mathlib.Core.Path.{_∙_}
 use Rattle.sheet.specs.Sheet.{lineFault}
-use Rattle.sheet.specs.Held.{told}
+use Rattle.sheet.proofs.DraftLaws.{found-part, found-fit}
 use borrow.Author.Needs.{needs}
 use Rattle.sheet.proofs.drafts.line_fault.Statement.{statement}
 use Rattle.sheet.proofs.drafts.line_fault.Tie as tie
+use Rattle.sheet.proofs.drafts.line_fault.Reads as reads
+use Rattle.sheet.proofs.drafts.line_fault.Lts as lts
+use Rattle.sheet.proofs.drafts.cost_fault.Reads as cost-fault-reads
+use Rattle.sheet.proofs.drafts.fit_fault.Reads as fit-fault-reads
+use Rattle.sheet.proofs.drafts.machine_fault.Reads as machine-fault-reads
+use Rattle.sheet.proofs.drafts.part_fault.Reads as part-fault-reads
 
 enum-told : tie.Need-enum-told
 enum-told c = search needs
@@ -34,24 +41,22 @@ enum-told-5 : tie.Need-enum-told-5
 enum-told-5 c = search needs
 
 returns : tie.Need-returns
-unfolding lineFault told
-returns c = rw (c .before .before .enum-told .given .1) (c .machine-fault .ensures)
+unfolding lineFault
+returns c a stage found = rw (c .before .before .enum-told .given .1, stage) (c .machine-fault .ensures)
 
 returns-2 : tie.Need-returns-2
-unfolding lineFault told
-returns-2 c = rw (c .before .before .enum-told2 .given .1) (c .cost-fault .ensures)
+unfolding lineFault
+returns-2 c a stage found = rw (c .before .before .enum-told2 .given .1, stage) (c .cost-fault .ensures)
 
 returns-3 : tie.Need-returns-3
-unfolding lineFault told
-returns-3 c = rw (c .before .enum-told3 .given .1) (c .part-fault .ensures)
+returns-3 c a stage found = c .part-fault .ensures ∙ rw (← stage) (found-part a (c .before .before .before .before .before .args .line) _ _ _ _ found (c .before .before .enum-told3 .given .1))
 
 returns-4 : tie.Need-returns-4
-unfolding lineFault told
-returns-4 c = rw (c .before .before .before .enum-told4 .given .1) (c .fit-fault .ensures)
+returns-4 c a stage found = c .fit-fault .ensures ∙ rw (← stage) (found-fit a (c .before .before .before .before .args .line) _ _ _ _ found (c .before .enum-told4 .given .1))
 
 returns-5 : tie.Need-returns-5
 unfolding lineFault
-returns-5 c = rw (c .enum-told5 .given .1)
+returns-5 c a stage found = rw (c .enum-told5 .given .1)
 
 pub line-fault-spec : {M : Type 1} → statement M
 line-fault-spec =
