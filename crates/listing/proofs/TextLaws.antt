@@ -8,7 +8,7 @@
 --   Left n d i m                           the digits of n that are left: m, for the i places in front of those in d
 --   left-start, left-step, digits-whole    from the number to all its digits
 --   decimal-few                            at most twenty digits
---   first-pass, second-pass, over-short, over-fits    the writer run twice: to count, and to write
+--   first-pass, second-pass, over-short, over-fits, over-whole    the writer run twice: to count, and to write
 use mathlib.Core.Path.{_≡_, refl, sym, ap, _∙_}
 use Prim.Native.Nat.{ℕ, zero, suc, _+_, _-_, _*_, _/_, _%_, _^_, _≤_, _<_}
 use mathlib.Core.Logic.{⊎-elim}
@@ -141,7 +141,7 @@ pub over-fits : (text old : List ℕ) → length text ≤ length old → over te
 unfolding over
 over-fits text old h = simp (le-leb _ _ h)
 
-over-whole : (text old new : List ℕ) (r : ℕ) → Wrote old 0 text r new → length text ≤ length old → new ≡ over text old
+pub over-whole : (text old new : List ℕ) (r : ℕ) → Wrote old 0 text r new → length text ≤ length old → new ≡ over text old
 over-whole text old new r f h = wrote-whole old text new r f h ∙ sym (over-fits text old h)
 
 sets-none : (at : ℕ) (vs : List ℕ) → sets [] at vs ≡ []

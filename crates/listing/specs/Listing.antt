@@ -12,14 +12,18 @@
 --   entryLines es         the lines of all
 --   header p              the first line: tasks, pieces
 --   listingOf p           the listing
+--   planWith c ts l       a plan with the costs c, the tasks ts and the layout l
+--   listedOn lens n       how many places are listed on the first n cores, by the lengths of their rows
 use mathlib.Core.List.{List, [], _∷_, _++_, map}
-use Prim.Native.Nat.{ℕ, zero, suc, _+_, _*_}
+use Prim.Native.Nat.{ℕ, zero, suc, _+_, _*_, min}
 use lib.ListN.{take, drop, getD}
+use Rattle.demand.specs.declared.Costs.{Costs}
 use Rattle.demand.specs.declared.Kind.{Kind}
 use Rattle.demand.specs.declared.Kind.the-variants.{Whole, First, Last}
 use Rattle.demand.specs.Kinds.{kindOf}
 use Rattle.demand.specs.Answer.{chargedTime}
 use Rattle.task.specs.declared.Name.{Name}
+use Rattle.task.specs.declared.Tasks.{Tasks}
 use Rattle.task.specs.Tasks.{taskAt, tasksMost, coresMost}
 use Rattle.plan.specs.declared.Stored.{Stored}
 use Rattle.plan.specs.declared.Layout.{Layout}
@@ -46,16 +50,20 @@ spelling n = take (n .len) (n .bytes)
 unfoldable pub rowPieces : Layout → ℕ → List Stored
 rowPieces s q = map (λ i. getD (s .pieces) i blank) (take (getD (s .lens) q 0) (take tasksMost (drop (q * 64) (s .rows))))
 
-unfoldable pub entryOf : Plan → ℕ → Stored → Entry
-entryOf p q s = record {
+-- the stored piece s on core q, of a task named n, at the costs c
+abbrev pub entryWith : Costs → ℕ → List ℕ → Stored → Entry
+entryWith c q n s = record {
   core = q + 1;
-  task = spelling (taskAt (p .tasks .list) (s .task) .name);
+  task = n;
   kind = kindOf (s .kind);
   budget = s .budget;
   window = s .window;
   jitter = s .jitter;
-  charged = chargedTime (p .costs) (pieceOf s);
+  charged = chargedTime c (pieceOf s);
 }
+
+unfoldable pub entryOf : Plan → ℕ → Stored → Entry
+entryOf p q s = entryWith (p .costs) q (spelling (taskAt (p .tasks .list) (s .task) .name)) s
 
 abbrev pub rowEntries : Plan → ℕ → List Entry
 rowEntries p q = map (entryOf p q) (rowPieces (p .layout) q)
@@ -95,3 +103,13 @@ header p = lineOf (bytesOf "plan" ∷ decimal (p .tasks .count) ∷ decimal (p .
 
 unfoldable pub listingOf : Plan → List ℕ
 listingOf p = header p ++ entryLines (entries p)
+
+-- ---- what the writer goes by
+
+-- the machine is not listed
+abbrev pub planWith : Costs → Tasks → Layout → Plan
+planWith c ts l = record { machine = record { cores = 0; grain = 0 }; costs = c; tasks = ts; layout = l }
+
+unfoldable pub listedOn : List ℕ → ℕ → ℕ
+listedOn lens zero = 0
+listedOn lens (suc q) = listedOn lens q + min (getD lens q 0) tasksMost

@@ -1,6 +1,7 @@
 // A plan's listing, written into a lent buffer: document 01, "Sheet".
 mod texts;
 
+use demand::Costs;
 use demand::Kind;
 use demand::charged_time;
 use plan::Layout;
@@ -12,13 +13,16 @@ use task::Tasks;
 use texts::put_bytes;
 use texts::put_name;
 use texts::put_number;
+ghost use mathlib.Core.Bool.{cond};
+ghost use mathlib.Core.List.{[], _∷_};
 ghost use mathlib.Core.Path.{_≡_};
-ghost use Prim.Native.Nat.{_+_, _≤_, _<_};
-ghost use lib.ListN.{length, getD};
-ghost use Rattle.task.specs.Tasks.{taskAt};
+ghost use Prim.Native.Nat.{_+_, _*_, _≤_, _<_};
+ghost use lib.Dec.{ltb};
+ghost use lib.ListN.{length};
 ghost use Rattle.plan.specs.Layout.{blank};
-ghost use Rattle.listing.specs.Text.{Wrote, ended, over};
-ghost use Rattle.listing.specs.Listing.{spelling, kindWord, figuresLine, entryOf, entryLine, entryLines, rowEntries, entries, header, listingOf};
+ghost use Rattle.lines.specs.Lines.{bytesOf};
+ghost use Rattle.listing.specs.Text.{Wrote, ended, lineOf, decimal, over};
+ghost use Rattle.listing.specs.Listing.{spelling, kindWord, figuresLine, entryWith, listingOf, planWith, listedOn, entryLine};
 
 // A kind's word, ended by a tab.
 fn put_kind(buf: &mut [u8], at: usize, kind: Kind) -> usize
@@ -32,12 +36,23 @@ fn put_kind(buf: &mut [u8], at: usize, kind: Kind) -> usize
     }
 }
 
-// The stored piece with a number; the zeros that fill a plan, where it has none.
-fn stored_at(layout: Layout, number: usize) -> Stored
-    ensures { λ r. ⌜ r ≡ getD (layout .pieces) number blank ⌝ }
+// A place, or the last of `top` places where it lies past them.
+fn within(place: usize, top: usize) -> usize
+    requires { ⌜ 0 < top ⌝ }
+    ensures { λ r. ⌜ (r < top) × (place < top → r ≡ place) ⌝ }
+{
+    if place < top {
+        return place;
+    }
+    top - 1
+}
+
+// The stored piece with a number, of 79; the zeros that fill a plan, where it has none.
+fn numbered(number: usize, stored: Stored) -> Stored
+    ensures { λ r. ⌜ r ≡ cond (ltb number 79) stored blank ⌝ }
 {
     if number < 79 {
-        return layout.pieces[number];
+        return stored;
     }
     Stored {
         task: 0,
@@ -51,13 +66,12 @@ fn stored_at(layout: Layout, number: usize) -> Stored
     }
 }
 
-// The name of the task at a place; an empty one past the list.
-fn name_at(tasks: Tasks, k: usize) -> Name
-    ensures { λ r. ⌜ spelling r ≡ spelling (taskAt (tasks .list) k .name) ⌝ }
+// The name of the task at a place, of 64; an empty one past the list.
+fn named(place: usize, name: Name) -> Name
+    ensures { λ r. ⌜ spelling r ≡ cond (ltb place 64) (spelling name) [] ⌝ }
 {
-    if k < 64 {
-        let task = tasks.list[k];
-        return task.name;
+    if place < 64 {
+        return name;
     }
     Name {
         len: 0,
@@ -82,15 +96,21 @@ fn put_figures(buf: &mut [u8], at: usize, stored: Stored, charged: u64) -> usize
     put_number(buf, c, charged, 10)
 }
 
-// The line of one piece on a core, from 0.
-fn put_piece(buf: &mut [u8], at: usize, plan: Plan, core: usize, stored: Stored) -> usize
+// The line of one piece on a core, from 0, of a task of that name.
+fn put_piece(
+    buf: &mut [u8],
+    at: usize,
+    core: usize,
+    name: Name,
+    stored: Stored,
+    costs: Costs,
+) -> usize
     requires { ⌜ (at ≤ 700000) × (core < 16) ⌝ }
-    ensures { λ r. ⌜ (Wrote (now (buf .entry)) at (entryLine (entryOf plan core stored)) r (now (buf .exit))) × (r ≤ at + 142) ⌝ }
+    ensures { λ r. ⌜ (Wrote (now (buf .entry)) at (entryLine (entryWith costs core (spelling name) stored)) r (now (buf .exit))) × (r ≤ at + 142) ⌝ }
 {
     let piece = stored_piece(stored);
     let kind = piece.kind;
-    let charged = charged_time(plan.costs, piece);
-    let name = name_at(plan.tasks, stored.task);
+    let charged = charged_time(costs, piece);
     let a = put_bytes(buf, at, b"piece", 9);
     let b = put_number(buf, a, wide(core + 1), 9);
     let c = put_name(buf, b, name, 9);
@@ -108,64 +128,65 @@ fn seats(n: usize) -> usize
     64
 }
 
-// The lines of a core's row.
-fn put_row(buf: &mut [u8], at: usize, plan: Plan, core: usize) -> usize
-    requires { ⌜ (at ≤ 600000) × (core < 16) ⌝ }
-    ensures { λ r. ⌜ (Wrote (now (buf .entry)) at (entryLines (rowEntries plan core)) r (now (buf .exit))) × (r ≤ at + 10000) ⌝ }
+// The first line, with how many tasks and pieces there are.
+fn put_header(buf: &mut [u8], tasks: usize, pieces: usize) -> usize
+    ensures { λ r. ⌜ (Wrote (now (buf .entry)) 0 (lineOf (bytesOf "plan" ∷ decimal tasks ∷ decimal pieces ∷ [])) r (now (buf .exit))) × (r ≤ 47) ⌝ }
 {
-    let layout = plan.layout;
-    let len = seats(layout.lens[core]);
-    let mut k = at;
+    let a = put_bytes(buf, 0, b"plan", 9);
+    let b = put_number(buf, a, wide(tasks), 9);
+    put_number(buf, b, wide(pieces), 10)
+}
+
+// All lines, the first and then each place of each core after another; the place behind them.
+fn put_plan(buf: &mut [u8], costs: Costs, tasks: Tasks, layout: Layout) -> usize
+    ensures { λ r. ⌜ (Wrote (now (buf .entry)) 0 (listingOf (planWith costs tasks layout)) r (now (buf .exit))) × (r ≤ 47 + 142 * listedOn (layout .lens) 16) ⌝ }
+{
+    let mut k = put_header(buf, tasks.count, layout.count);
+    let mut core: usize = 0;
     let mut i: usize = 0;
-    while i < len {
-        let number = layout.rows[core * 64 + i];
-        let stored = stored_at(layout, number);
-        k = put_piece(buf, k, plan, core, stored);
-        i += 1;
+    while core < 16 {
+        if i < seats(layout.lens[core]) {
+            let number = layout.rows[core * 64 + i];
+            let j = within(number, 79);
+            let stored = numbered(number, layout.pieces[j]);
+            let place = stored.task;
+            let t = within(place, 64);
+            let task = tasks.list[t];
+            let name = named(place, task.name);
+            k = put_piece(buf, k, core, name, stored, costs);
+            i += 1;
+        } else {
+            core += 1;
+            i = 0;
+        }
     }
     k
 }
 
-// The first line.
-fn put_header(buf: &mut [u8], plan: Plan) -> usize
-    ensures { λ r. ⌜ (Wrote (now (buf .entry)) 0 (header plan) r (now (buf .exit))) × (r ≤ 47) ⌝ }
+// As many bytes as the listing of rows of these lengths may have.
+fn most_bytes(lens: [usize; 16]) -> usize
+    ensures { λ r. ⌜ r ≡ 47 + 142 * listedOn lens 16 ⌝ }
 {
-    let tasks = plan.tasks;
-    let layout = plan.layout;
-    let a = put_bytes(buf, 0, b"plan", 9);
-    let b = put_number(buf, a, wide(tasks.count), 9);
-    put_number(buf, b, wide(layout.count), 10)
-}
-
-// The lines of all cores.
-fn put_rows(buf: &mut [u8], at: usize, plan: Plan) -> usize
-    requires { ⌜ at ≤ 47 ⌝ }
-    ensures { λ r. ⌜ (Wrote (now (buf .entry)) at (entryLines (entries plan)) r (now (buf .exit))) × (r ≤ 160047) ⌝ }
-{
-    let mut k = at;
+    let mut most: usize = 47;
     let mut core: usize = 0;
     while core < 16 {
-        k = put_row(buf, k, plan, core);
+        most += 142 * seats(lens[core]);
         core += 1;
     }
-    k
-}
-
-// All lines; the place behind them.
-fn put_plan(buf: &mut [u8], plan: Plan) -> usize
-    ensures { λ r. ⌜ (Wrote (now (buf .entry)) 0 (listingOf plan) r (now (buf .exit))) × (r ≤ 160047) ⌝ }
-{
-    let k = put_header(buf, plan);
-    put_rows(buf, k, plan)
+    most
 }
 
 /// The listing's length, at most 160,047. It is written where the buffer is that long, and the bytes beyond it stay; else no byte is written.
 pub fn write_listing(plan: Plan, buf: &mut [u8]) -> usize
     ensures exact { λ r. ⌜ (r ≡ length (listingOf plan)) × (now (buf .exit) ≡ over (listingOf plan) (now (buf .entry))) × (r ≤ 160047) ⌝ }
 {
-    let n = put_plan(&mut buf[..0], plan);
+    let lens = plan.layout.lens;
+    if most_bytes(lens) <= buf.len() {
+        return put_plan(buf, plan.costs, plan.tasks, plan.layout);
+    }
+    let n = put_plan(&mut buf[..0], plan.costs, plan.tasks, plan.layout);
     if buf.len() < n {
         return n;
     }
-    put_plan(buf, plan)
+    put_plan(buf, plan.costs, plan.tasks, plan.layout)
 }

@@ -1,6 +1,5 @@
 -- `put_header` meets its contract: its three fields, one behind another.
 use native.Mathlib.Omega.{arith}
-use Rattle.listing.specs.Listing.{header}
 use Rattle.listing.proofs.TextLaws.{wrote-both}
 use mathlib.Core.Path.{sym}
 use borrow.Author.Needs.{needs}
@@ -34,7 +33,6 @@ same-length : tie.Need-same-length
 same-length c = search needs
 
 returns : tie.Need-returns
-unfolding header
 returns c =
     let a = c .before .before .before .before .before .before .before .before .before .before .before .before .put-bytes in
     let b = c .before .before .before .before .before .before .before .put-number in

@@ -3,18 +3,16 @@ use mathlib.Core.Path.{_≡_, subst}
 use mathlib.Core.List.{List}
 use Prim.Native.Nat.{ℕ}
 use native.Mathlib.Omega.{arith}
-use Rattle.task.specs.Tasks.{taskAt}
 use Rattle.listing.specs.Text.{Wrote}
 use Rattle.listing.specs.Listing.{spelling}
 use Rattle.listing.proofs.TextLaws.{wrote-both}
-use Rattle.listing.proofs.EntryLaws.{entry-line}
+use Rattle.listing.proofs.EntryLaws.{piece-line}
 use borrow.Author.Needs.{needs}
 use Rattle.listing.proofs.put_piece.Statement.{statement}
 use Rattle.listing.proofs.put_piece.Tie as tie
 use Rattle.listing.proofs.put_piece.Reads as reads
 use Rattle.listing.proofs.put_piece.Lts as lts
 use Rattle.demand.proofs.charged_time.Reads as charged-time-reads
-use Rattle.listing.proofs.name_at.Reads as name-at-reads
 use Rattle.listing.proofs.put_figures.Reads as put-figures-reads
 use Rattle.listing.proofs.put_kind.Reads as put-kind-reads
 use Rattle.listing.proofs.texts.put_bytes.Reads as put-bytes-reads
@@ -28,9 +26,6 @@ stored-piece-requires c κs = search needs
 
 charged-time-requires : tie.Need-charged-time-requires
 charged-time-requires c κs = search needs
-
-name-at-requires : tie.Need-name-at-requires
-name-at-requires c κs = search needs
 
 slice-aggregate-put-bytes : tie.Need-slice-aggregate-put-bytes
 slice-aggregate-put-bytes c = search needs
@@ -61,14 +56,14 @@ same-length c = search needs
 
 returns : tie.Need-returns
 returns c =
-    let s = c .before .before .before .before .before .before .before .before .before .before .before .before .before .before .before .before .before .before .before .before .before .before .before .before .before .before .args in
+    let s = c .before .before .before .before .before .before .before .before .before .before .before .before .before .before .before .before .before .before .before .before .before .before .before .before .before .args in
     let a = c .before .before .before .before .before .before .before .before .before .before .before .before .before .before .before .before .before .before .before .put-bytes in
     let b = c .before .before .before .before .before .before .before .before .before .before .before .before .before .before .put-number in
     let n = c .before .before .before .before .before .before .before .before .before .before .put-name in
     let k = c .before .before .before .before .before .before .put-kind in
     let f = c .before .before .put-figures in
     let w = wrote-both (a .ensures) (wrote-both (b .ensures .0) (wrote-both (n .ensures .0) (wrote-both (k .ensures .0) (f .ensures .0)))) in
-    let e = entry-line (s .plan) (s .core) (s .stored) (c .before .before .before .before .before .before .before .before .before .before .before .before .before .before .before .wide .result) (spelling (c .before .before .before .before .before .before .before .before .before .before .before .before .before .before .before .before .before .before .before .before .before .before .name-at .result)) (c .before .before .before .before .before .before .before .before .before .before .before .before .before .before .before .before .before .before .before .before .before .before .before .before .stored-piece .result) (c .before .before .before .before .before .before .before .before .before .before .before .before .before .before .before .before .before .before .before .before .before .before .before .charged-time .result) (c .before .before .before .before .before .before .before .before .before .before .before .before .before .before .before .wide .ensures) (c .before .before .before .before .before .before .before .before .before .before .before .before .before .before .before .before .before .before .before .before .before .before .name-at .ensures) (c .before .before .before .before .before .before .before .before .before .before .before .before .before .before .before .before .before .before .before .before .before .before .before .before .stored-piece .ensures) (c .before .before .before .before .before .before .before .before .before .before .before .before .before .before .before .before .before .before .before .before .before .before .before .charged-time .ensures) in
+    let e = piece-line (s .costs) (s .core) (spelling (s .name)) (s .stored) (c .before .before .before .before .before .before .before .before .before .before .before .before .before .before .before .wide .result) (c .before .before .before .before .before .before .before .before .before .before .before .before .before .before .before .before .before .before .before .before .before .before .before .stored-piece .result) (c .before .before .before .before .before .before .before .before .before .before .before .before .before .before .before .before .before .before .before .before .before .before .charged-time .result) (c .before .before .before .before .before .before .before .before .before .before .before .before .before .before .before .wide .ensures) (c .before .before .before .before .before .before .before .before .before .before .before .before .before .before .before .before .before .before .before .before .before .before .before .stored-piece .ensures) (c .before .before .before .before .before .before .before .before .before .before .before .before .before .before .before .before .before .before .before .before .before .before .charged-time .ensures) in
     (subst (λ (l : List ℕ). Wrote (s .buf .now) (s .at) l (f .result) (f .last .0)) e w, omega (arith, a .ensures .place, b .ensures .1, n .ensures .1, k .ensures .1, f .ensures .1))
 
 pub put-piece-spec : {M : Type 1} → statement M
@@ -77,7 +72,6 @@ put-piece-spec =
     (tie.spec
     stored-piece-requires
     charged-time-requires
-    name-at-requires
     slice-aggregate-put-bytes
     put-bytes-requires
     add-wide
