@@ -5,7 +5,7 @@
 --   filled-none           no record is put yet
 --   first-put, filled-put      one record more
 --   filled-holding        all of them
---   holding-answer        what is answered for the copy is what is answered for the lent records
+--   holds-answer, holding-answer      what is answered for the copy is what is answered for the lent records
 use mathlib.Core.Path.{_≡_, refl, sym, ap, _∙_}
 use mathlib.Core.List.{List}
 use Prim.Native.Nat.{ℕ, _+_, _≤_, _<_}
@@ -21,7 +21,7 @@ use Rattle.demand.specs.declared.Refusal.the-variants.{TooMany}
 use Rattle.demand.specs.Sizes.{runMost}
 use Rattle.demand.specs.Answer.{checkRun, answerOf}
 use Rattle.demand.proofs.RunLaws.{check-many, answer-bad}
-use Rattle.spardimple.specs.Runs.{Holding}
+use Rattle.spardimple.specs.Runs.{Holds, Holding}
 
 pub record Filled (ps : List Piece) (i : ℕ) (r : Run) : Type 0 where
   pub counts : r .count ≡ length ps
@@ -51,8 +51,11 @@ module _ (ps : List Piece) where
   same-pieces c qs e = rw (e ∙ sym (take-length ps))
 
   -- 79 at the most: the pieces are the same. More: 6, by their count alone.
-  pub holding-answer : (c : Costs) (r : Run) → Holding ps r → answerOf c (r .count) (r .pieces) ≡ answerOf c (length ps) ps
-  holding-answer c r holding = ap (λ (n : ℕ). answerOf c n (r .pieces)) (holding .counts) ∙ elim (decLe (length ps) runMost) [
-    | yes few ↦ same-pieces c (r .pieces) (holding .holds few)
-    | no many ↦ answer-bad c (length ps) (r .pieces) TooMany (check-many c (length ps) (r .pieces) (omega arith)) ∙ sym (answer-bad c (length ps) ps TooMany (check-many c (length ps) ps (omega arith)))
+  pub holds-answer : (c : Costs) (qs : List Piece) → Holds ps qs → answerOf c (length ps) qs ≡ answerOf c (length ps) ps
+  holds-answer c qs holds = elim (decLe (length ps) runMost) [
+    | yes few ↦ same-pieces c qs (holds few)
+    | no many ↦ answer-bad c (length ps) qs TooMany (check-many c (length ps) qs (omega arith)) ∙ sym (answer-bad c (length ps) ps TooMany (check-many c (length ps) ps (omega arith)))
   ]
+
+  pub holding-answer : (c : Costs) (r : Run) → Holding ps r → answerOf c (r .count) (r .pieces) ≡ answerOf c (length ps) ps
+  holding-answer c r holding = ap (λ (n : ℕ). answerOf c n (r .pieces)) (holding .counts) ∙ holds-answer c (r .pieces) (holding .holds)

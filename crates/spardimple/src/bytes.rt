@@ -2,13 +2,14 @@
 use crate::runs::nothing;
 use demand::Costs;
 use demand::Piece;
-use demand::Run;
 use demand::kind_of;
+use demand::put_record;
 ghost use mathlib.Core.Path.{_≡_};
 ghost use Prim.Native.Nat.{_+_, _*_, _≤_, _<_};
 ghost use lib.ListN.{length};
+ghost use Rattle.demand.specs.Records.{recordsOf};
 ghost use Rattle.spardimple.specs.Bytes.{numberAt, pieceAt, piecesOf, costsOf};
-ghost use Rattle.spardimple.specs.Runs.{Holding};
+ghost use Rattle.spardimple.specs.Runs.{Holds};
 
 fn wide(b: u8) -> u64
     ensures { λ r. ⌜ (r ≡ b) × (r < 256) ⌝ }
@@ -64,21 +65,16 @@ pub fn room_for(n: usize) -> usize
     if n <= 79 { n } else { 0 }
 }
 
-// The run that the bytes spell.
-pub fn read_run(s: &[u8]) -> Run
-    ensures { λ r. ⌜ Holding (piecesOf (now (s .entry))) r ⌝ }
+// The records that the bytes spell, put as numbers where there is room for all.
+pub fn read_records<'a>(records: &'a mut [u64; 553], s: &'a [u8])
+    requires { ⌜ length (now records) ≡ 553 ⌝ }
+    ensures { λ r. ⌜ Holds (piecesOf (now (s .entry))) (recordsOf (now (records .exit))) ⌝ }
 {
-    let n = s.len() / 28;
-    let most = room_for(n);
-    let mut pieces = [nothing(); 79];
+    let most = room_for(s.len() / 28);
     let mut i: usize = 0;
     while i < most {
-        pieces[i] = piece_at(s, 28 * i);
+        put_record(records, i, piece_at(s, 28 * i));
         i += 1;
-    }
-    Run {
-        count: n,
-        pieces: pieces,
     }
 }
 

@@ -7,7 +7,7 @@ mod numbers;
 mod runs;
 
 use bytes::read_costs;
-use bytes::read_run;
+use bytes::read_records;
 use demand::Answer;
 use demand::Costs;
 use demand::Piece;
@@ -43,8 +43,9 @@ pub extern "C" fn verdict(records: &[u8], costs: &[u8]) -> u64
     if costs.len() != 36 {
         return numbered(108, 0);
     }
-    let run = read_run(records);
-    number_of(demand::judge(read_costs(costs), run))
+    let mut run: [u64; 553] = [0; 553];
+    read_records(&mut run, records);
+    number_of(demand::judge_records(read_costs(costs), &run, records.len() / 28))
 }
 
 /// A sheet's listing, written into a lent buffer. The answer is one number, 2^32 · which + carries: 0 and the listing's length, where it is
