@@ -16,10 +16,8 @@ const ALL_TIME: u64 = 1 << 32;
 pub struct Lean<T: Tally> {
     /// Who counts.
     pub tally: T,
-    /// Whether the next ideas are tried, which the library does not have: nothing is divided for a
-    /// cost of 0, shares are divided once a climb, every candidate tells how far down the next may
-    /// stand ([`Lean::busy_cap`], [`Lean::own_cap`], [`Lean::last_cap`], [`Lean::window_cap`]), and
-    /// the start knows the stall ([`Lean::tight_end`]).
+    /// Whether the next ideas are tried, which the library does not have: nothing is divided for
+    /// what comes within one period, and shares are divided once a climb.
     next: bool,
 }
 
@@ -46,9 +44,13 @@ pub enum Verdict {
     Undecided,
 }
 
-/// What a core with a piece behind tells: it passes, or no more than that may be charged for the
-/// piece; and what told so.
-type Bound = (Option<u64>, Settled);
+/// What a core with a piece behind tells: it passes, its own blocking overloads that length, or no
+/// more than that may be charged for the piece.
+enum Bound {
+    Stands,
+    Falls(u64),
+    AtMost(u64),
+}
 
 fn ceil(a: u64, b: u64) -> u64 {
     (a + (b - 1)) / b
@@ -62,15 +64,34 @@ fn jobs_due(q: &Lane, t: u64) -> u64 {
     }
 }
 
-fn interrupts(q: &Lane, t: u64) -> u64 {
-    ceil(t + q.jitter, q.period) * q.release + ceil(t + q.ipij, q.period) * q.ipi
+/// The same, without a division where at most one period has passed.
+fn jobs_due_soon(q: &Lane, t: u64) -> u64 {
+    if t + q.jitter < q.window + q.period {
+        u64::from(t + q.jitter >= q.window)
+    } else {
+        jobs_due(q, t)
+    }
 }
 
-/// The same, without a division where the cost is 0.
-fn costly(q: &Lane, t: u64) -> u64 {
+/// What interrupts ask for by t: nothing is divided where they cost nothing.
+fn interrupts(q: &Lane, t: u64) -> u64 {
     let calls = |cost: u64, jitter: u64| {
         if cost == 0 {
             0
+        } else {
+            ceil(t + jitter, q.period) * cost
+        }
+    };
+    calls(q.release, q.jitter) + calls(q.ipi, q.ipij)
+}
+
+/// The same, without a division within one period.
+fn interrupts_soon(q: &Lane, t: u64) -> u64 {
+    let calls = |cost: u64, jitter: u64| {
+        if cost == 0 || t + jitter == 0 {
+            0
+        } else if t + jitter <= q.period {
+            cost
         } else {
             ceil(t + jitter, q.period) * cost
         }
@@ -83,9 +104,22 @@ fn due(core: &[Lane], t: u64) -> usize {
     core.iter().filter(|q| t + q.jitter >= q.window).count()
 }
 
+/// How many of them one that is due more than a period ago.
+fn due_long(core: &[Lane], t: u64) -> usize {
+    let long = |q: &&Lane| t + q.jitter >= q.window + q.period;
+    core.iter().filter(long).count()
+}
+
 /// How many costs of interrupts are not 0.
 fn calls(core: &[Lane]) -> usize {
     let of = |q: &Lane| usize::from(q.release > 0) + usize::from(q.ipi > 0);
+    core.iter().map(of).sum()
+}
+
+/// How many of them have come for more than a period.
+fn calls_long(core: &[Lane], t: u64) -> usize {
+    let long = |q: &Lane, cost: u64, jitter: u64| usize::from(cost > 0 && t + jitter > q.period);
+    let of = |q: &Lane| long(q, q.release, q.jitter) + long(q, q.ipi, q.ipij);
     core.iter().map(of).sum()
 }
 
@@ -125,27 +159,49 @@ fn lane_start(q: &Lane, t: u64) -> u64 {
         .max(calls(q.ipi, q.ipij))
 }
 
+/// The first length past l, where the busy sum is asked, that holds it, or l + 1024. From one length
+/// to the next the sum grows by the jobs released at the first.
+#[allow(clippy::cast_possible_truncation)] // a place is below a period, which is at most 1,000,000
+fn held_from(core: &[Lane], l: u64, asked: u64) -> u64 {
+    let mut marks = [0; 1024];
+    for q in core {
+        let first = (ceil(l, q.period) * q.period - l) as usize;
+        for mark in marks.iter_mut().skip(first).step_by(q.period as usize) {
+            *mark += q.job();
+        }
+    }
+    let (mut sum, mut m) = (asked, l + 1);
+    for mark in &marks[..1023] {
+        sum += mark;
+        if sum <= m {
+            return m;
+        }
+        m += 1;
+    }
+    m
+}
+
 impl<T: Tally> Lean<T> {
     /// The interrupts of all pieces by t.
     fn calls(&mut self, core: &[Lane], t: u64) -> u64 {
         if self.next {
-            self.tally.note(Event::Divided(calls(core)));
-            core.iter().map(|q| costly(q, t)).sum()
+            self.tally.note(Event::Divided(calls_long(core, t)));
+            core.iter().map(|q| interrupts_soon(q, t)).sum()
         } else {
-            self.tally.note(Event::Divided(2 * core.len()));
+            self.tally.note(Event::Divided(calls(core)));
             core.iter().map(|q| interrupts(q, t)).sum()
         }
     }
 
     fn demand(&mut self, core: &[Lane], b: u64, w: u64, t: u64) -> u64 {
         self.tally.note(Event::Demand(core.len()));
-        self.tally.note(Event::Divided(due(core, t)));
         let loads: u64 = if self.next {
-            self.tally.note(Event::Divided(calls(core)));
-            let load = |q| jobs_due(q, t) * q.charge + costly(q, t);
+            self.tally
+                .note(Event::Divided(due_long(core, t) + calls_long(core, t)));
+            let load = |q| jobs_due_soon(q, t) * q.charge + interrupts_soon(q, t);
             core.iter().map(load).sum()
         } else {
-            self.tally.note(Event::Divided(2 * core.len()));
+            self.tally.note(Event::Divided(due(core, t) + calls(core)));
             let load = |q| jobs_due(q, t) * q.charge + interrupts(q, t);
             core.iter().map(load).sum()
         };
@@ -157,7 +213,7 @@ impl<T: Tally> Lean<T> {
     }
 
     /// The busy length: each step goes to the busy sum, or as far as the shares of the pieces
-    /// reach.
+    /// reach; where a long climb would gain little by that, it walks over 1,024 lengths.
     pub fn busy_length(&mut self, core: &[Lane]) -> Option<u64> {
         let found = if self.next {
             self.tally.note(Event::Divided(core.len()));
@@ -202,13 +258,23 @@ impl<T: Tally> Lean<T> {
             } else {
                 0
             };
-            if reach > asked {
-                self.tally.note(Event::Leap);
-            }
             let next = asked.max(reach);
+            let short = plain == 0 && next < l + 256;
             ahead = if plain > 0 { 0 } else { (ahead + next - l) / 2 };
             plain = plain.saturating_sub(1);
-            l = next;
+            if short {
+                self.tally.note(Event::Walk(core.len()));
+                let m = held_from(core, l, asked);
+                if m < l + 256 {
+                    return Some(m).filter(|&m| m <= LIMIT);
+                }
+                l = m;
+            } else {
+                if reach > asked {
+                    self.tally.note(Event::Leap);
+                }
+                l = next;
+            }
         }
         None
     }
@@ -278,88 +344,103 @@ impl<T: Tally> Lean<T> {
         self.squeeze(core, b, q, far, a, 4 * q.period)
     }
 
-    /// The greatest charge of the last of the pieces, q, that leaves them a busy length: the busy sum
-    /// falls with the charge at every length, so it may be searched for by doubling and bisecting.
+    /// The high end that the probes lower, where a number that is refused tells so of each greater one:
+    /// the low end goes up by one, and by twice as much each time.
+    fn lowered(
+        &mut self,
+        from: u64,
+        top: u64,
+        mut refused: impl FnMut(&mut Self, u64) -> bool,
+    ) -> u64 {
+        let (mut low, mut high) = (from, top);
+        while low + 1 < high {
+            let m = low + (low - from + 1).min((high - low) / 2);
+            if refused(self, m) {
+                high = m;
+            } else {
+                low = m;
+            }
+        }
+        high
+    }
+
+    /// A charge of the last of the pieces, q, below its own, that may leave a busy length: at the last
+    /// multiples of the periods the busy sum is least above the length.
+    fn guess(&mut self, all: &[Lane], q: &Lane) -> u64 {
+        let mut best = 0;
+        for p in all {
+            let l = LIMIT / p.period * p.period;
+            self.tally.note(Event::Climb(all.len()));
+            self.tally.note(Event::Divided(all.len() + 3));
+            let asked: u64 = all.iter().map(|q| ceil(l, q.period) * q.job()).sum();
+            let over = asked.saturating_sub(l) / ceil(l, q.period).max(1);
+            best = best.max(q.charge.saturating_sub(1 + over));
+        }
+        best
+    }
+
+    /// What may be charged for the last of the pieces, q, where they have no busy length: the busy sum
+    /// falls with the charge at every length, so a charge without one tells so of each greater one.
+    /// The last few are left to the search.
     fn busy_cap(&mut self, all: &[Lane], q: &Lane) -> u64 {
         let mut core = all.to_vec();
         let last = core.len() - 1;
-        let mut has = |way: &mut Self, charge| {
+        let (mut low, mut high) = (self.guess(all, q), q.charge);
+        while low + 4 < high {
+            let charge = (low + high) / 2;
             core[last].charge = charge;
-            way.busy_length(&core).is_some()
-        };
-        let (mut without, mut step) = (q.charge, 1);
-        let mut with = loop {
-            if step >= without {
-                break 0; // the pieces before q passed
-            }
-            if has(self, without - step) {
-                break without - step;
-            }
-            without -= step;
-            step *= 2;
-        };
-        while without - with > 1 {
-            let middle = (with + without) / 2;
-            if has(self, middle) {
-                with = middle;
-            } else {
-                without = middle;
+            match self.busy_length(&core) {
+                None => high = charge,
+                Some(_) => low = charge,
             }
         }
-        with
+        high - 1
     }
 
-    /// What may be charged for the last of the pieces where its own blocking overloads the length t:
-    /// what fits there, or what has its tight window by then.
-    fn own_cap(&mut self, all: &[Lane], ask: &Ask<'_>, x: u64, t: u64) -> u64 {
-        let (q, core) = match all.split_last() {
-            Some(parted) => parted,
-            None => return 0,
+    /// The greatest charge of q, below its own, that fits at t beside the core where the stall counts.
+    fn fit_stalled(&mut self, core: &[Lane], q: &Lane, b: u64, t: u64) -> u64 {
+        let asked = self.demand(core, b, t + 1, t) + self.calls(std::slice::from_ref(q), t);
+        self.tally.note(Event::Divided(1));
+        if t < asked {
+            return 0;
+        }
+        let (jobs, room) = (jobs_due(q, t), t - asked);
+        let most = if jobs * q.charge <= room {
+            q.charge
+        } else {
+            room / jobs
         };
-        let rest = self.demand(core, ask.stall, t + 1, t) + costly(q, t);
-        let fits = match jobs_due(q, t) {
-            0 => 0,
-            jobs => t.saturating_sub(rest) / jobs,
-        };
-        let tight = self.window_cap(core, ask, x, t.saturating_sub(q.jitter));
-        fits.max(q.charge - x + tight)
+        most.min(q.charge - 1)
     }
 
-    /// What the core tells of the charge of the last of its pieces.
-    fn bound(&mut self, all: &[Lane], ask: &Ask<'_>, x: u64) -> Bound {
-        let b = ask.stall;
+    /// What the core tells of the last of its pieces.
+    fn bound(&mut self, all: &[Lane], b: u64) -> (Bound, Settled) {
         let (q, core) = match all.split_last() {
             Some(parted) => parted,
-            None => return (None, Settled::Allowed),
+            None => return (Bound::Stands, Settled::Allowed),
         };
         let a = least_live(all);
         let cap = self.cap(core, b, q, a);
         if cap < q.charge {
-            return (Some(cap), Settled::ShortCap);
+            return (Bound::AtMost(cap), Settled::ShortCap);
         }
         let l = match self.busy_length(all) {
-            None => {
-                let cap = if self.next {
-                    self.busy_cap(all, q)
-                } else {
-                    q.charge - 1
-                };
-                return (Some(cap), Settled::NoBusyLength);
-            }
+            None => return (Bound::AtMost(self.busy_cap(all, q)), Settled::NoBusyLength),
             Some(l) => l,
         };
         let near = self.squeeze(core, b, q, q.charge, a, l);
         if near < q.charge {
-            return (Some(near), Settled::WholeCap);
+            return (Bound::AtMost(near), Settled::WholeCap);
         }
         let own = a.max(largest_window(core));
         match self.descend(all, b, own, q.window.saturating_sub(own)) {
-            Verdict::Passes => (None, Settled::Allowed),
-            Verdict::Overloaded(t) if self.next => {
-                let cap = self.own_cap(all, ask, x, t);
-                (Some(cap.min(q.charge - 1)), Settled::OwnBlocking)
+            Verdict::Passes => (Bound::Stands, Settled::Allowed),
+            Verdict::Overloaded(t) => {
+                self.tally.note(Event::Stretch(all.len()));
+                let start = all.iter().map(|q| lane_start(q, t)).max().unwrap_or(0);
+                (Bound::Falls(start.min(t).max(own)), Settled::OwnBlocking)
             }
-            _ => (Some(q.charge - 1), Settled::OwnBlocking),
+            Verdict::Undecided => (Bound::Falls(own), Settled::OwnBlocking),
         }
     }
 
@@ -377,42 +458,25 @@ impl<T: Tally> Lean<T> {
         None
     }
 
-    /// What the t of each allowed split's tight window is below, up to `room`: the jobs of the core
-    /// that are due by then are charged no more than the stall where the task has no jitter, and
-    /// none is due where it has. What is due never falls, so it may be bisected.
-    fn tight_end(&mut self, core: &[Lane], ask: &Ask<'_>, room: u64) -> u64 {
+    /// What the t of each allowed split's tight window is below: it leaves the last piece a window, and
+    /// the jobs of the core that are due by then are charged no more than the stall where the task
+    /// has no jitter, and none is due where it has. What is due never falls.
+    fn tight_end(&mut self, core: &[Lane], ask: &Ask<'_>) -> u64 {
+        let end = ask.times[1].saturating_sub(ask.times[3]);
+        if core.is_empty() {
+            return end;
+        }
         let most = if ask.times[3] == 0 { ask.stall } else { 0 };
-        let soonest = least_live(core);
-        let mut more = |t| {
-            self.tally.note(Event::Demand(core.len()));
-            self.tally.note(Event::Divided(due(core, t)));
-            let charges: u64 = core.iter().map(|q| jobs_due(q, t) * q.charge).sum();
-            charges > most
-        };
-        if room <= soonest || more(soonest) {
-            return room.min(soonest);
-        }
-        let (mut calm, mut end) = (soonest, room);
-        while end - calm > 1 {
-            let middle = (calm + end) / 2;
-            if more(middle) {
-                end = middle;
-            } else {
-                calm = middle;
-            }
-        }
-        end
+        let from = least_live(core).saturating_sub(1);
+        self.lowered(from, end, |way, t| {
+            let calls = way.calls(core, t);
+            most + calls < way.demand(core, 0, 0, t)
+        })
     }
 
     /// Where the search starts: no allowed split is above.
     fn start(&mut self, core: &mut Vec<Lane>, ask: &Ask<'_>) -> u64 {
-        let room = ask.times[1].saturating_sub(ask.times[3]);
-        let end = match core.first() {
-            None => room,
-            Some(_) if self.next => self.tight_end(core, ask, room),
-            Some(head) if ask.times[3] == 0 && head.charge <= ask.stall => room,
-            Some(_) => room.min(least_live(core)),
-        };
+        let end = self.tight_end(core, ask);
         let x = (ask.times[0] - 1).min(end.saturating_sub(ask.least + 1));
         if x == 0 {
             return 0;
@@ -425,43 +489,24 @@ impl<T: Tally> Lean<T> {
         cap.saturating_sub(q.charge - x)
     }
 
-    /// The greatest budget below x that has a tight window by `top`. A smaller one has a smaller, so
-    /// it may be bisected.
-    fn window_cap(&mut self, core: &[Lane], ask: &Ask<'_>, x: u64, top: u64) -> u64 {
-        let mut all = core.to_vec();
-        all.push(ask.first(0, 0));
-        let free = ask.first(0, 0).charge;
-        let (mut with, mut without) = (0, x);
-        while without - with > 1 {
-            let middle = (with + without) / 2;
-            let found = self.tight(&all, ask.stall + free + middle, top);
-            if found.is_some() {
-                with = middle;
-            } else {
-                without = middle;
-            }
-        }
-        with
+    /// Down from x to where a tight window ends by `top`: no budget between has one. The first piece, of
+    /// whatever budget, lies behind.
+    fn window_below(&mut self, all: &[Lane], base: u64, x: u64, top: u64) -> u64 {
+        self.lowered(0, x, |way, budget| {
+            way.tight(all, base + budget, top).is_none()
+        }) - 1
     }
 
-    /// What no smaller budget is above whose last piece passes, where the last piece beside the
-    /// tight t is overloaded by that excess: the interrupts by the smaller one's tight t are fewer
-    /// by as much, and they never fall, so the greatest such t may be bisected.
-    fn last_cap(&mut self, core: &[Lane], ask: &Ask<'_>, x: u64, t: u64, excess: u64) -> u64 {
-        let mut all = core.to_vec();
-        all.push(ask.first(0, 0));
-        let most = self.calls(&all, t).saturating_sub(excess);
-        let (mut fewer, mut more) = (0, t);
-        while more - fewer > 1 {
-            let middle = (fewer + more) / 2;
-            self.tally.note(Event::Tight(all.len()));
-            if self.calls(&all, middle) <= most {
-                fewer = middle;
-            } else {
-                more = middle;
-            }
-        }
-        self.window_cap(core, ask, x, fewer)
+    /// Down from x, with the tight t, whose last piece is overloaded by more than s: a smaller budget's
+    /// is too, unless its tight window has more than s interrupts less.
+    fn last_below(&mut self, all: &[Lane], base: u64, x: u64, t: u64, s: u64) -> u64 {
+        let calls = |way: &mut Self, t| {
+            way.tally.note(Event::Tight(all.len()));
+            way.calls(all, t)
+        };
+        let most = calls(self, t).saturating_sub(s);
+        let end = self.lowered(0, t, |way, m| most <= calls(way, m));
+        self.window_below(all, base, x, end - 1)
     }
 
     /// One candidate: its window where it is allowed, or how far down the next may stand; and what
@@ -472,45 +517,58 @@ impl<T: Tally> Lean<T> {
         ask: &Ask<'_>,
         x: u64,
     ) -> (Result<u64, u64>, Settled) {
-        let (deadline, jitter) = (ask.times[1], ask.times[3]);
         let n = core.len();
-        let wide = ask.first(x, deadline - 1);
-        core.push(wide);
-        let top = (deadline - 1).saturating_sub(jitter);
-        let tight = self.tight(core, ask.stall + wide.charge, top);
+        core.push(ask.first(x, ask.times[1] - 1));
+        let tried = self.try_laid(core, ask, x);
         core.truncate(n);
-        let t = match tight {
-            None if self.next => {
-                return (Err(self.window_cap(core, ask, x, top)), Settled::NoWindow);
-            }
-            None => return (Err(x - 1), Settled::NoWindow),
+        tried
+    }
+
+    /// The same, with the first piece behind.
+    fn try_laid(&mut self, all: &mut [Lane], ask: &Ask<'_>, x: u64) -> (Result<u64, u64>, Settled) {
+        let (deadline, jitter) = (ask.times[1], ask.times[3]);
+        let last = all.len() - 1;
+        let extra = all[last].charge - x;
+        let base = ask.stall + extra;
+        let top = (deadline - 1).saturating_sub(jitter);
+        let t = match self.tight(all, base + x, top) {
+            None => return (Err(self.window_below(all, base, x, top)), Settled::NoWindow),
             Some(t) => t,
         };
         let w = jitter + t;
-        let slack = t - (x + ask.least);
-        let last = [Lane::of(ask.costs, 2, &last_of(ask.costs, ask.times, x, w))];
-        match self.judge(&last, ask.stall) {
+        let rest = [Lane::of(ask.costs, 2, &last_of(ask.costs, ask.times, x, w))];
+        match self.judge(&rest, ask.stall) {
             Verdict::Passes => {}
             Verdict::Undecided => return (Err(0), Settled::LastEnds),
-            Verdict::Overloaded(t) => {
-                let g = self.demand(&last, ask.stall, deadline - w, t);
-                if t + slack < g {
-                    return (Err(0), Settled::LastEnds);
-                }
-                let below = if self.next {
-                    self.last_cap(core, ask, x, w - jitter, g - t)
-                } else {
-                    x - 1
+            Verdict::Overloaded(u) => {
+                self.tally.note(Event::Stretch(1));
+                let start = lane_start(&rest[0], u).min(u).max(least_live(&rest));
+                let mut excess = |t| {
+                    let g = self.demand(&rest, ask.stall, deadline - w, t);
+                    g.saturating_sub(t + 1)
                 };
+                let s = excess(u).max(excess(start));
+                let below = self.last_below(all, base, x, t, s);
                 return (Err(below), Settled::LastFalls);
             }
         }
-        let q = ask.first(x, w);
-        core.push(q);
-        let (bound, settled) = self.bound(core, ask, x);
-        core.truncate(n);
-        let below = |f: u64| f.saturating_sub(q.charge - x);
-        (bound.map_or(Ok(w), |f| Err(below(f))), settled)
+        let core = &all[..last];
+        if last > 0 && least_live(core) <= t && t < largest_window(core).max(w) {
+            let top = least_live(core).saturating_sub(1);
+            return (Err(self.window_below(all, base, x, top)), Settled::JobDue);
+        }
+        all[last].window = w;
+        let (bound, settled) = self.bound(all, ask.stall);
+        let told = match bound {
+            Bound::Stands => Ok(w),
+            Bound::AtMost(f) => Err(f.saturating_sub(extra)),
+            Bound::Falls(u) => {
+                let most = self.fit_stalled(&all[..last], &all[last], ask.stall, u);
+                let tight = self.window_below(all, base, x, u.saturating_sub(jitter));
+                Err(most.saturating_sub(extra).max(tight))
+            }
+        };
+        (told, settled)
     }
 }
 

@@ -72,12 +72,8 @@ fn text(sheet: &Sheet<'_>) -> String {
     text
 }
 
-/// The most candidates in one search by such a way, and the sheet.
-pub fn splits(
-    way: fn(Counts) -> Lean<Counts>,
-    time: Duration,
-    random: &mut Random,
-) -> (u64, String) {
+/// The most candidates in one search, and the sheet.
+pub fn splits(time: Duration, random: &mut Random) -> (u64, String) {
     let start = Instant::now();
     let mut worst = (0, String::new());
     while start.elapsed() < time {
@@ -124,7 +120,7 @@ pub fn splits(
                     .map(|(&name, &times)| Task { name, times })
                     .collect(),
             };
-            let mut lean = way(Counts::default());
+            let mut lean = Lean::new(Counts::default());
             let _ = sheets::walk(&sheet, &mut lean);
             let most = lean.tally.candidates.iter().copied().max().unwrap_or(0);
             if most > worst.0 {

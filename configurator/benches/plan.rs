@@ -132,11 +132,9 @@ fn hunt(time: Duration) {
     let seed = env::var("SPARDIMPLE_SEED").ok();
     let seed = seed.and_then(|seed| seed.parse().ok());
     let random = &mut Random(seed.unwrap_or(loads::SEED));
-    let (candidates, sheet) = hunts::splits(Lean::new, time / 3, random);
+    let (candidates, sheet) = hunts::splits(time / 2, random);
     println!("{candidates} candidates for one split:\n{sheet}");
-    let (candidates, sheet) = hunts::splits(Lean::next, time / 3, random);
-    println!("{candidates} candidates with the next ideas:\n{sheet}");
-    let (steps, core) = hunts::climbs(time / 3, random);
+    let (steps, core) = hunts::climbs(time / 2, random);
     println!("{steps} steps to a busy length, budgets and periods {core:?}");
 }
 

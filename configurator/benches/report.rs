@@ -326,7 +326,7 @@ fn counts_table(loads: &[Measured]) -> String {
 
 fn settled_table(loads: &[Measured]) -> String {
     let mut text = String::from(
-        "| workload | candidates | allowed | no tight window | last falls | last ends | short cap | no busy length | whole cap | own blocking |\n|---|---|---|---|---|---|---|---|---|---|\n",
+        "| workload | candidates | allowed | no tight window | last falls | last ends | job due | short cap | no busy length | whole cap | own blocking |\n|---|---|---|---|---|---|---|---|---|---|---|\n",
     );
     for load in loads {
         let settled = &load.counts.settled;
@@ -344,18 +344,19 @@ fn settled_table(loads: &[Measured]) -> String {
 
 fn work_table(loads: &[Measured]) -> String {
     let mut text = String::from(
-        "| workload | demands | climb steps (leaps) | tight windows | stretches | papers: demands | climb steps | tight windows | evaluations, ratio | divisions, ratio |\n|---|---|---|---|---|---|---|---|---|---|\n",
+        "| workload | demands | climb steps (leaps, walks) | tight windows | stretches | papers: demands | climb steps | tight windows | evaluations, ratio | divisions, ratio |\n|---|---|---|---|---|---|---|---|---|---|\n",
     );
     for load in loads {
         let (ours, theirs) = (&load.counts, &load.papers);
         let each = |count: u64| count as f64 / load.sheets as f64;
         let _ = writeln!(
             text,
-            "| {} | {:.0} | {:.0} ({:.0}) | {:.0} | {:.0} | {:.0} | {:.0} | {:.0} | {:.2} | {:.2} |",
+            "| {} | {:.0} | {:.0} ({:.0}, {:.0}) | {:.0} | {:.0} | {:.0} | {:.0} | {:.0} | {:.2} | {:.2} |",
             load.name,
             each(ours.demands),
             each(ours.climbs),
             each(ours.leaps),
+            each(ours.walks),
             each(ours.tights),
             each(ours.stretches),
             each(theirs.demands),
@@ -413,23 +414,14 @@ fn wrong_table(loads: &[Measured]) -> String {
 
 fn next_table(loads: &[Measured]) -> String {
     let mut text = String::from(
-        "| workload | candidates, mean (most) | with the next ideas | evaluations | with the next ideas | divisions, the papers' being 1 | with the next ideas | time by rustc, the papers' being 1 | with the next ideas |\n|---|---|---|---|---|---|---|---|---|\n",
+        "| workload | divisions, the papers' being 1 | with the next ideas | time by rustc, the papers' being 1 | with the next ideas |\n|---|---|---|---|---|\n",
     );
     for load in loads {
-        let now = spread(&load.counts.candidates);
-        let next = spread(&load.next.candidates);
-        let each = |counts: &Counts| counts.evaluations() as f64 / load.sheets as f64;
         let theirs = load.papers.divisions.max(1) as f64;
         let _ = writeln!(
             text,
-            "| {} | {:.2} ({}) | {:.2} ({}) | {:.0} | {:.0} | {:.2} | {:.2} | {} | {} |",
+            "| {} | {:.2} | {:.2} | {} | {} |",
             load.name,
-            now.mean,
-            now.most,
-            next.mean,
-            next.most,
-            each(&load.counts),
-            each(&load.next),
             load.counts.divisions as f64 / theirs,
             load.next.divisions as f64 / theirs,
             times(load.plan.ratio(Column::ByRustc)),
@@ -461,16 +453,17 @@ fn verdict_table(loads: &[Measured]) -> String {
 
 fn slow_table(slow: &[SlowCore]) -> String {
     let mut text = String::from(
-        "| budgets in periods | verdict | climb (leaps) | lengths | library, ms | papers: climb | lengths | ms |\n|---|---|---|---|---|---|---|---|\n",
+        "| budgets in periods | verdict | climb (leaps, walks) | lengths | library, ms | papers: climb | lengths | ms |\n|---|---|---|---|---|---|---|---|\n",
     );
     for core in slow {
         let _ = writeln!(
             text,
-            "| {} | {} | {} ({}) | {} | {:.2} | {} | {} | {:.2} |",
+            "| {} | {} | {} ({}, {}) | {} | {:.2} | {} | {} | {:.2} |",
             core.name,
             core.verdict,
             grouped(core.counts.climbs),
             grouped(core.counts.leaps),
+            grouped(core.counts.walks),
             grouped(core.counts.demands),
             core.ours / 1e6,
             grouped(core.papers.climbs),
@@ -525,10 +518,11 @@ fn counts_json(counts: &Counts) -> String {
         )
     };
     format!(
-        "{{\"demands\": {}, \"climb_steps\": {}, \"leaps\": {}, \"tight_steps\": {}, \"stretches\": {}, \"pieces\": {}, \"divisions\": {}, \"candidates\": {}, \"lengths\": {}, \"climbs\": {}}}",
+        "{{\"demands\": {}, \"climb_steps\": {}, \"leaps\": {}, \"walks\": {}, \"tight_steps\": {}, \"stretches\": {}, \"pieces\": {}, \"divisions\": {}, \"candidates\": {}, \"lengths\": {}, \"climbs\": {}}}",
         counts.demands,
         counts.climbs,
         counts.leaps,
+        counts.walks,
         counts.tights,
         counts.stretches,
         counts.pieces,
@@ -562,11 +556,12 @@ fn number(ratio: f64) -> f64 {
 
 fn slow_json(core: &SlowCore) -> String {
     format!(
-        "{{\"pieces\": \"{}\", \"verdict\": \"{}\", \"climb_steps\": {}, \"leaps\": {}, \"lengths\": {}, \"library_ms\": {:.3}, \"papers_climb_steps\": {}, \"papers_lengths\": {}, \"papers_ms\": {:.3}}}",
+        "{{\"pieces\": \"{}\", \"verdict\": \"{}\", \"climb_steps\": {}, \"leaps\": {}, \"walks\": {}, \"lengths\": {}, \"library_ms\": {:.3}, \"papers_climb_steps\": {}, \"papers_lengths\": {}, \"papers_ms\": {:.3}}}",
         core.name,
         core.verdict,
         core.counts.climbs,
         core.counts.leaps,
+        core.counts.walks,
         core.counts.demands,
         core.ours / 1e6,
         core.papers.climbs,

@@ -12,6 +12,8 @@ pub enum Event {
     Climb(usize),
     /// A step of a climb went further than the busy sum.
     Leap,
+    /// A step of a climb walked over 1,024 lengths, with the releases of that many pieces marked.
+    Walk(usize),
     /// A climb ended.
     Climbed,
     /// The interrupts of that many pieces were evaluated: one step to a tight window.
@@ -31,29 +33,32 @@ pub enum Event {
 pub enum Settled {
     /// It is allowed.
     Allowed,
-    /// It has no tight window: the next is one less.
+    /// It has no tight window that leaves its last piece one.
     NoWindow,
-    /// Its last piece is overloaded within the slack: the next is one less.
+    /// Its last piece is overloaded.
     LastFalls,
-    /// Its last piece ends the search.
+    /// Its last piece has no busy length, which ends the search.
     LastEnds,
+    /// A job of the core is due within its tight window.
+    JobDue,
     /// The far length or the short walk gives a cap.
     ShortCap,
-    /// There is no busy length: the next is one less.
+    /// There is no busy length.
     NoBusyLength,
     /// The whole walk gives a cap.
     WholeCap,
-    /// Its own blocking: the next is one less.
+    /// Its own blocking overloads a length.
     OwnBlocking,
 }
 
 impl Settled {
     /// All of them, in this order.
-    pub const ALL: [Settled; 8] = [
+    pub const ALL: [Settled; 9] = [
         Settled::Allowed,
         Settled::NoWindow,
         Settled::LastFalls,
         Settled::LastEnds,
+        Settled::JobDue,
         Settled::ShortCap,
         Settled::NoBusyLength,
         Settled::WholeCap,
@@ -86,6 +91,8 @@ pub struct Counts {
     pub climbs: u64,
     /// Those that leapt.
     pub leaps: u64,
+    /// Those that walked over 1,024 lengths.
+    pub walks: u64,
     /// Steps to tight windows.
     pub tights: u64,
     /// Pieces looked at in all of these.
@@ -99,7 +106,7 @@ pub struct Counts {
     /// Steps of each climb.
     pub steps: Vec<u64>,
     /// Candidates by what settled them, in the order of [`Settled::ALL`].
-    pub settled: [u64; 8],
+    pub settled: [u64; 9],
     /// Verdicts without a busy length.
     pub undecided: u64,
     tried: u64,
@@ -123,6 +130,11 @@ impl Tally for Counts {
                 self.pieces += pieces as u64;
             }
             Event::Leap => self.leaps += 1,
+            Event::Walk(pieces) => {
+                self.walks += 1;
+                self.pieces += pieces as u64;
+                self.divisions += pieces as u64;
+            }
             Event::Climbed => {
                 self.steps.push(self.climbs - self.climbs_before);
                 self.climbs_before = self.climbs;
@@ -158,6 +170,6 @@ impl Tally for Counts {
 impl Counts {
     /// Evaluations of a sum over a core, of any kind.
     pub fn evaluations(&self) -> u64 {
-        self.demands + self.stretches + self.climbs + self.tights
+        self.demands + self.stretches + self.climbs + self.walks + self.tights
     }
 }

@@ -85,7 +85,7 @@ fn random_sheets() {
     assert!(splits > 3_000);
 }
 
-/// Blocking that is long beside the charges: the splits where a candidate can tell of one less only.
+/// Blocking that is long beside the charges: the splits where the first piece's own blocking counts.
 #[test]
 fn long_blocking() {
     let mut random = Random::for_test();
