@@ -8,7 +8,7 @@
 --   busy-length-is, -within       what holds the busy sum least is the busy length, within the limit
 --   busy-found, -nothing          how a climb to it ends
 --   tight-window-asked            the tight window as the code climbs to it
-use mathlib.Core.Path.{_≡_, refl, sym, ap, subst}
+use mathlib.Core.Path.{_≡_, refl, ap, subst}
 use mathlib.Core.Bool.{Bool, true, false}
 use mathlib.Core.List.{List, [], _∷_, _++_}
 use Prim.Native.Nat.{ℕ, zero, suc, _+_, _-_, _≤_, _<_}
@@ -22,7 +22,7 @@ use Rattle.demand.specs.declared.Found.the-variants.{At, Nothing}
 use Rattle.demand.specs.declared.Sum.{Sum}
 use Rattle.demand.specs.declared.Sum.the-variants.{Interrupts}
 use Rattle.demand.specs.Sizes.{Each, busyMost}
-use Rattle.demand.specs.Busy.{Least, Holds, Finds, climbing, leastHolding, busyLoad, busySum, busyLength, later, tightSum, tightWindow}
+use Rattle.demand.specs.Busy.{Least, Finds, climbing, leastHolding, busyLoad, busySum, busyLength, later, tightSum, tightWindow}
 use Rattle.demand.specs.Demand.{total}
 use Rattle.demand.specs.Answer.{tightOfLast}
 use Rattle.demand.specs.Lanes.{term}

@@ -6,7 +6,7 @@
 --   sized-countable          a record within the sizes can be charged
 --   charged-tells            its charged time, by what the two size tests tell
 --   charged-time-is          and within the sizes it is C'
-use mathlib.Core.Path.{_≡_, refl, sym, ap, _∙_}
+use mathlib.Core.Path.{_≡_}
 use mathlib.Core.Bool.{Bool, true, false, cond, _&&_}
 use mathlib.Core.List.{List}
 use Prim.Native.Nat.{ℕ, _+_, _≤_}

@@ -9,10 +9,10 @@
 --   demand-mono              g(t) ≤ g(u) for t ≤ u on one side of the largest window
 --   live-mono                from a live length on all are live
 --   least-live-least         `leastLive` is the least live length
-use mathlib.Core.Path.{_≡_, refl, sym, ap}
+use mathlib.Core.Path.{_≡_}
 use mathlib.Core.List.{List, [], _∷_, _++_}
 use mathlib.Core.Logic.{_⊎_, ⊎-elim}
-use Prim.Native.Nat.{ℕ, _+_, _*_, _-_, _/_, _≤_, _<_, zero-le, min, max}
+use Prim.Native.Nat.{ℕ, _+_, _-_, _/_, _≤_, _<_, zero-le, min, max}
 use native.Mathlib.Nat.{mul-le-mul-right, le-refl}
 use native.Mathlib.Decide.{decLt}
 use native.Mathlib.Omega.{arith}

@@ -13,7 +13,7 @@ use native.Mathlib.Decide.{decLt}
 use native.Mathlib.Omega.{arith}
 use Rattle.demand.specs.declared.Charged.{Charged}
 use Rattle.demand.specs.declared.leaps.Flow.{Flow}
-use Rattle.demand.specs.Busy.{Holds, busyLoad, busySum}
+use Rattle.demand.specs.Busy.{busyLoad, busySum}
 use Rattle.demand.specs.Demand.{ceil}
 use Rattle.demand.specs.Lanes.{rows, lane}
 use Rattle.demand.specs.Leaps.{allTime, Flows, Reaches}

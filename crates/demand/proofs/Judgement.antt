@@ -9,7 +9,7 @@
 --   overloaded-live       "overloaded": that length is live, and asks for more than itself
 --   undecided-only        "undecided": there is no busy length up to the limit
 --   undecided-then        no busy length up to the limit: "undecided"
-use mathlib.Core.Path.{_≡_, sym, subst}
+use mathlib.Core.Path.{_≡_, subst}
 use mathlib.Core.List.{List, []}
 use mathlib.Core.Logic.{_⊎_, ⊎-elim, inl, inr}
 use Prim.Native.Nat.{ℕ, _≤_, _<_}
@@ -21,7 +21,7 @@ use Rattle.demand.specs.Sizes.{Sized, Each, busyMost}
 use Rattle.demand.specs.Charge.{coreOf, stall}
 use Rattle.demand.specs.Demand.{demand, Live}
 use Rattle.demand.specs.Busy.{Least, Holds, busySum}
-use Rattle.demand.specs.Verdict.{Judged, Worst, Means, verdict, verdictOf}
+use Rattle.demand.specs.Verdict.{Judged, Worst, Means, verdictOf}
 use Rattle.demand.proofs.ChargeLaws.{core-recurs, all-countable}
 use Rattle.demand.proofs.DemandLaws.{Recurs, live-mono}
 use Rattle.demand.proofs.VerdictLaws.{verdict-means, verdict-unique, passes-forever}

@@ -9,15 +9,15 @@
 --   tight-of-rows         the tight window of the last lane
 --   rows-kept, lane-put   a piece written behind the rows leaves them as they were, and lies there
 --   core-snoc, core-more  the pieces of a core, one more
-use mathlib.Core.Path.{_≡_, refl, sym, ap, subst, _∙_}
+use mathlib.Core.Path.{_≡_, refl, sym, ap, _∙_}
 use mathlib.Core.List.{List, [], _∷_, _++_, map}
 use Prim.Native.Nat.{ℕ, zero, suc, _+_, _*_, _-_, _≤_, _<_, min, max}
-use native.Mathlib.Nat.{add-zero, not-suc-le-zero, le-of-suc-le-suc}
+use native.Mathlib.Nat.{add-zero, not-suc-le-zero}
 use native.Mathlib.Decide.{decLt}
 use native.Mathlib.Numerals.{add-one}
 use native.Mathlib.Omega.{arith}
-use lib.ListN.{length, take, getD, set, length-set, length-append}
-use lib.Seq.{take-suc, getD-set-same, getD-set-other}
+use lib.ListN.{length, take, getD}
+use lib.Seq.{take-suc, sets}
 use Rattle.demand.specs.declared.Charged.{Charged}
 use Rattle.demand.specs.declared.Piece.{Piece}
 use Rattle.demand.specs.declared.Costs.{Costs}
@@ -29,13 +29,13 @@ use Rattle.demand.specs.declared.Sum.the-variants.{Interrupts}
 use Rattle.demand.specs.Busy.{leastHolding, later, tightWindow}
 use Rattle.demand.specs.Answer.{tightOfLast}
 use Rattle.demand.specs.Lanes.{lane, rows}
+use Rattle.demand.proofs.ArrayLaws.{firsts-length, firsts-same, firsts-last, firsts-front, sets-before, sets-there}
 use Rattle.demand.proofs.BusyLaws.{asked, tight-of-last, tight-window-asked}
 use Rattle.demand.proofs.Sums.{total-snoc, each-front, each-last}
 use Rattle.demand.proofs.DemandLaws.{largest-snoc, earliest-snoc}
 
 pub rows-length : (a : List ℕ) (n : ℕ) → length (rows a n) ≡ n
-rows-length a zero = refl
-rows-length a (suc n) = rw (length-append, rows-length a n) (omega arith)
+rows-length a n = firsts-length (lane a) n
 
 pub rows-more : (a : List ℕ) (i : ℕ) → rows a (i + 1) ≡ rows a i ++ (lane a i ∷ [])
 rows-more a i = rw add-one
@@ -81,77 +81,30 @@ lane-same a b i same =
     cc (same (7 * i) (omega arith), same (7 * i + 1) (omega arith), same (7 * i + 2) (omega arith), same (7 * i + 3) (omega arith), same (7 * i + 4) (omega arith), same (7 * i + 5) (omega arith), same (7 * i + 6) (omega arith))
 
 rows-same : (a b : List ℕ) (n : ℕ) → ((k : ℕ) → k < 7 * n → getD a k 0 ≡ getD b k 0) → rows a n ≡ rows b n
-rows-same a b zero same = refl
-rows-same a b (suc n) same = rw (rows-same a b n (λ k h. same k (omega arith)), lane-same a b n (λ k h. same k (omega arith)))
+rows-same a b n same = firsts-same (lane a) (lane b) n (λ i h. lane-same a b i (λ k low. same k (omega arith)))
 
--- the list with the numbers vs written from `at + j` on
-abbrev puts : List ℕ → ℕ → ℕ → List ℕ → List ℕ
-puts a at j [] = a
-puts a at j (v ∷ vs) = puts (set a (at + j) v) at (j + 1) vs
+-- the seven numbers of q
+abbrev pub numbers : Charged → List ℕ
+numbers q = q .charge ∷ q .window ∷ q .period ∷ q .jitter ∷ q .release ∷ q .ipi ∷ q .ipij ∷ []
 
-puts-before : (vs a : List ℕ) (at j k : ℕ) → k < at + j → getD (puts a at j vs) k 0 ≡ getD a k 0
-puts-before [] a at j k h = refl
-puts-before (v ∷ vs) a at j k h = puts-before vs (set a (at + j) v) at (j + 1) k (omega arith) ∙ getD-set-other a (at + j) k v 0 (λ same. omega arith)
-
-puts-there : (vs a : List ℕ) (at j i : ℕ) → i < length vs → at + j + length vs ≤ length a → getD (puts a at j vs) (at + (j + i)) 0 ≡ getD vs i 0
-puts-there [] a at j i h room = absurd (not-suc-le-zero h)
-puts-there (v ∷ vs) a at j zero h room =
-    rw add-zero
-    (puts-before vs (set a (at + j) v) at (j + 1) (at + j) (omega arith) ∙ getD-set-same a (at + j) v 0 (omega arith))
-puts-there (v ∷ vs) a at j (suc i) h room =
-    let e : at + (j + suc i) ≡ at + (j + 1 + i) = omega arith in
-    let rest : getD (puts (set a (at + j) v) at (j + 1) vs) (at + (j + 1 + i)) 0 ≡ getD vs i 0 = puts-there vs (set a (at + j) v) at (j + 1) i (le-of-suc-le-suc h) (omega (arith, length-set a (at + j) v)) in
-    subst (λ (k : ℕ). getD (puts (set a (at + j) v) at (j + 1) vs) k 0 ≡ getD vs i 0) (sym e) rest
-
--- the list with the seven numbers of q from `at` on
-abbrev pub put : List ℕ → ℕ → Charged → List ℕ
-put a at q = puts (set a at (q .charge)) at 1 (q .window ∷ q .period ∷ q .jitter ∷ q .release ∷ q .ipi ∷ q .ipij ∷ [])
-
-module _ (a : List ℕ) (at : ℕ) (q : Charged) (room : at + 7 ≤ length a) where
-  put-head : getD (put a at q) at 0 ≡ q .charge
-  put-head = puts-before (q .window ∷ q .period ∷ q .jitter ∷ q .release ∷ q .ipi ∷ q .ipij ∷ []) (set a at (q .charge)) at 1 at (omega arith) ∙ getD-set-same a at (q .charge) 0 (omega arith)
-
-  put-tail : (i : ℕ) → i < 6 → getD (put a at q) (at + (1 + i)) 0 ≡ getD (q .window ∷ q .period ∷ q .jitter ∷ q .release ∷ q .ipi ∷ q .ipij ∷ []) i 0
-  put-tail i h = puts-there (q .window ∷ q .period ∷ q .jitter ∷ q .release ∷ q .ipi ∷ q .ipij ∷ []) (set a at (q .charge)) at 1 i h (omega (arith, length-set a at (q .charge)))
-
-put-lane : (a : List ℕ) (i : ℕ) (q : Charged) → 7 * i + 7 ≤ length a → lane (put a (7 * i) q) i ≡ q
+put-lane : (a : List ℕ) (i : ℕ) (q : Charged) → 7 * i + 7 ≤ length a → lane (sets a (7 * i) (numbers q)) i ≡ q
 unfolding lane
 put-lane a i q room =
-    let tail = put-tail a (7 * i) q room in
-    let e : lane (put a (7 * i) q) i ≡ record { charge = q .charge; window = q .window; period = q .period; jitter = q .jitter; release = q .release; ipi = q .ipi; ipij = q .ipij } =
-    cc (put-head a (7 * i) q room, tail 0 (omega arith), tail 1 (omega arith), tail 2 (omega arith), tail 3 (omega arith), tail 4 (omega arith), tail 5 (omega arith)) in
+    let at : (k : ℕ) → k < 7 → getD (sets a (7 * i) (numbers q)) (7 * i + k) 0 ≡ getD (numbers q) k 0 = sets-there a (7 * i) (numbers q) room in
+    let head : getD (sets a (7 * i) (numbers q)) (7 * i) 0 ≡ q .charge = rw add-zero at (at 0 (omega arith)) in
+    let e : lane (sets a (7 * i) (numbers q)) i ≡ record { charge = q .charge; window = q .window; period = q .period; jitter = q .jitter; release = q .release; ipi = q .ipi; ipij = q .ipij } =
+    cc (head, at 1 (omega arith), at 2 (omega arith), at 3 (omega arith), at 4 (omega arith), at 5 (omega arith), at 6 (omega arith)) in
     e
 
-put-before : (a : List ℕ) (at : ℕ) (q : Charged) (k : ℕ) → k < at → getD (put a at q) k 0 ≡ getD a k 0
-put-before a at q k h =
-    puts-before (q .window ∷ q .period ∷ q .jitter ∷ q .release ∷ q .ipi ∷ q .ipij ∷ []) (set a at (q .charge)) at 1 k (omega arith) ∙ getD-set-other a at k (q .charge) 0 (λ same. omega arith)
-
-pub rows-put : (a : List ℕ) (i : ℕ) (q : Charged) → 7 * i + 7 ≤ length a → rows (put a (7 * i) q) (i + 1) ≡ rows a i ++ (q ∷ [])
+pub rows-put : (a : List ℕ) (i : ℕ) (q : Charged) → 7 * i + 7 ≤ length a → rows (sets a (7 * i) (numbers q)) (i + 1) ≡ rows a i ++ (q ∷ [])
 rows-put a i q room =
-    cc (rows-more (put a (7 * i) q) i, rows-same (put a (7 * i) q) a i (put-before a (7 * i) q), put-lane a i q room)
-
-snoc-front : (xs ys : List Charged) (x y : Charged) → xs ++ (x ∷ []) ≡ ys ++ (y ∷ []) → length xs ≡ length ys → xs ≡ ys
-snoc-front [] [] x y e same = refl
-snoc-front [] (b ∷ ys) x y e same = absurd (omega arith)
-snoc-front (a ∷ xs) [] x y e same = absurd (omega arith)
-snoc-front (a ∷ xs) (b ∷ ys) x y e same =
-    let tails : xs ++ (x ∷ []) ≡ ys ++ (y ∷ []) = cc in
-    let heads : a ≡ b = cc in
-    cc (snoc-front xs ys x y tails (omega arith))
-
-snoc-last : (xs ys : List Charged) (x y : Charged) → xs ++ (x ∷ []) ≡ ys ++ (y ∷ []) → length xs ≡ length ys → x ≡ y
-snoc-last [] [] x y e same = cc
-snoc-last [] (b ∷ ys) x y e same = absurd (omega arith)
-snoc-last (a ∷ xs) [] x y e same = absurd (omega arith)
-snoc-last (a ∷ xs) (b ∷ ys) x y e same =
-    let tails : xs ++ (x ∷ []) ≡ ys ++ (y ∷ []) = cc in
-    snoc-last xs ys x y tails (omega arith)
+    cc (rows-more (sets a (7 * i) (numbers q)) i, rows-same (sets a (7 * i) (numbers q)) a i (sets-before a (7 * i) (numbers q) room), put-lane a i q room)
 
 pub lane-put : (a b : List ℕ) (n : ℕ) (q : Charged) → rows b (n + 1) ≡ rows a n ++ (q ∷ []) → lane b n ≡ q
-lane-put a b n q e = snoc-last (rows b n) (rows a n) (lane b n) q (sym (rows-more b n) ∙ e) (omega (arith, rows-length a n, rows-length b n))
+lane-put a b n q e = firsts-last (lane b) n (rows a n) q (rows-length a n) e
 
 pub rows-kept : (a b : List ℕ) (n : ℕ) (q : Charged) → rows b (n + 1) ≡ rows a n ++ (q ∷ []) → rows b n ≡ rows a n
-rows-kept a b n q e = snoc-front (rows b n) (rows a n) (lane b n) q (sym (rows-more b n) ∙ e) (omega (arith, rows-length a n, rows-length b n))
+rows-kept a b n q e = firsts-front (lane b) n (rows a n) q (rows-length a n) e
 
 pub tight-of-rows : (b : ℕ) (all : List Charged) (a : List ℕ) (n : ℕ) → 1 ≤ n → tightOfLast b all (rows a n) ≡ tightWindow b all (lane a (n - 1)) (lane a (n - 1) .window)
 tight-of-rows b all a zero h = absurd (not-suc-le-zero h)

@@ -3,6 +3,7 @@ pub mod Division
 pub mod Sums
 pub mod DemandLaws
 pub mod ChargeLaws
+pub mod ArrayLaws
 pub mod RecordLaws
 pub mod LaneLaws
 pub mod SizeLaws

@@ -25,21 +25,19 @@ use Rattle.demand.specs.declared.Verdict.{Verdict}
 use Rattle.demand.specs.declared.Verdict.the-variants.{Passes, Overloaded, Undecided}
 use Rattle.demand.specs.declared.Split.{Split}
 use Rattle.demand.specs.declared.Split.the-variants.{Cut, Nowhere}
-use Rattle.demand.specs.declared.splits.Step.the-variants.{Below}
 use Rattle.demand.specs.Sizes.{SizedCosts, Sized, Each, Tells}
 use Rattle.demand.specs.Charge.{byKind, charge, charged, ipiCost, coreOf, stall}
 use Rattle.demand.specs.Demand.{ceil, total, interrupts, jobsDue, load, demand, Live}
 use Rattle.demand.specs.Busy.{Least, Holds, tightSum}
 use Rattle.demand.specs.Verdict.{Means, verdict, verdictOf}
-use Rattle.demand.specs.Split.{lastJitter, firstPiece, lastPiece, tightOn, Allowed, Candidate, Greatest, Splits, passes, tightFirst, bothPass, splitting, greatestSplit}
-use Rattle.demand.specs.Search.{withFirst, lastAlone, Tight, Fits, NoneAbove, Chosen, TightIn, Steps}
-use Rattle.demand.proofs.Sums.{total-snoc}
+use Rattle.demand.specs.Split.{lastJitter, firstPiece, lastPiece, tightOn, Splits, passes, tightFirst, bothPass, splitting, greatestSplit}
+use Rattle.demand.specs.Search.{lastAlone, Tight, Fits, NoneAbove, Chosen, TightIn}
 use Rattle.demand.proofs.DemandLaws.{Recurs, jobs-due-some, demand-above}
 use Rattle.demand.proofs.ChargeLaws.{by-kind-le, core-recurs, all-countable}
 use Rattle.demand.proofs.SizeLaws.{tells-both}
 use Rattle.demand.proofs.BusyLaws.{least-unique}
 use Rattle.demand.proofs.VerdictLaws.{verdict-means, passes-forever}
-use Rattle.demand.proofs.SearchLaws.{window-in, untight, fails-here, fails-there, step-none, none-first, none-next, next-less, first-below, multiple-some, with-core, sum-core, first-verdict, last-verdict, fits-allowed, allowed-fits, splits-of, first-charge, last-charge, tight-parts, last-recurs}
+use Rattle.demand.proofs.SearchLaws.{window-in, untight, step-none, none-first, none-next, next-less, first-below, multiple-some, with-core, sum-core, first-verdict, last-verdict, allowed-fits, splits-of, last-charge, tight-parts, last-recurs}
 
 -- ---- the executable definition satisfies the meaning
 

@@ -5,7 +5,7 @@
 --   total-snoc               one piece more
 --   total-same               equal figures have equal sums
 --   each-at, each-snoc, each-front, each-last, each-map, each-imp
-use mathlib.Core.Path.{_≡_, refl}
+use mathlib.Core.Path.{_≡_}
 use mathlib.Core.List.{List, [], _∷_, _++_, map}
 use Prim.Native.Nat.{ℕ, zero, suc, _+_, _≤_, _<_, zero-le}
 use native.Mathlib.Nat.{not-suc-le-zero, le-of-suc-le-suc}

@@ -10,7 +10,7 @@ use mathlib.Core.Path.{_≡_, refl, sym, ap, subst}
 use mathlib.Core.Bool.{Bool, true, false}
 use mathlib.Core.List.{List, [], _∷_}
 use mathlib.Core.Logic.{_⊎_, ⊎-elim}
-use Prim.Native.Nat.{ℕ, zero, suc, _+_, _-_, _≤_, _<_}
+use Prim.Native.Nat.{ℕ, zero, suc, _+_, _-_, _≤_}
 use native.Mathlib.Nat.{not-suc-le-zero}
 use native.Mathlib.Decide.{decLt}
 use native.Mathlib.Omega.{arith}
@@ -25,7 +25,7 @@ use Rattle.demand.specs.declared.Verdict.the-variants.{Passes, Overloade
 use Rattle.demand.specs.Sizes.{Each, busyMost}
 use Rattle.demand.specs.Demand.{demand, largestWindow, Live, leastLive}
 use Rattle.demand.specs.Busy.{Least, Holds, Finds, busySum, busyLength}
-use Rattle.demand.specs.Verdict.{Judged, Calm, Worst, Says, Means, scan, overSpan, verdict}
+use Rattle.demand.specs.Verdict.{Judged, Calm, Says, Means, scan, overSpan, verdict}
 use Rattle.demand.proofs.DemandLaws.{Recurs, demand-add, demand-mono, least-live-least}
 use Rattle.demand.proofs.BusyLaws.{least-le, least-unique, busy-length-finds}
 

@@ -18,7 +18,6 @@ use Rattle.demand.specs.declared.Verdict.{Verdict}
 use Rattle.demand.specs.declared.Verdict.the-variants.{Passes, Overloaded, Undecided}
 use Rattle.demand.specs.declared.Found.{Found}
 use Rattle.demand.specs.declared.Found.the-variants.{At, Nothing}
-use Rattle.demand.specs.declared.Refusal.{Refusal}
 use Rattle.demand.specs.declared.Refusal.the-variants.{TooMany, BadCosts, BadRecord}
 use Rattle.demand.specs.declared.Check.{Check}
 use Rattle.demand.specs.declared.Check.the-variants.{Fine, Bad}

@@ -1,5 +1,6 @@
 -- How a core under judgement lies in one array of numbers, seven to a piece, so that it is worked out once and lent.
 --
+--   firsts f n           f of 0 to n - 1
 --   lane a i             the charged piece at place i
 --   rows a n             those at the first n places
 --   term s t q           the figure s of q at t
@@ -10,6 +11,10 @@ use Rattle.demand.specs.declared.Charged.{Charged}
 use Rattle.demand.specs.declared.Sum.{Sum}
 use Rattle.demand.specs.declared.Sum.the-variants.{Load, Interrupts}
 use Rattle.demand.specs.Demand.{load, interrupts}
+
+abbrev pub firsts : {A : Type 0} → (ℕ → A) → ℕ → List A
+firsts f zero = []
+firsts f (suc n) = firsts f n ++ (f n ∷ [])
 
 unfoldable pub lane : List ℕ → ℕ → Charged
 lane a i = record {
@@ -23,8 +28,7 @@ lane a i = record {
 }
 
 abbrev pub rows : List ℕ → ℕ → List Charged
-rows a zero = []
-rows a (suc n) = rows a n ++ (lane a n ∷ [])
+rows a n = firsts (lane a) n
 
 abbrev pub term : Sum → ℕ → Charged → ℕ
 term Load t q = load t q

@@ -7,8 +7,8 @@ pub mod Busy
 pub mod Verdict
 pub mod Split
 pub mod Answer
-pub mod Records
 pub mod Lanes
+pub mod Records
 pub mod Probes
 pub mod Caps
 pub mod Leaps

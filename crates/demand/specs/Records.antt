@@ -1,18 +1,18 @@
 -- How a run of piece records lies in one array of numbers, seven to a record in their order: kind, x, D, T, J, P, M. So it is lent.
 --
 --   recordAt a i         the record at place i
---   firsts f n           f of 0 to n - 1
 --   recordsOf a          the records at all 79 places
 --   numbersOf p          the seven numbers of a record
 --   putRecord a i p      the record p written at place i; past the last place nothing changes
 use mathlib.Core.Bool.{cond}
-use mathlib.Core.List.{List, [], _∷_, _++_}
-use Prim.Native.Nat.{ℕ, zero, suc, _+_, _*_}
+use mathlib.Core.List.{List, [], _∷_}
+use Prim.Native.Nat.{ℕ, _+_, _*_}
 use lib.Dec.{leb}
 use lib.ListN.{getD}
 use lib.Seq.{sets}
 use Rattle.demand.specs.declared.Piece.{Piece}
 use Rattle.demand.specs.Kinds.{kindNumber, kindOf}
+use Rattle.demand.specs.Lanes.{firsts}
 use Rattle.demand.specs.Sizes.{runMost}
 
 unfoldable pub recordAt : List ℕ → ℕ → Piece
@@ -25,10 +25,6 @@ recordAt a i = record {
   preempt = getD a (7 * i + 5) 0;
   migrate = getD a (7 * i + 6) 0;
 }
-
-abbrev pub firsts : {A : Type 0} → (ℕ → A) → ℕ → List A
-firsts f zero = []
-firsts f (suc n) = firsts f n ++ (f n ∷ [])
 
 unfoldable pub recordsOf : List ℕ → List Piece
 recordsOf a = firsts (recordAt a) runMost

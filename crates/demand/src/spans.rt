@@ -8,7 +8,6 @@ use crate::demands::least_live;
 use crate::leaps::climb_busy;
 ghost use mathlib.Core.Path.{_≡_};
 ghost use Prim.Native.Nat.{_≤_};
-ghost use Rattle.demand.specs.Demand.{demand};
 ghost use Rattle.demand.specs.Lanes.{rows};
 ghost use Rattle.demand.specs.Sizes.{Ranged, Each, busyMost, timeMost};
 ghost use Rattle.demand.specs.Verdict.{scan, verdict};

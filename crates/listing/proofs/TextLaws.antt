@@ -11,14 +11,13 @@
 --   first-pass, second-pass, over-short, over-fits, over-whole    the writer run twice: to count, and to write
 use mathlib.Core.Path.{_≡_, refl, sym, ap, _∙_}
 use Prim.Native.Nat.{ℕ, zero, suc, _+_, _-_, _*_, _/_, _%_, _^_, _≤_, _<_}
-use mathlib.Core.Logic.{⊎-elim}
-use native.Mathlib.Nat.{eq-or-lt-of-le, add-zero, zero-add, add-suc, pow-suc, div-lt-iff-lt-mul}
+use native.Mathlib.Nat.{add-zero, zero-add, pow-suc, div-lt-iff-lt-mul}
 use native.Mathlib.Numerals.{add-one}
 use native.Mathlib.Omega.{arith}
 use mathlib.Core.Bool.{Bool, true, false, cond}
-use mathlib.Core.List.{List, [], _∷_, _++_, append-assoc, append-nil}
+use mathlib.Core.List.{List, [], _∷_, _++_}
 use lib.ListN.{length, getD, take, drop, set, length-append, length-set, length-drop, drop-of-length-le}
-use lib.Seq.{sets, sets-eq, length-sets, set-out, take-suc, take-all, take-length, drop-cons, drop-set-lt, getD-set-same}
+use lib.Seq.{sets, sets-eq, length-sets, take-suc, take-all, drop-cons, drop-set-lt, getD-set-same}
 use lib.Dec.{ltb, lit<}
 use borrow.Author.Tests.{lt-ltb, le-ltb, lt-leb, le-leb}
 use Rattle.listing.specs.Text.{Wrote, ended, digitsOnto, decimal, over}

@@ -21,7 +21,8 @@ use Rattle.demand.specs.declared.Kind.{Kind}
 use Rattle.demand.specs.declared.Piece.{Piece}
 use Rattle.demand.specs.Kinds.{kindNumber, kindOf}
 use Rattle.demand.specs.Sizes.{Each}
-use Rattle.demand.proofs.RecordLaws.{firsts-length, firsts-same, sets-before, sets-there, kind-back}
+use Rattle.demand.proofs.ArrayLaws.{firsts-length, firsts-same, sets-before, sets-there}
+use Rattle.demand.proofs.RecordLaws.{kind-back}
 use Rattle.demand.proofs.Sums.{each-front, each-last}
 use Rattle.task.specs.declared.Times.{Times}
 use Rattle.task.specs.declared.Task.{Task}

@@ -4,7 +4,7 @@
 --   Fine c row         the row is within the sizes and passes
 --   cut-parts          what a split of a task on a fine row is
 --   cd-sound           the rules keep it
-use mathlib.Core.Path.{_≡_, refl, sym, ap, _∙_}
+use mathlib.Core.Path.{_≡_, refl}
 use mathlib.Core.Bool.{true}
 use mathlib.Core.List.{List, [], _∷_, _++_}
 use Prim.Native.Nat.{ℕ}
@@ -22,7 +22,7 @@ use Rattle.demand.specs.Split.{firstPiece, lastPiece, passes, greatestSplit}
 use Rattle.demand.proofs.Sums.{each-snoc}
 use Rattle.demand.proofs.VerdictLaws.{verdict-empty}
 use Rattle.demand.proofs.SplitLaws.{Parts, split-parts}
-use Rattle.plan.specs.Walk.{Halves, halves, unsplit, Rules, splitAs, rulesFor}
+use Rattle.plan.specs.Walk.{halves, splitAs, rulesFor}
 use Rattle.plan.proofs.WalkLaws.{Sound}
 
 pub record Fine (c : Costs) (row : List Piece) : Type 0 where

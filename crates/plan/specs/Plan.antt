@@ -3,13 +3,12 @@
 --   padded ts            the list in an array of 64, with zeros past its end
 --   walked m c ts        the walk over the tasks ts in packing order, by their places
 --   planOf m c n ts      the answer for the first n of ts: 1, 2, 6, then at the first bad task 8, 3 or 4; 7 with the task's place; else the plan
-use mathlib.Core.List.{List, [], _∷_, _++_}
+use mathlib.Core.List.{List, _++_}
 use Prim.Native.Nat.{ℕ, zero, suc, _-_}
 use lib.ListN.{take, length, replicate}
 use Rattle.demand.specs.declared.Costs.{Costs}
 use Rattle.demand.specs.declared.Piece.{Piece}
 use Rattle.task.specs.declared.Task.{Task}
-use Rattle.task.specs.declared.Tasks.{Tasks}
 use Rattle.task.specs.declared.Machine.{Machine}
 use Rattle.task.specs.Tasks.{wholePiece, taskAt, stateFault, tasksMost}
 use Rattle.plan.specs.declared.Plan.{Plan}

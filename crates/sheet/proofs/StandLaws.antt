@@ -11,7 +11,7 @@
 --   part-space, task-space          room for one more
 --   source-some, source-low         the part of a good `fit` line has a place
 --   stand-same, -part, -fit         where the next line begins
-use mathlib.Core.Path.{_≡_, refl, sym, ap, _∙_}
+use mathlib.Core.Path.{_≡_, sym, ap, _∙_}
 use mathlib.Core.List.{List, []}
 use Prim.Native.Nat.{ℕ, _+_, _-_, _≤_, _<_}
 use native.Mathlib.Omega.{arith}

@@ -14,14 +14,13 @@ use Rattle.demand.specs.declared.Costs.{Costs}
 use Rattle.demand.specs.declared.Verdict.{Verdict}
 use Rattle.demand.specs.declared.Check.{Check}
 use Rattle.demand.specs.declared.Check.the-variants.{Fine, Bad}
-use Rattle.demand.specs.declared.Answer.{Answer}
 use Rattle.demand.specs.declared.Answer.the-variants.{Judged}
 use Rattle.demand.specs.Sizes.{Sized, Each}
 use Rattle.demand.specs.Answer.{checkRun, answerOf}
 use Rattle.demand.specs.Verdict.{verdictOf}
 use Rattle.demand.proofs.RunLaws.{check-taken, answer-fine, answer-bad}
 use Rattle.spardimple.specs.Bytes.{piecesOf, costsOf}
-use Rattle.spardimple.specs.Numbers.{Reply, said, formed, replyOf}
+use Rattle.spardimple.specs.Numbers.{said, formed, replyOf}
 use Rattle.spardimple.proofs.NumberLaws.{reply-true, reply-false}
 
 module _ (c : Costs) (n : ℕ) (ps : List Piece) (v : Verdict) (is : answerOf c n ps ≡ Judged v) where

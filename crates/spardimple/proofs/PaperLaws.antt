@@ -18,12 +18,10 @@ use Prim.Native.Nat.{ℕ, zero, suc, _^_, _≤_, _<_}
 use native.Mathlib.Decide.{decLt}
 use native.Mathlib.Omega.{arith}
 use lib.Dec.{leb}
-use lib.ListN.{length, take, drop, length-take}
+use lib.ListN.{length, drop, length-take}
 use Rattle.demand.specs.Sizes.{Each}
 use Rattle.demand.specs.Answer.{Told}
 use Rattle.demand.proofs.Sums.{each-imp}
-use Rattle.task.specs.declared.Task.{Task}
-use Rattle.task.specs.Tasks.{stateFault}
 use Rattle.plan.specs.declared.Reply.{Reply}
 use Rattle.plan.specs.Walk.{stuck}
 use Rattle.plan.specs.Plan.{walked}
@@ -39,7 +37,6 @@ use Rattle.sheet.proofs.RuleLaws.{breaks-no-rule}
 use Rattle.sheet.proofs.SmallLaws.{read-small, read-nine}
 use Rattle.sheet.proofs.ReadLaws.{read-long}
 use Rattle.listing.specs.Listing.{spelling, listingOf}
-use Rattle.listing.specs.Text.{over}
 use Rattle.listing.proofs.TextLaws.{over-short, over-fits}
 use Rattle.listing.proofs.PlainLaws.{listing-few}
 use Rattle.spardimple.specs.Numbers.{number}

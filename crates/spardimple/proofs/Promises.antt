@@ -47,7 +47,7 @@ use Rattle.plan.specs.declared.Plan.{Plan}
 use Rattle.plan.specs.Walk.{Stand, Placed, fine, stuck, onCore, rowOf}
 use Rattle.plan.specs.Plan.{wholeAt, walked, planOf}
 use Rattle.plan.specs.Shares.{ofTask, sumBy, Shared}
-use Rattle.plan.proofs.Theorems.{plan-comes, no-room, all-placed, budgets-add, windows-add, cores-pass, cores-keep-up}
+use Rattle.plan.proofs.Theorems.{plan-comes, all-placed, budgets-add, windows-add, cores-pass, cores-keep-up}
 use Rattle.sheet.specs.Sheet.{top, sheetMost, readOf}
 use Rattle.sheet.specs.Fitted.{Fitted, linesOf}
 use Rattle.sheet.specs.Refusing.{tailOf, Refusing}
@@ -61,8 +61,8 @@ use Rattle.edits.specs.Edits.{Edit, tasksIn as tasksHeld, edited, editOf, accep
 use Rattle.edits.specs.Kept.{Keeps, editedName, Among, Ahead, Behind, Meet}
 use Rattle.edits.proofs.Theorems.{plan-held, edit-refused, edit-does, after-edits-afresh, edit-before, edit-after}
 use Rattle.spardimple.specs.Bytes.{piecesOf, costsOf}
-use Rattle.spardimple.specs.Numbers.{Reply, said, replyOf, verdictNumber}
-use Rattle.spardimple.specs.Sheets.{Paper, refused, written, machineIn, costsIn, tasksIn, planIn, paperOf, refusal, toldPaper, listingNumber, listingLeft}
+use Rattle.spardimple.specs.Numbers.{said, replyOf, verdictNumber}
+use Rattle.spardimple.specs.Sheets.{refused, written, machineIn, costsIn, tasksIn, planIn, paperOf, refusal, toldPaper, listingNumber, listingLeft}
 use Rattle.spardimple.proofs.NumberLaws.{verdict-number-one}
 use Rattle.spardimple.proofs.PaperLaws.{listing-number-one, paper-nine, paper-seven, paper-ten, paper-read, paper-comes, paper-alike, buffer-refused, buffer-written}
 use Rattle.spardimple.proofs.SheetLaws.{paper-unread}

@@ -4,7 +4,8 @@ use mathlib.Core.List.{[], _∷_}
 use Prim.Native.Nat.{ℕ, _*_}
 use lib.Seq.{sets}
 use native.Mathlib.Omega.{arith}
-use Rattle.demand.proofs.RecordLaws.{put-past, put-here, sets-seven}
+use Rattle.demand.proofs.ArrayLaws.{sets-seven}
+use Rattle.demand.proofs.RecordLaws.{put-past, put-here}
 use borrow.Author.Needs.{needs}
 use Rattle.demand.proofs.put_record.Statement.{statement}
 use Rattle.demand.proofs.put_record.Tie as tie

@@ -1,9 +1,9 @@
 -- `lanes::lay_out` meets its contract: after i turns the first i records lie there, charged.
 use borrow.Author.Needs.{needs}
-use mathlib.Core.Path.{_≡_, refl, sym, subst, _∙_}
-use Prim.Native.Nat.{ℕ, _+_, _-_, _≤_}
+use mathlib.Core.Path.{_≡_, refl, subst}
+use Prim.Native.Nat.{_-_, _≤_}
 use native.Mathlib.Omega.{arith}
-use lib.ListN.{length, take, getD}
+use lib.ListN.{length, take}
 use Rattle.demand.specs.declared.Piece.{Piece}
 use Rattle.demand.specs.Charge.{coreOf}
 use Rattle.demand.specs.Lanes.{rows}

@@ -1,8 +1,11 @@
 -- `lanes::put_lane` meets its contract: seven writes.
+use mathlib.Core.Path.{_≡_, sym, subst}
+use mathlib.Core.List.{List, [], _∷_, _++_}
+use Prim.Native.Nat.{ℕ, _+_, _*_}
 use native.Mathlib.Omega.{arith}
 use lib.ListN.{length-set}
-use lib.ListN.{length}
-use mathlib.Core.Path.{_≡_}
+use Rattle.demand.specs.Lanes.{rows}
+use Rattle.demand.proofs.ArrayLaws.{sets-seven}
 use Rattle.demand.proofs.LaneLaws.{rows-put}
 use borrow.Author.Needs.{needs}
 use Rattle.demand.proofs.lanes.put_lane.Statement.{statement}
@@ -74,7 +77,12 @@ element-write-core-7 : tie.Need-element-write-core-7
 element-write-core-7 c = search needs
 
 returns : tie.Need-returns
-returns c = (rows-put (c .args .core .now) (c .args .i) (c .args .q) (omega arith), simp length-set (c .pre .1))
+returns c =
+    let a = c .args .core .now in
+    let i = c .args .i in
+    let q = c .args .q in
+    let written = sets-seven a (7 * i) (q .charge) (q .window) (q .period) (q .jitter) (q .release) (q .ipi) (q .ipij) in
+    (subst (λ (l : List ℕ). rows l (i + 1) ≡ rows a i ++ (q ∷ [])) (sym written) (rows-put a i q (omega arith)), simp length-set (c .pre .1))
 
 pub put-lane-spec : {M : Type 1} → statement M
 put-lane-spec =
