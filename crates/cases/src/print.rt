@@ -80,7 +80,7 @@ fn figure(f: Figure) {
 
 pub fn show_verdict(case: &[u8], costs: Costs, run: Run) {
     name(case);
-    match demand::judge(costs, run) {
+    match verdicts::judge(costs, run) {
         Answer::Judged(v) => {
             verdict(v);
         }
@@ -93,27 +93,35 @@ pub fn show_verdict(case: &[u8], costs: Costs, run: Run) {
 pub fn show_busy(case: &[u8], costs: Costs, run: Run) {
     name(case);
     io::write_all(STDOUT_FILENO, b"busy length");
-    figure(demand::busy_length(costs, run));
+    let records = demand::records_of(run);
+    let n = run.count;
+    figure(verdicts::busy_length(costs, &records, n));
 }
 
 pub fn show_demand(case: &[u8], costs: Costs, run: Run, t: u64) {
     name(case);
     io::write_all(STDOUT_FILENO, b"demand at ");
     io::print_decimal(STDOUT_FILENO, t);
-    figure(demand::demand_of(costs, run, t));
+    let records = demand::records_of(run);
+    let n = run.count;
+    figure(verdicts::demand_of(costs, &records, n, t));
 }
 
 pub fn show_tight(case: &[u8], costs: Costs, run: Run) {
     name(case);
     io::write_all(STDOUT_FILENO, b"tight window");
-    figure(demand::tight_window(costs, run));
+    let records = demand::records_of(run);
+    let n = run.count;
+    figure(verdicts::tight_window(costs, &records, n));
 }
 
 // The first piece's budget and its window.
 pub fn show_split(case: &[u8], costs: Costs, run: Run, task: Piece, grain: u64) {
     name(case);
     io::write_all(STDOUT_FILENO, b"split");
-    match demand::split_task(costs, run, task, grain) {
+    let records = demand::records_of(run);
+    let n = run.count;
+    match verdicts::split_records(costs, &records, n, task, grain) {
         Splitting::Denied(why) => {
             io::write_all(STDOUT_FILENO, b"\t");
             refusal(why);

@@ -13,7 +13,7 @@ use native.Mathlib.Decide.{decLt}
 use native.Mathlib.Omega.{arith}
 use lib.ListN.{length, take, drop, getD, set, length-append, List·getD-append}
 use lib.Seq.{sets, sets-eq, length-take-le, getD-take, getD-append-add, getD-append-seam, take-append-le, take-all, getD-at, take-at}
-use Rattle.demand.specs.Lanes.{firsts}
+use Rattle.demand.specs.Lists.{firsts}
 
 -- ---- the first n
 

@@ -7,7 +7,7 @@
 --   finds-unique                  what is found is one
 --   busy-length-is, -within       what holds the busy sum least is the busy length, within the limit
 --   busy-found, -nothing          how a climb to it ends
---   tight-window-asked            the tight window as the code climbs to it
+--   tight-of-last                 the tight window of the last of the pieces
 use mathlib.Core.Path.{_≡_, refl, ap, subst}
 use mathlib.Core.Bool.{Bool, true, false}
 use mathlib.Core.List.{List, [], _∷_, _++_}
@@ -19,16 +19,11 @@ use lib.Dec.{leb}
 use Rattle.demand.specs.declared.Charged.{Charged}
 use Rattle.demand.specs.declared.Found.{Found}
 use Rattle.demand.specs.declared.Found.the-variants.{At, Nothing}
-use Rattle.demand.specs.declared.Sum.{Sum}
-use Rattle.demand.specs.declared.Sum.the-variants.{Interrupts}
 use Rattle.demand.specs.Sizes.{Each, busyMost}
-use Rattle.demand.specs.Busy.{Least, Finds, climbing, leastHolding, busyLoad, busySum, busyLength, later, tightSum, tightWindow}
-use Rattle.demand.specs.Demand.{total}
+use Rattle.demand.specs.Busy.{Least, Finds, Clear, climbing, leastHolding, busyLoad, busySum, busyLength, tightWindow}
 use Rattle.demand.specs.Answer.{tightOfLast}
-use Rattle.demand.specs.Lanes.{term}
-use Rattle.demand.specs.Marks.{Clear}
 use Rattle.demand.proofs.Sums.{total-mono}
-use Rattle.demand.proofs.DemandLaws.{Recurs, sum-mono, busy-load-mono}
+use Rattle.demand.proofs.DemandLaws.{Recurs, busy-load-mono}
 
 pub least-le : {P : ℕ → Type 0} {n : ℕ} → Least P n → (k : ℕ) → P k → n ≤ k
 least-le {P} {n} m k p = elim (decLt k n) [ yes h ↦ absurd (m .none-below k h p) | no h ↦ omega arith ]
@@ -72,13 +67,6 @@ module _ (f : ℕ → ℕ) (mono : (m n : ℕ) → m ≤ n → f m ≤ f n) wher
   pub found-within : (top n : ℕ) → leastHolding f top ≡ At n → n ≤ top
   found-within top n e = subst (λ (r : Found). Finds f top r) e (least-holding-finds top) .1
 
--- what the code climbs by: a base and one of the two sums
-abbrev pub asked : Sum → ℕ → List Charged → ℕ → ℕ
-asked s base qs t = base + total (term s t) qs
-
-pub asked-mono : (s : Sum) (base : ℕ) (qs : List Charged) → Each Recurs qs → (m n : ℕ) → m ≤ n → asked s base qs m ≤ asked s base qs n
-asked-mono s base qs recurs m n h = omega (arith, sum-mono qs recurs s h)
-
 pub busy-sum-mono : (qs : List Charged) → Each Recurs qs → (m n : ℕ) → m ≤ n → busySum qs m ≤ busySum qs n
 unfolding busySum
 busy-sum-mono qs recurs m n h = total-mono Recurs (busyLoad m) (busyLoad n) (λ q pos. busy-load-mono pos h) qs recurs
@@ -101,10 +89,6 @@ pub busy-length-within : (qs : List Charged) → Each Recurs qs → (l : ℕ) �
 busy-length-within qs recurs l e = subst (λ (r : Found). Finds (busySum qs) busyMost r) e (busy-length-finds qs recurs) .1
 
 -- ---- the tight window
-
-pub tight-window-asked : (b : ℕ) (qs : List Charged) (q : Charged) (top : ℕ) → tightWindow b qs q top ≡ later (q .jitter) (leastHolding (asked Interrupts (b + q .charge) qs) (top - q .jitter))
-unfolding tightWindow tightSum
-tight-window-asked b qs q top = refl
 
 pub tight-of-last : (b : ℕ) (all qs : List Charged) (q : Charged) → tightOfLast b all (qs ++ (q ∷ [])) ≡ tightWindow b all q (q .window)
 tight-of-last b all [] q = refl

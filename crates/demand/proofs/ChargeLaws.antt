@@ -1,32 +1,58 @@
 -- Laws of the charge: within the sizes a piece is charged without wrapping, and the charged piece can be counted with.
 -- Assumes nothing.
 --
---   by-kind-le               a bound of the three is one of the kind's
+--   when-le                  a bound of a number is one of it or nothing
+--   late-jitter-is, -le      the jitter of a piece that came from elsewhere, and its bound
 --   charged-recurs, -ranged  what the laws of demand and the code ask of a charged piece
 --   sized-countable          a record within the sizes can be charged
 --   charged-tells            its charged time, by what the two size tests tell
 --   charged-time-is          and within the sizes it is C'
-use mathlib.Core.Path.{_≡_}
+--   core-snoc, core-more     the pieces of a core, one more
+use mathlib.Core.Path.{_≡_, refl, sym, ap, _∙_}
 use mathlib.Core.Bool.{Bool, true, false, cond, _&&_}
-use mathlib.Core.List.{List}
-use Prim.Native.Nat.{ℕ, _+_, _≤_}
+use mathlib.Core.List.{List, [], _∷_, _++_, map}
+use Prim.Native.Nat.{ℕ, _+_, _≤_, _<_, zero-le}
+use native.Mathlib.Numerals.{add-one}
+use lib.ListN.{length, take, getD}
+use lib.Seq.{take-suc}
 use native.Mathlib.Omega.{arith}
-use Rattle.demand.specs.declared.Kind.{Kind}
-use Rattle.demand.specs.declared.Kind.the-variants.{Whole, First, Last}
+use Rattle.demand.specs.Kinds.{departs, arrives}
 use Rattle.demand.specs.declared.Piece.{Piece}
 use Rattle.demand.specs.declared.Costs.{Costs}
 use Rattle.demand.specs.declared.Charged.{Charged}
-use Rattle.demand.specs.Sizes.{SizedCosts, Sized, Countable, Ranged, Tells, Each, sized}
-use Rattle.demand.specs.Charge.{byKind, charge, ipiCost, charged, coreOf}
+use Rattle.demand.specs.Sizes.{SizedCosts, Sized, Tells, Each, sized, sizedCosts, timeMost}
+use Rattle.demand.specs.ways.Ranges.{Countable, Ranged, countable, chargedWithin, noCharge, stallWithin, stallMost}
+use Rattle.demand.specs.Split.{lateJitter}
+use Rattle.demand.specs.Charge.{charge, stall, ipiCost, charged, coreOf}
 use Rattle.demand.specs.Answer.{chargedTime}
 use Rattle.demand.proofs.DemandLaws.{Recurs}
-use Rattle.demand.proofs.SizeLaws.{tells-sized, sized-is, sized-costs-is}
+use Rattle.demand.proofs.SizeLaws.{tells-sized, tells-costs, countable-is, sized-is, sized-costs-is}
 use Rattle.demand.proofs.Sums.{each-map, each-imp}
 
-pub by-kind-le : (k : Kind) {w f l m : ℕ} → w ≤ m → f ≤ m → l ≤ m → byKind k w f l ≤ m
-by-kind-le Whole a b e = a
-by-kind-le First a b e = b
-by-kind-le Last a b e = e
+pub when-le : (b : Bool) {n m : ℕ} → n ≤ m → cond b n 0 ≤ m
+when-le true h = h
+when-le false h = zero-le
+
+-- ---- the late jitter
+
+pub late-told : (c : Costs) (b : Bool) → b ≡ sizedCosts c → lateJitter c ≡ cond b (c .precision) 0
+unfolding lateJitter
+late-told c b is = rw is
+
+pub late-jitter-is : (c : Costs) → SizedCosts c → lateJitter c ≡ c .precision
+unfolding lateJitter
+late-jitter-is c costs = rw (sym (sized-costs-is c true costs))
+
+-- whatever the costs are
+pub late-jitter-le : (c : Costs) → lateJitter c ≤ timeMost
+unfolding lateJitter
+late-jitter-le c = look (sizedCosts c) (tells-costs c)
+  where
+    look : (b : Bool) → Tells (SizedCosts c) b → cond b (c .precision) 0 ≤ timeMost
+    look true costs = omega (arith, costs .precision-fits)
+    look false bad = zero-le
+
+-- ---- the charge
 
 pub charged-recurs : (c : Costs) (p : Piece) → Countable p → Recurs (charged c p)
 unfolding charged
@@ -39,9 +65,9 @@ charged-ranged c costs p ok = record {
   period-fits = ok .period-fits;
   window-fits = ok .window-fits;
   jitter-fits = ok .jitter-fits;
-  charge-fits = omega (arith, by-kind-le (p .kind) {w = 0} {f = c .ipb + c .beto + c .migro} {l = p .migrate} {m = 300000} (omega arith) (omega arith) (omega arith));
+  charge-fits = omega (arith, when-le (departs (p .kind)) {n = c .ipb + c .beto + c .migro} {m = 300000} (omega arith), when-le (arrives (p .kind)) {n = p .migrate} {m = 100000} (omega arith));
   release-fits = omega arith;
-  ipi-fits = by-kind-le (p .kind) (omega arith) (omega arith) (omega arith);
+  ipi-fits = when-le (arrives (p .kind)) (omega arith);
   ipij-fits = omega arith;
 }
 
@@ -85,3 +111,51 @@ charged-costs c p costs = by (sized p) (tells-sized p)
 
 pub charged-time-is : (c : Costs) (p : Piece) → SizedCosts c → Sized p → chargedTime c p ≡ charge c p
 charged-time-is c p costs size = charged-tells c p true true costs size
+
+-- ---- the total functions, where nothing is outside its range
+
+pub charged-within : (c : Costs) (p : Piece) → SizedCosts c → Countable p → chargedWithin c p ≡ charged c p
+unfolding chargedWithin
+charged-within c p costs ok = rw (sym (sized-costs-is c true costs), sym (countable-is p true ok))
+
+pub charged-no-costs : (c : Costs) (p : Piece) → sizedCosts c ≡ false → chargedWithin c p ≡ noCharge
+unfolding chargedWithin
+charged-no-costs c p bad = rw bad
+
+pub charged-no-piece : (c : Costs) (p : Piece) → countable p ≡ false → chargedWithin c p ≡ noCharge
+unfolding chargedWithin
+charged-no-piece c p bad = look (sizedCosts c)
+  where
+    look : (b : Bool) → cond (b && countable p) (charged c p) noCharge ≡ noCharge
+    look true = rw bad
+    look false = refl
+
+pub stall-no-costs : (c : Costs) → sizedCosts c ≡ false → stallWithin c ≡ 0
+unfolding stallWithin
+stall-no-costs c bad = rw bad
+
+pub stall-within : (c : Costs) → SizedCosts c → stallWithin c ≡ stall c
+unfolding stallWithin
+stall-within c costs = rw (sym (sized-costs-is c true costs))
+
+pub stall-le : (c : Costs) → stallWithin c ≤ stallMost
+unfolding stallWithin stall
+stall-le c = look (sizedCosts c) (tells-costs c)
+  where
+    look : (b : Bool) → Tells (SizedCosts c) b → cond b (stall c) 0 ≤ stallMost
+    look true costs = omega (arith, costs .ipb-fits, costs .schedo-fits, costs .tseto-fits)
+    look false bad = zero-le
+
+-- ---- one piece more
+
+map-snoc : {A B : Type 0} (f : A → B) (ps : List A) (p : A) → map f (ps ++ (p ∷ [])) ≡ map f ps ++ (f p ∷ [])
+map-snoc f [] p = refl
+map-snoc f (q ∷ ps) p = ap (λ (l : List _). f q ∷ l) (map-snoc f ps p)
+
+pub core-snoc : (c : Costs) (ps : List Piece) (p : Piece) → coreOf c (ps ++ (p ∷ [])) ≡ coreOf c ps ++ (charged c p ∷ [])
+unfolding coreOf
+core-snoc c ps p = map-snoc (charged c) ps p
+
+pub core-more : (c : Costs) (ps : List Piece) (i : ℕ) (d : Piece) → i < length ps → coreOf c (take (i + 1) ps) ≡ coreOf c (take i ps) ++ (charged c (getD ps i d) ∷ [])
+unfolding coreOf
+core-more c ps i d h = rw (add-one, take-suc ps i d) (map-snoc (charged c) (take i ps) (getD ps i d))

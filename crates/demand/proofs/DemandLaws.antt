@@ -18,12 +18,9 @@ use native.Mathlib.Decide.{decLt}
 use native.Mathlib.Omega.{arith}
 use borrow.Author.Tests.{lt-ltb, le-ltb}
 use Rattle.demand.specs.declared.Charged.{Charged}
-use Rattle.demand.specs.declared.Sum.{Sum}
-use Rattle.demand.specs.declared.Sum.the-variants.{Load, Interrupts}
 use Rattle.demand.specs.Sizes.{Each}
 use Rattle.demand.specs.Demand.{ceil, total, jobsDue, interrupts, largestWindow, blocking, load, demand, Some, Live, earliest, leastLive}
 use Rattle.demand.specs.Busy.{Least, busyLoad, busySum}
-use Rattle.demand.specs.Lanes.{term}
 use Rattle.demand.proofs.Division.{div-mono, div-add-ceil, ceil-mono, ceil-add, ceil-one-more}
 use Rattle.demand.proofs.Sums.{total-mono, total-add}
 
@@ -83,10 +80,6 @@ pub busy-load-mono : {q : Charged} → Recurs q → {t u : ℕ} → t ≤ u → 
 unfolding busyLoad
 busy-load-mono {q} pos h = mul-le-mul-right (q .charge + q .release + q .ipi) (ceil-mono (pos .again) h)
 
-pub term-mono : (s : Sum) {q : Charged} → Recurs q → {t u : ℕ} → t ≤ u → term s t q ≤ term s u q
-term-mono Load pos h = load-mono pos h
-term-mono Interrupts pos h = interrupts-mono pos h
-
 ceil-shifted : (s l j : ℕ) {k : ℕ} → 0 < k → ceil (s + l + j) k ≤ ceil (s + j) k + ceil l k
 ceil-shifted s l j pos =
     let e : s + l + j ≡ s + j + l = omega arith in
@@ -128,8 +121,11 @@ unfolding demand blocking
 demand-above b qs t h = simp (le-ltb t (largestWindow qs) h) (omega arith)
 
 module _ (qs : List Charged) (recurs : Each Recurs qs) where
-  pub sum-mono : (s : Sum) {t u : ℕ} → t ≤ u → total (term s t) qs ≤ total (term s u) qs
-  sum-mono s {t} {u} h = total-mono Recurs (term s t) (term s u) (λ q pos. term-mono s pos h) qs recurs
+  pub loads-mono : {t u : ℕ} → t ≤ u → total (load t) qs ≤ total (load u) qs
+  loads-mono {t} {u} h = total-mono Recurs (load t) (load u) (λ q pos. load-mono pos h) qs recurs
+
+  pub interrupts-all-mono : {t u : ℕ} → t ≤ u → total (λ q. interrupts q t) qs ≤ total (λ q. interrupts q u) qs
+  interrupts-all-mono {t} {u} h = total-mono Recurs (λ q. interrupts q t) (λ q. interrupts q u) (λ q pos. interrupts-mono pos h) qs recurs
 
   pub demand-add : (b s l : ℕ) → demand b qs (s + l) ≤ demand b qs s + busySum qs l
   unfolding demand busySum
@@ -138,7 +134,7 @@ module _ (qs : List Charged) (recurs : Each Recurs qs) where
 
   pub demand-mono : (b : ℕ) {t u : ℕ} → t ≤ u → (largestWindow qs ≤ u → largestWindow qs ≤ t) → demand b qs t ≤ demand b qs u
   unfolding demand
-  demand-mono b {t} {u} h side = omega (arith, blocking-kept b qs h side, sum-mono Load h)
+  demand-mono b {t} {u} h side = omega (arith, blocking-kept b qs h side, loads-mono h)
 
 -- ---- live lengths
 

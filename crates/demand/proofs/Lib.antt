@@ -1,22 +1,16 @@
 -- Laws that belong to no one function.
 pub mod Division
 pub mod Sums
-pub mod DemandLaws
-pub mod ChargeLaws
 pub mod ArrayLaws
-pub mod RecordLaws
-pub mod LaneLaws
+pub mod DemandLaws
 pub mod SizeLaws
+pub mod ChargeLaws
+pub mod RecordLaws
 pub mod RunLaws
 pub mod BusyLaws
-pub mod ProbeLaws
-pub mod FluidLaws
-pub mod MarkLaws
 pub mod VerdictLaws
 pub mod Judgement
-pub mod CapLaws
-pub mod SearchLaws
-pub mod SkipLaws
+pub mod ChargedSplitLaws
 pub mod SplitLaws
 pub mod AnswerLaws
 pub mod Cases

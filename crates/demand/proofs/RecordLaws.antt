@@ -5,22 +5,22 @@
 --   kind-back             a kind by its number
 --   put-length            a record written leaves the array as long as it was
 --   records-put           it stands there, behind those before it
---   records-all           where each place is told, all are
+--   put-all-next, lent-records    records written one by one are those that are read
 use mathlib.Core.Path.{_≡_, refl, sym, ap, _∙_}
-use mathlib.Core.List.{List, [], _∷_, _++_}
+use mathlib.Core.List.{List, [], _∷_, _++_, append-nil, append-assoc}
 use Prim.Native.Nat.{ℕ, suc, _+_, _*_, _≤_, _<_}
 use native.Mathlib.Nat.{add-zero}
 use native.Mathlib.Numerals.{add-one}
 use native.Mathlib.Omega.{arith}
 use borrow.Author.Tests.{le-leb, lt-leb}
-use lib.ListN.{length, take, getD}
-use lib.Seq.{sets, length-sets, take-all, take-suc}
+use lib.ListN.{length, take, drop, getD, replicate, length-replicate, drop-of-length-le}
+use lib.Seq.{sets, length-sets, take-all, drop-cons}
 use Rattle.demand.specs.declared.Kind.{Kind}
 use Rattle.demand.specs.declared.Kind.the-variants.{Whole, First, Last}
 use Rattle.demand.specs.declared.Piece.{Piece}
 use Rattle.demand.specs.Kinds.{kindNumber, kindOf}
-use Rattle.demand.specs.Lanes.{firsts}
-use Rattle.demand.specs.Records.{recordAt, recordsOf, numbersOf, putRecord}
+use Rattle.demand.specs.Lists.{firsts}
+use Rattle.demand.specs.Records.{noRecord, recordAt, recordWithin, recordsOf, numbersOf, putRecord, putAll, lentOf}
 use Rattle.demand.specs.Sizes.{runMost}
 use Rattle.demand.proofs.ArrayLaws.{firsts-length, firsts-at, firsts-take, firsts-same, sets-before, sets-there}
 
@@ -48,6 +48,14 @@ pub kind-back : (k : Kind) → kindOf (kindNumber k) ≡ k
 kind-back Whole = refl
 kind-back First = refl
 kind-back Last = refl
+
+pub record-past : (a : List ℕ) (i : ℕ) → runMost ≤ i → recordWithin a i ≡ noRecord
+unfolding recordWithin
+record-past a i h = simp (le-leb runMost i h)
+
+pub record-within : (a : List ℕ) (i : ℕ) → i < runMost → recordWithin a i ≡ recordAt a i
+unfolding recordWithin
+record-within a i h = simp (lt-leb runMost i h)
 
 -- seven reads make a record
 pub record-read : (a : List ℕ) (i : ℕ) (k : Kind) → k ≡ kindOf (getD a (7 * i) 0) → record { kind = k; budget = getD a (7 * i + 1) 0; window = getD a (7 * i + 2) 0; period = getD a (7 * i + 3) 0; jitter = getD a (7 * i + 4) 0; preempt = getD a (7 * i + 5) 0; migrate = getD a (7 * i + 6) 0 } ≡ recordAt a i
@@ -81,7 +89,7 @@ put-past a i p h = simp (le-leb runMost i h)
 pub put-length : (a : List ℕ) (i : ℕ) (p : Piece) → i < runMost → length (putRecord a i p) ≡ length a
 put-length a i p h = ap (λ (l : List ℕ). length l) (put-here a i p h) ∙ length-sets a (7 * i) (numbersOf p)
 
-pub records-put : (a : List ℕ) (i : ℕ) (p : Piece) → i < runMost → length a ≡ 553 → take (i + 1) (recordsOf (putRecord a i p)) ≡ take i (recordsOf a) ++ (p ∷ [])
+pub records-put : (a : List ℕ) (i : ℕ) (p : Piece) → i < runMost → length a ≡ 7 * runMost → take (i + 1) (recordsOf (putRecord a i p)) ≡ take i (recordsOf a) ++ (p ∷ [])
 records-put a i p h long =
     let b = sets a (7 * i) (numbersOf p) in
     let room : 7 * i + 7 ≤ length a = omega arith in
@@ -90,13 +98,25 @@ records-put a i p h long =
     let ends : firsts (recordAt b) (suc i) ≡ firsts (recordAt a) i ++ (p ∷ []) = cc (before, record-there a i p room) in
     rw (put-here a i p h) (taken ∙ (ends ∙ ap (λ (l : List Piece). l ++ (p ∷ [])) (sym (records-take a i (omega arith)))))
 
--- ---- other records, put so one by one
+-- ---- records written one by one
 
-pub records-next : (a : List ℕ) (ps : List Piece) (i : ℕ) (p d : Piece) → i < runMost → length a ≡ 553 → i < length ps → p ≡ getD ps i d → take i (recordsOf a) ≡ take i ps → take (i + 1) (recordsOf (putRecord a i p)) ≡ take (i + 1) ps
-records-next a ps i p d h long inside e so-far =
-    let more : take (i + 1) ps ≡ take i ps ++ (getD ps i d ∷ []) = rw add-one (take-suc ps i d inside) in
-    records-put a i p h long ∙ cc (so-far, e, more)
+-- one turn: the record at place i, and then those behind it
+pub put-all-next : (a : List ℕ) (ps : List Piece) (i : ℕ) (d : Piece) → i < length ps → putAll a i (drop i ps) ≡ putAll (putRecord a i (getD ps i d)) (i + 1) (drop (i + 1) ps)
+put-all-next a ps i d h = rw (drop-cons ps i d h) (ap (λ (n : ℕ). putAll (putRecord a i (getD ps i d)) (i + 1) (drop n ps)) (sym (add-one i)))
 
-pub records-all : (a : List ℕ) (ps : List Piece) (n : ℕ) → n ≡ runMost → length ps ≡ runMost → take n (recordsOf a) ≡ take n ps → recordsOf a ≡ ps
-records-all a ps n all many e =
-    sym (take-all n (recordsOf a) (omega (arith, records-length a))) ∙ (e ∙ take-all n ps (omega arith))
+pub put-all-end : (a : List ℕ) (ps : List Piece) (n : ℕ) → length ps ≤ n → putAll a n (drop n ps) ≡ a
+put-all-end a ps n h = rw (drop-of-length-le ps {i = n} h)
+
+put-all-read : (a : List ℕ) (i : ℕ) (ps : List Piece) → i + length ps ≤ runMost → length a ≡ 7 * runMost → take (i + length ps) (recordsOf (putAll a i ps)) ≡ take i (recordsOf a) ++ ps
+put-all-read a i [] few long = rw (add-zero, append-nil)
+put-all-read a i (p ∷ ps) few long =
+    let e : i + length (p ∷ ps) ≡ i + 1 + length ps = omega arith in
+    let more = put-all-read (putRecord a i p) (i + 1) ps (omega arith) (put-length a i p (omega arith) ∙ long) in
+    ap (λ (n : ℕ). take n (recordsOf (putAll (putRecord a i p) (i + 1) ps))) e ∙ (more ∙ (ap (λ (l : List Piece). l ++ ps) (records-put a i p (omega arith) long) ∙ append-assoc (take i (recordsOf a)) (p ∷ []) ps))
+
+pub lent-records : (ps : List Piece) → length ps ≡ runMost → recordsOf (lentOf ps) ≡ ps
+unfolding lentOf
+lent-records ps all =
+    let a : List ℕ = replicate (7 * runMost) 0 in
+    let read = put-all-read a 0 ps (omega arith) (length-replicate {A = ℕ} (7 * runMost) 0) in
+    sym (take-all (0 + length ps) (recordsOf (putAll a 0 ps)) (omega (arith, records-length (putAll a 0 ps)))) ∙ read

@@ -26,7 +26,8 @@ use Rattle.demand.specs.declared.Refusal.{Refusal}
 use Rattle.demand.specs.declared.Refusal.the-variants.{TooMany, BadCosts, BadRecord}
 use Rattle.demand.specs.declared.Check.{Check}
 use Rattle.demand.specs.declared.Check.the-variants.{Fine, Bad}
-use Rattle.demand.specs.Sizes.{runMost, Sized, SizedCosts, Countable, Ranged, Each, sized, sizedCosts}
+use Rattle.demand.specs.Sizes.{runMost, Sized, SizedCosts, Each, sized, sizedCosts}
+use Rattle.demand.specs.ways.Ranges.{Countable, Ranged}
 use Rattle.demand.specs.declared.Answer.the-variants.{Judged, Refused}
 use Rattle.demand.specs.declared.Charged.{Charged}
 use Rattle.demand.specs.declared.Found.{Found}

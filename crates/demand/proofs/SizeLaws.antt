@@ -1,7 +1,8 @@
 -- The size rules as tests say what they say as records.
 -- Assumes nothing.
 --
---   sized-is, sized-costs-is    a test that tells the rule is the definition's
+--   sized-is, sized-costs-is, countable-is    a test that tells the rule is the definition's
+--   window-most, budget-recurs  what else the size rule says: a window is at most 1,000,000, a budget at most its period
 --   first-bad-none              no bad place: all records are within the sizes
 --   first-bad-good, -bad, -end  one record more
 --   first-bad-behind, first-bad-front   one record behind all: it is looked at last
@@ -20,6 +21,7 @@ use lib.Seq.{drop-cons}
 use Rattle.demand.specs.declared.Piece.{Piece}
 use Rattle.demand.specs.declared.Costs.{Costs}
 use Rattle.demand.specs.Sizes.{timeMost, costMost, SizedCosts, Sized, sizedCosts, sized, Tells, Each}
+use Rattle.demand.specs.ways.Ranges.{Countable, countable}
 use Rattle.demand.specs.Answer.{firstBad}
 
 -- ---- tests
@@ -73,23 +75,41 @@ tells-sized p =
 sized-costs-bounds : Costs → List (ℕ × ℕ)
 sized-costs-bounds c = (c .precision, costMost) ∷ (c .ipij, costMost) ∷ (c .ipio, costMost) ∷ (c .migro, costMost) ∷ (c .beto, costMost) ∷ (c .ipb, costMost) ∷ (c .tseto, costMost) ∷ (c .schedo, costMost) ∷ (c .relo, costMost) ∷ []
 
-tells-sized-costs : (c : Costs) → Tells (SizedCosts c) (sizedCosts c)
+pub tells-costs : (c : Costs) → Tells (SizedCosts c) (sizedCosts c)
 unfolding sizedCosts sized-costs-bounds
-tells-sized-costs c =
+tells-costs c =
     tells-as (Bounds (sized-costs-bounds c)) (SizedCosts c) (λ b. record { relo-fits = omega arith; schedo-fits = omega arith; tseto-fits = omega arith; ipb-fits = omega arith; beto-fits = omega arith; migro-fits = omega arith; ipio-fits = omega arith; ipij-fits = omega arith; precision-fits = omega arith })
     (λ s. search needs) (sizedCosts c) (tells-bounds (sized-costs-bounds c))
+
+countable-bounds : Piece → List (ℕ × ℕ)
+countable-bounds p = (p .migrate, costMost) ∷ (p .preempt, costMost) ∷ (p .jitter, timeMost) ∷ (p .period, timeMost) ∷ (1, p .period) ∷ (p .window, timeMost) ∷ (p .budget, timeMost) ∷ []
+
+pub tells-countable : (p : Piece) → Tells (Countable p) (countable p)
+unfolding countable countable-bounds
+tells-countable p =
+    tells-as (Bounds (countable-bounds p)) (Countable p) (λ b. record { budget-fits = omega arith; window-fits = omega arith; period-some = omega arith; period-fits = omega arith; jitter-fits = omega arith; preempt-fits = omega arith; migrate-fits = omega arith })
+    (λ s. search needs) (countable p) (tells-bounds (countable-bounds p))
+
+pub countable-is : (p : Piece) (b : Bool) → Tells (Countable p) b → b ≡ countable p
+countable-is p b tells = tells-unique (Countable p) b (countable p) tells (tells-countable p)
 
 pub sized-is : (p : Piece) (b : Bool) → Tells (Sized p) b → b ≡ sized p
 sized-is p b tells = tells-unique (Sized p) b (sized p) tells (tells-sized p)
 
 pub sized-costs-is : (c : Costs) (b : Bool) → Tells (SizedCosts c) b → b ≡ sizedCosts c
-sized-costs-is c b tells = tells-unique (SizedCosts c) b (sizedCosts c) tells (tells-sized-costs c)
+sized-costs-is c b tells = tells-unique (SizedCosts c) b (sizedCosts c) tells (tells-costs c)
 
 pub sized-true : (p : Piece) → sized p ≡ true → Sized p
 sized-true p e = subst (λ (b : Bool). Tells (Sized p) b) e (tells-sized p)
 
 pub sized-costs-true : (c : Costs) → sizedCosts c ≡ true → SizedCosts c
-sized-costs-true c e = subst (λ (b : Bool). Tells (SizedCosts c) b) e (tells-sized-costs c)
+sized-costs-true c e = subst (λ (b : Bool). Tells (SizedCosts c) b) e (tells-costs c)
+
+pub window-most : (p : Piece) → Sized p → p .window ≤ timeMost
+window-most p ok = omega arith
+
+pub budget-recurs : (p : Piece) → Sized p → p .budget ≤ p .period
+budget-recurs p ok = omega arith
 
 -- ---- the first bad record
 

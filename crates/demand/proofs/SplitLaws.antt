@@ -9,7 +9,7 @@
 --   tight-is-budget       with costs, J and P zero the tight window is x itself, which is C=D
 --   tight-first-budget    the same of the executable definition
 use mathlib.Core.Path.{_≡_, refl, sym, ap, _∙_, subst}
-use mathlib.Core.Bool.{Bool, true, false}
+use mathlib.Core.Bool.{Bool, true, false, cond}
 use mathlib.Core.List.{List, [], _∷_, _++_}
 use mathlib.Core.Logic.{_⊎_}
 use Prim.Native.Nat.{ℕ, zero, suc, _+_, _*_, _-_, _/_, _≤_, _<_}
@@ -26,18 +26,19 @@ use Rattle.demand.specs.declared.Verdict.the-variants.{Passes, Overloade
 use Rattle.demand.specs.declared.Split.{Split}
 use Rattle.demand.specs.declared.Split.the-variants.{Cut, Nowhere}
 use Rattle.demand.specs.Sizes.{SizedCosts, Sized, Each, Tells}
-use Rattle.demand.specs.Charge.{byKind, charge, charged, ipiCost, coreOf, stall}
+use Rattle.demand.specs.Kinds.{arrives}
+use Rattle.demand.specs.Charge.{charge, charged, ipiCost, coreOf, stall}
 use Rattle.demand.specs.Demand.{ceil, total, interrupts, jobsDue, load, demand, Live}
 use Rattle.demand.specs.Busy.{Least, Holds, tightSum}
 use Rattle.demand.specs.Verdict.{Means, verdict, verdictOf}
-use Rattle.demand.specs.Split.{lastJitter, firstPiece, lastPiece, tightOn, Splits, passes, tightFirst, bothPass, splitting, greatestSplit}
-use Rattle.demand.specs.Search.{lastAlone, Tight, Fits, NoneAbove, Chosen, TightIn}
+use Rattle.demand.specs.Split.{pieceOf, firstPiece, lastPiece, tightOn, Splits, passes, tightFirst, bothPass, splitting, greatestSplit}
+use Rattle.demand.specs.ways.ChargedSplit.{lastAlone, Tight, Fits, NoneAbove, Chosen, TightIn}
 use Rattle.demand.proofs.DemandLaws.{Recurs, jobs-due-some, demand-above}
-use Rattle.demand.proofs.ChargeLaws.{by-kind-le, core-recurs, all-countable}
+use Rattle.demand.proofs.ChargeLaws.{when-le, late-jitter-le, core-recurs, all-countable}
 use Rattle.demand.proofs.SizeLaws.{tells-both}
 use Rattle.demand.proofs.BusyLaws.{least-unique}
 use Rattle.demand.proofs.VerdictLaws.{verdict-means, passes-forever}
-use Rattle.demand.proofs.SearchLaws.{window-in, untight, step-none, none-first, none-next, next-less, first-below, multiple-some, with-core, sum-core, first-verdict, last-verdict, allowed-fits, splits-of, last-charge, tight-parts, last-recurs}
+use Rattle.demand.proofs.ChargedSplitLaws.{window-in, untight, none-one, none-first, none-next, next-less, first-below, multiple-some, with-core, sum-core, first-verdict, last-verdict, allowed-fits, splits-of, last-charge, tight-parts, last-recurs}
 
 -- ---- the executable definition satisfies the meaning
 
@@ -61,7 +62,7 @@ module _ (c : Costs) (g : ℕ) (ps : List Piece) (p : Piece) (each : Each Sized 
       let x = suc k * g in
       let some : 1 ≤ suc k * g = multiple-some g p pos (suc k) (omega arith) in
       let below : (suc k * g - 1) / g ≤ k = omega (arith, next-less g p pos (suc k) (suc k * g - 1) (omega arith)) in
-      none-next g p pos c (coreOf c ps) x (x - 1) above (step-none c (coreOf c ps) p x some none) z u (omega (arith, mul-le-mul-right g below))
+      none-next g p pos c (coreOf c ps) x (x - 1) above (none-one c (coreOf c ps) p x some none) z u (omega (arith, mul-le-mul-right g below))
 
   chosen : (k : ℕ) → k * g < p .budget → NoneAbove c g (coreOf c ps) p (k * g) → Chosen c g (coreOf c ps) p (splitting c g ps p k)
   chosen zero less above = subst (λ (x : ℕ). NoneAbove c g (coreOf c ps) p x) (zero-mul g) above
@@ -148,7 +149,7 @@ alone-demand b q = omega (arith, demand-above b (q ∷ []) (q .window) (omega ar
     due q = omega (arith, jobs-due-some q (q .window) (omega arith))
 
 last-window : (c : Costs) (p : Piece) (x w : ℕ) → charged c (lastPiece c p x w) .window ≡ p .window - w
-unfolding charged lastPiece
+unfolding charged lastPiece pieceOf
 last-window c p x w = refl
 
 last-inside : (c : Costs) (p : Piece) (x w : ℕ) → Sized p → verdict (stall c) (lastAlone c p x w) ≡ Passes → p .budget - x ≤ p .window - w
@@ -160,7 +161,7 @@ last-inside c p x w ok pass =
     omega (arith, passes-forever (stall c) (q ∷ []) recurs means (q .window) (alone-live q), alone-demand (stall c) q, last-window c p x w, last-charge c p x w)
 
 first-size : (p : Piece) (x w : ℕ) → Sized p → 1 ≤ x → x ≤ w → w < p .window → Sized (firstPiece p x w)
-unfolding firstPiece
+unfolding firstPiece pieceOf
 first-size p x w ok some fits inside = record {
   budget-some = some;
   budget-fits = fits;
@@ -172,13 +173,13 @@ first-size p x w ok some fits inside = record {
 }
 
 last-size : (c : Costs) (p : Piece) (x w : ℕ) → SizedCosts c → Sized p → x < p .budget → p .budget - x ≤ p .window - w → Sized (lastPiece c p x w)
-unfolding lastPiece lastJitter
+unfolding lastPiece pieceOf
 last-size c p x w costs ok less fits = record {
   budget-some = omega arith;
   budget-fits = fits;
   window-fits = omega arith;
   period-fits = ok .period-fits;
-  jitter-fits = omega arith;
+  jitter-fits = late-jitter-le c;
   preempt-fits = ok .preempt-fits;
   migrate-fits = ok .migrate-fits;
 }
@@ -222,7 +223,7 @@ no-interrupts c q t relo tseto ipio =
     let n = ceil (t + q .jitter) (q .period) in
     let m = ceil (t + c .ipij) (q .period) in
     let none : c .relo + c .tseto ≡ 0 = omega arith in
-    let nothing : byKind (q .kind) 0 0 (c .ipio) ≡ 0 = omega (arith, by-kind-le (q .kind) {w = 0} {f = 0} {l = c .ipio} {m = 0} (omega arith) (omega arith) (omega arith)) in
+    let nothing : cond (arrives (q .kind)) (c .ipio) 0 ≡ 0 = omega (arith, when-le (arrives (q .kind)) {n = c .ipio} {m = 0} (omega arith)) in
     rw (none, nothing) (omega (arith, mul-zero n, mul-zero m))
 
 none-in-all : (c : Costs) (ps : List Piece) (t : ℕ) → c .relo ≡ 0 → c .tseto ≡ 0 → c .ipio ≡ 0 → total (λ q. interrupts q t) (coreOf c ps) ≡ 0
@@ -231,7 +232,7 @@ none-in-all c [] t relo tseto ipio = refl
 none-in-all c (p ∷ ps) t relo tseto ipio = omega (arith, no-interrupts c p t relo tseto ipio, none-in-all c ps t relo tseto ipio)
 
 free-sum : (c : Costs) (ps : List Piece) (p : Piece) → Free c p → (x t : ℕ) → tightOn c ps p x t ≡ x
-unfolding tightOn tightSum stall charged charge firstPiece
+unfolding tightOn tightSum stall charged charge firstPiece pieceOf
 free-sum c ps p free x t = omega (arith, none-in-all c (ps ++ (firstPiece p x 0 ∷ [])) t (free .relo-none) (free .tseto-none) (free .ipio-none))
 
 pub tight-is-budget : (c : Costs) (ps : List Piece) (p : Piece) → Free c p → (x : ℕ) → 1 ≤ x → Least (Holds (tightOn c ps p x)) x

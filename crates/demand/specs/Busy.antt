@@ -2,6 +2,7 @@
 --
 --   Least P n            n has P, and nothing below n has
 --   Holds f n            n ≥ 1 and f n ≤ n
+--   Clear f n            nothing below n holds f
 --   Finds f top r        r is the least n with `Holds f n`, or says that there is none up to top
 --   leastHolding f top   that r, by climbing from 1 to f 1 and so on
 --   busyLoad l q         what q asks of a busy length l
@@ -26,6 +27,9 @@ pub record Least (P : ℕ → Type 0) (n : ℕ) : Type 0 where
 pub record Holds (f : ℕ → ℕ) (n : ℕ) : Type 0 where
   pub some : 1 ≤ n
   pub fits : f n ≤ n
+
+abbrev pub Clear : (ℕ → ℕ) → ℕ → Type 0
+Clear f n = (k : ℕ) → k < n → Holds f k → ⊥
 
 abbrev pub Finds : (ℕ → ℕ) → ℕ → Found → Type 0
 Finds f top (At n) = Least (Holds f) n × (n ≤ top)

@@ -1,28 +1,23 @@
 -- A piece and its charge: document 01, "A piece and its charge".
 --
---   byKind k w f l       w for a whole piece, f for a first one, l for a last one
 --   charge c p           C', the charged time                      000, equations 7 and 9 and the one for the last subtask
---   ipiCost c p          what each IPI costs p: IpiO for a last piece, else 0
---   charged c p          all that is looked at from here on: no later definition goes by kinds
+--   ipiCost c p          what each IPI costs p: IpiO for a piece that came from elsewhere, else 0
+--   charged c p          all that is looked at from here on: no later definition asks for a kind
 --   coreOf c ps          the charged pieces of a core
+use mathlib.Core.Bool.{cond}
 use mathlib.Core.List.{List, map}
 use Prim.Native.Nat.{ℕ, _+_, _*_, max}
-use Rattle.demand.specs.declared.Kind.{Kind}
-use Rattle.demand.specs.declared.Kind.the-variants.{Whole, First, Last}
 use Rattle.demand.specs.declared.Piece.{Piece}
 use Rattle.demand.specs.declared.Costs.{Costs}
 use Rattle.demand.specs.declared.Charged.{Charged}
-
-abbrev pub byKind : Kind → ℕ → ℕ → ℕ → ℕ
-byKind Whole w f l = w
-byKind First w f l = f
-byKind Last w f l = l
+use Rattle.demand.specs.Kinds.{departs, arrives}
 
 unfoldable pub charge : Costs → Piece → ℕ
-charge c p = p .budget + 2 * c .schedo + c .tseto + p .preempt + byKind (p .kind) 0 (c .ipb + c .beto + c .migro) (p .migrate)
+charge c p =
+    p .budget + 2 * c .schedo + c .tseto + p .preempt + cond (departs (p .kind)) (c .ipb + c .beto + c .migro) 0 + cond (arrives (p .kind)) (p .migrate) 0
 
 unfoldable pub ipiCost : Costs → Piece → ℕ
-ipiCost c p = byKind (p .kind) 0 0 (c .ipio)
+ipiCost c p = cond (arrives (p .kind)) (c .ipio) 0
 
 unfoldable pub charged : Costs → Piece → Charged
 charged c p = record {

@@ -1,4 +1,5 @@
--- What the contracts of `demand` cite, in document 01's order.
+-- What the contracts of `demand`, `verdicts` and `splits` cite, in document 01's order: what a reader has to believe. `ways` has what only says how the code goes.
+pub mod Lists
 pub mod Sizes
 pub mod Kinds
 pub mod Charge
@@ -7,11 +8,6 @@ pub mod Busy
 pub mod Verdict
 pub mod Split
 pub mod Answer
-pub mod Lanes
 pub mod Records
-pub mod Probes
-pub mod Caps
-pub mod Leaps
-pub mod Marks
-pub mod Search
 pub mod Cases
+pub mod ways

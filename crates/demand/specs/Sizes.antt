@@ -7,8 +7,6 @@
 --   lengthMost        what no judged length reaches: the limit and a window
 --   SizedCosts c      the nine constants are within their sizes
 --   Sized p           the record p is within the sizes, with 1 ≤ x ≤ D ≤ T
---   Countable p       the piece p can be charged, and
---   Ranged q          the charged piece q can be counted with, in 64 bits
 --   Each P ps         P of every element
 use mathlib.Core.Bool.{Bool, true, false, _&&_}
 use mathlib.Core.List.{List, [], _∷_}
@@ -16,7 +14,6 @@ use Prim.Native.Nat.{ℕ, _≤_}
 use lib.Dec.{leb}
 use Rattle.demand.specs.declared.Piece.{Piece}
 use Rattle.demand.specs.declared.Costs.{Costs}
-use Rattle.demand.specs.declared.Charged.{Charged}
 
 abbrev pub timeMost : ℕ
 timeMost = 1000000
@@ -84,23 +81,3 @@ Tells P false = P → ⊥
 abbrev pub Each : {A : Type 0} → (A → Type 0) → List A → Type 0
 Each P [] = Unit {0}
 Each P (p ∷ ps) = P p × Each P ps
-
--- What a piece needs to be charged without wrapping, wider than `Sized`: the engine also judges a last piece that is longer than its window.
-pub record Countable (p : Piece) : Type 0 where
-  pub budget-fits : p .budget ≤ timeMost
-  pub window-fits : p .window ≤ timeMost
-  pub period-some : 1 ≤ p .period
-  pub period-fits : p .period ≤ timeMost
-  pub jitter-fits : p .jitter ≤ timeMost
-  pub preempt-fits : p .preempt ≤ costMost
-  pub migrate-fits : p .migrate ≤ costMost
-
-pub record Ranged (q : Charged) : Type 0 where
-  pub period-some : 1 ≤ q .period
-  pub period-fits : q .period ≤ timeMost
-  pub window-fits : q .window ≤ timeMost
-  pub jitter-fits : q .jitter ≤ timeMost
-  pub charge-fits : q .charge ≤ 2000000
-  pub release-fits : q .release ≤ 200000
-  pub ipi-fits : q .ipi ≤ costMost
-  pub ipij-fits : q .ipij ≤ costMost

@@ -1,7 +1,8 @@
 -- The split of a task on a core: document 01, "The C=D walk". A task to be split is given as its whole piece: C, D, T, J, P and M.
 -- First what an allowed split means, by records, then the greatest one as a function that computes. `proofs/SplitLaws.antt` ties the two.
 --
---   lastJitter c           the jitter of a last piece: π
+--   lateJitter c           the jitter of a piece that came from elsewhere: π; costs outside their sizes have none
+--   pieceOf j p k x w      the piece of p of the kind k with budget x and window w; j is the jitter that it has if it came from elsewhere
 --   firstPiece p x w       the first piece of p with budget x and window w
 --   lastPiece c p x w      the last piece that this leaves
 --   tightOn c ps p x       what the first piece waits for within a length, on a core with the pieces ps, itself included
@@ -10,9 +11,10 @@
 --   Greatest c g ps p x t  x is the greatest allowed candidate
 --   greatestSplit c g ps p   that x with its tight window, or none
 use mathlib.Core.Path.{_≡_}
-use mathlib.Core.Bool.{Bool, true, false, _&&_}
+use mathlib.Core.Bool.{Bool, true, false, cond, _&&_}
 use mathlib.Core.List.{List, [], _∷_, _++_}
 use Prim.Native.Nat.{ℕ, zero, suc, _+_, _*_, _-_, _/_, _≤_, _<_}
+use Rattle.demand.specs.declared.Kind.{Kind}
 use Rattle.demand.specs.declared.Kind.the-variants.{First, Last}
 use Rattle.demand.specs.declared.Piece.{Piece}
 use Rattle.demand.specs.declared.Costs.{Costs}
@@ -22,18 +24,33 @@ use Rattle.demand.specs.declared.Verdict.{Verdict}
 use Rattle.demand.specs.declared.Verdict.the-variants.{Passes, Overloaded, Undecided}
 use Rattle.demand.specs.declared.Split.{Split}
 use Rattle.demand.specs.declared.Split.the-variants.{Cut, Nowhere}
+use Rattle.demand.specs.Sizes.{sizedCosts}
+use Rattle.demand.specs.Kinds.{arrives}
 use Rattle.demand.specs.Charge.{charged, coreOf, stall}
 use Rattle.demand.specs.Busy.{Least, Holds, tightSum, tightWindow}
 use Rattle.demand.specs.Verdict.{verdictOf}
 
-unfoldable pub lastJitter : Costs → ℕ
-lastJitter c = c .precision
+unfoldable pub lateJitter : Costs → ℕ
+lateJitter c = cond (sizedCosts c) (c .precision) 0
 
+-- Every piece of a plan is one of these.
+unfoldable pub pieceOf : ℕ → Piece → Kind → ℕ → ℕ → Piece
+pieceOf j p k x w = record {
+  kind = k;
+  budget = x;
+  window = w;
+  period = p .period;
+  jitter = cond (arrives k) j (p .jitter);
+  preempt = p .preempt;
+  migrate = p .migrate;
+}
+
+-- A first piece has its task's jitter, whatever a late one would have.
 unfoldable pub firstPiece : Piece → ℕ → ℕ → Piece
-firstPiece p x w = record { kind = First; budget = x; window = w; period = p .period; jitter = p .jitter; preempt = p .preempt; migrate = p .migrate }
+firstPiece p x w = pieceOf 0 p First x w
 
 unfoldable pub lastPiece : Costs → Piece → ℕ → ℕ → Piece
-lastPiece c p x w = record { kind = Last; budget = p .budget - x; window = p .window - w; period = p .period; jitter = lastJitter c; preempt = p .preempt; migrate = p .migrate }
+lastPiece c p x w = pieceOf (lateJitter c) p Last (p .budget - x) (p .window - w)
 
 -- The window of the first piece is what is looked for; neither its charge nor its interrupts depend on it, and 0 stands in its place.
 unfoldable pub tightOn : Costs → List Piece → Piece → ℕ → ℕ → ℕ

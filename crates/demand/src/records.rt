@@ -1,24 +1,27 @@
-// A run of piece records that is lent as numbers, seven to a record, and one that comes by value put so.
+// A run of piece records that is lent as numbers, seven to a record, and what is refused of it.
 use crate::Check;
 use crate::Costs;
+use crate::Kind;
 use crate::Piece;
+use crate::RUN_MOST;
+use crate::RUN_NUMBERS;
+use crate::Refusal;
 use crate::Run;
-use crate::kind_of;
-use crate::lanes::lay_out;
-use crate::put_record;
-use crate::sizes::check_records;
+use crate::kinds::kind_number;
+use crate::kinds::kind_of;
+use crate::sizes::sized_costs;
+use crate::sizes::sized_piece;
 ghost use mathlib.Core.Path.{_≡_};
-ghost use Prim.Native.Nat.{_<_, _≤_};
+ghost use mathlib.Core.List.{[], _∷_, _++_};
+ghost use Prim.Native.Nat.{_+_, _<_, _≤_};
 ghost use lib.ListN.{take};
-ghost use Rattle.demand.specs.Answer.{checkRun};
-ghost use Rattle.demand.specs.Charge.{coreOf};
-ghost use Rattle.demand.specs.Lanes.{rows};
-ghost use Rattle.demand.specs.Records.{recordAt, recordsOf};
-ghost use Rattle.demand.specs.Sizes.{SizedCosts, Countable, Each};
+ghost use Rattle.demand.specs.Answer.{firstBad, checkRun};
+ghost use Rattle.demand.specs.Records.{noRecord, recordAt, recordWithin, recordsOf, putRecord, lentOf};
+ghost use Rattle.demand.specs.Sizes.{runMost};
 
 // The record at place i.
-pub fn record_at(records: &[u64; 553], i: usize) -> Piece
-    requires { ⌜ i < 79 ⌝ }
+fn read_record(records: &[u64; RUN_NUMBERS], i: usize) -> Piece
+    requires { ⌜ i < runMost ⌝ }
     ensures { λ r. ⌜ r ≡ recordAt (now (records .entry)) i ⌝ }
 {
     let at = 7 * i;
@@ -33,13 +36,55 @@ pub fn record_at(records: &[u64; 553], i: usize) -> Piece
     }
 }
 
-// All places of a run.
-pub fn records_of(run: Run) -> [u64; 553]
-    ensures { λ r. ⌜ recordsOf r ≡ run .pieces ⌝ }
+fn no_record() -> Piece
+    ensures { λ r. ⌜ r ≡ noRecord ⌝ }
 {
-    let mut records: [u64; 553] = [0; 553];
+    Piece {
+        kind: Kind::Whole,
+        budget: 0,
+        window: 0,
+        period: 0,
+        jitter: 0,
+        preempt: 0,
+        migrate: 0,
+    }
+}
+
+/// The record at a place from 0 of a run that is lent as numbers; past its last place all numbers are 0.
+pub fn record_at(records: &[u64; RUN_NUMBERS], i: usize) -> Piece
+    ensures exact { λ r. ⌜ r ≡ recordWithin (now (records .entry)) i ⌝ }
+{
+    if RUN_MOST <= i {
+        return no_record();
+    }
+    read_record(records, i)
+}
+
+/// Writes a record, as its seven numbers, at a place from 0 of a run that is lent as numbers; past its last place nothing changes.
+pub fn put_record(records: &mut [u64; RUN_NUMBERS], i: usize, piece: Piece)
+    ensures exact { λ r. ⌜ now (records .exit) ≡ putRecord (now (records .entry)) i piece ⌝ }
+{
+    if RUN_MOST <= i {
+        return;
+    }
+    let at = 7 * i;
+    let kind = piece.kind;
+    records[at] = kind_number(kind);
+    records[at + 1] = piece.budget;
+    records[at + 2] = piece.window;
+    records[at + 3] = piece.period;
+    records[at + 4] = piece.jitter;
+    records[at + 5] = piece.preempt;
+    records[at + 6] = piece.migrate;
+}
+
+/// A run by value, as the numbers that are lent.
+pub fn records_of(run: Run) -> [u64; RUN_NUMBERS]
+    ensures exact { λ r. ⌜ r ≡ lentOf (run .pieces) ⌝ }
+{
+    let mut records: [u64; RUN_NUMBERS] = [0; RUN_NUMBERS];
     let mut i: usize = 0;
-    while i < 79 {
+    while i < RUN_MOST {
         let piece = run.pieces[i];
         put_record(&mut records, i, piece);
         i += 1;
@@ -47,24 +92,54 @@ pub fn records_of(run: Run) -> [u64; 553]
     records
 }
 
-// 6, then 2, then 3 with the record's place.
-pub fn check_run(costs: Costs, run: Run) -> Check
-    ensures { λ r. ⌜ r ≡ checkRun costs (run .count) (run .pieces) ⌝ }
+// The place, from 1, of the first of the n records outside the sizes, or 0.
+fn first_bad(records: &[u64; RUN_NUMBERS], n: usize) -> u64
+    requires { ⌜ n ≤ runMost ⌝ }
+    ensures { λ r. ⌜ r ≡ firstBad 1 (take n (recordsOf (now (records .entry)))) ⌝ }
 {
-    let records = records_of(run);
-    let n = run.count;
-    check_records(costs, &records, n)
+    let mut i: usize = 0;
+    let mut place: u64 = 1;
+    while i < n {
+        if !sized_piece(read_record(records, i)) {
+            return place;
+        }
+        i += 1;
+        place += 1;
+    }
+    0
 }
 
-// The pieces of a run, each charged.
-pub fn lay_run(costs: Costs, run: Run) -> [u64; 553]
-    requires { ⌜ SizedCosts costs ⌝ }
-    requires { ⌜ (run .count ≤ 79) × Each Countable (take (run .count) (run .pieces)) ⌝ }
-    ensures { λ r. ⌜ rows r (run .count) ≡ coreOf costs (take (run .count) (run .pieces)) ⌝ }
+/// Whether the first n records of a run are taken: 6, then 2, then 3 with the record's place.
+pub fn check_records(costs: Costs, records: &[u64; RUN_NUMBERS], n: usize) -> Check
+    ensures exact { λ r. ⌜ r ≡ checkRun costs n (recordsOf (now (records .entry))) ⌝ }
 {
-    let mut core: [u64; 553] = [0; 553];
-    let records = records_of(run);
-    let n = run.count;
-    lay_out(&mut core, costs, &records, n);
-    core
+    if RUN_MOST < n {
+        return Check::Bad(Refusal::TooMany);
+    }
+    if !sized_costs(costs) {
+        return Check::Bad(Refusal::BadCosts);
+    }
+    let place = first_bad(records, n);
+    if place == 0 {
+        return Check::Fine;
+    }
+    Check::Bad(Refusal::BadRecord(place))
+}
+
+/// The same of a run with one record more, the task's.
+pub fn check_task(costs: Costs, records: &[u64; RUN_NUMBERS], n: usize, task: Piece) -> Check
+    ensures exact { λ r. ⌜ r ≡ checkRun costs (n + 1) (take n (recordsOf (now (records .entry))) ++ (task ∷ [])) ⌝ }
+{
+    if RUN_MOST <= n {
+        return Check::Bad(Refusal::TooMany);
+    }
+    match check_records(costs, records, n) {
+        Check::Bad(why) => Check::Bad(why),
+        Check::Fine => {
+            if sized_piece(task) {
+                return Check::Fine;
+            }
+            Check::Bad(Refusal::BadRecord(n as u64 + 1))
+        }
+    }
 }

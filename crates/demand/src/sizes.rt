@@ -1,45 +1,40 @@
-// Whether costs and records are within the sizes, and the refusals in their order.
-use crate::Check;
+// Whether costs and pieces are within the sizes.
+use crate::COST_MOST;
 use crate::Costs;
 use crate::Piece;
-use crate::Refusal;
-use crate::records::record_at;
+use crate::TIME_MOST;
 ghost use mathlib.Core.Path.{_≡_};
-ghost use mathlib.Core.List.{[], _∷_, _++_};
-ghost use Prim.Native.Nat.{_+_, _≤_};
-ghost use lib.ListN.{take};
-ghost use Rattle.demand.specs.Answer.{firstBad, checkRun};
-ghost use Rattle.demand.specs.Records.{recordsOf};
-ghost use Rattle.demand.specs.Sizes.{Sized, SizedCosts, Tells};
+ghost use Rattle.demand.specs.Sizes.{Sized, SizedCosts, Tells, sized, sizedCosts};
+ghost use Rattle.demand.specs.ways.Ranges.{Countable};
 
 pub fn sized_costs(costs: Costs) -> bool
     ensures { λ r. ⌜ Tells (SizedCosts costs) r ⌝ }
 {
-    if 100000 < costs.relo {
+    if COST_MOST < costs.relo {
         return false;
     }
-    if 100000 < costs.schedo {
+    if COST_MOST < costs.schedo {
         return false;
     }
-    if 100000 < costs.tseto {
+    if COST_MOST < costs.tseto {
         return false;
     }
-    if 100000 < costs.ipb {
+    if COST_MOST < costs.ipb {
         return false;
     }
-    if 100000 < costs.beto {
+    if COST_MOST < costs.beto {
         return false;
     }
-    if 100000 < costs.migro {
+    if COST_MOST < costs.migro {
         return false;
     }
-    if 100000 < costs.ipio {
+    if COST_MOST < costs.ipio {
         return false;
     }
-    if 100000 < costs.ipij {
+    if COST_MOST < costs.ipij {
         return false;
     }
-    if 100000 < costs.precision {
+    if COST_MOST < costs.precision {
         return false;
     }
     true
@@ -57,69 +52,59 @@ pub fn sized_piece(piece: Piece) -> bool
     if piece.period < piece.window {
         return false;
     }
-    if 1000000 < piece.period {
+    if TIME_MOST < piece.period {
         return false;
     }
-    if 1000000 < piece.jitter {
+    if TIME_MOST < piece.jitter {
         return false;
     }
-    if 100000 < piece.preempt {
+    if COST_MOST < piece.preempt {
         return false;
     }
-    if 100000 < piece.migrate {
+    if COST_MOST < piece.migrate {
         return false;
     }
     true
 }
 
-// The place, from 1, of the first of the n records outside the sizes, or 0.
-pub fn first_bad(records: &[u64; 553], n: usize) -> u64
-    requires { ⌜ n ≤ 79 ⌝ }
-    ensures { λ r. ⌜ r ≡ firstBad 1 (take n (recordsOf (now (records .entry)))) ⌝ }
+// Whether a piece can be charged.
+pub fn countable_piece(piece: Piece) -> bool
+    ensures { λ r. ⌜ Tells (Countable piece) r ⌝ }
 {
-    let mut i: usize = 0;
-    let mut place: u64 = 1;
-    while i < n {
-        if !sized_piece(record_at(records, i)) {
-            return place;
-        }
-        i += 1;
-        place += 1;
+    if TIME_MOST < piece.budget {
+        return false;
     }
-    0
+    if TIME_MOST < piece.window {
+        return false;
+    }
+    if piece.period < 1 {
+        return false;
+    }
+    if TIME_MOST < piece.period {
+        return false;
+    }
+    if TIME_MOST < piece.jitter {
+        return false;
+    }
+    if COST_MOST < piece.preempt {
+        return false;
+    }
+    if COST_MOST < piece.migrate {
+        return false;
+    }
+    true
 }
 
-// 6, then 2, then 3 with the record's place.
-pub fn check_records(costs: Costs, records: &[u64; 553], n: usize) -> Check
-    ensures { λ r. ⌜ r ≡ checkRun costs n (recordsOf (now (records .entry))) ⌝ }
+/// Whether a record is within the sizes.
+pub fn within_sizes(piece: Piece) -> bool
+    ensures exact { λ r. ⌜ r ≡ sized piece ⌝ }
 {
-    if 79 < n {
-        return Check::Bad(Refusal::TooMany);
-    }
-    if !sized_costs(costs) {
-        return Check::Bad(Refusal::BadCosts);
-    }
-    let place = first_bad(records, n);
-    if place == 0 {
-        return Check::Fine;
-    }
-    Check::Bad(Refusal::BadRecord(place))
+    sized_piece(piece)
 }
 
-// The same of a run with one record more, the task's.
-pub fn check_task(costs: Costs, records: &[u64; 553], n: usize, task: Piece) -> Check
-    ensures { λ r. ⌜ r ≡ checkRun costs (n + 1) (take n (recordsOf (now (records .entry))) ++ (task ∷ [])) ⌝ }
+/// Whether the nine constants are within their sizes.
+pub fn costs_within(costs: Costs) -> bool
+    ensures exact { λ r. ⌜ r ≡ sizedCosts costs ⌝ }
 {
-    if 79 <= n {
-        return Check::Bad(Refusal::TooMany);
-    }
-    match check_records(costs, records, n) {
-        Check::Bad(why) => Check::Bad(why),
-        Check::Fine => {
-            if sized_piece(task) {
-                return Check::Fine;
-            }
-            Check::Bad(Refusal::BadRecord(n as u64 + 1))
-        }
-    }
+    sized_costs(costs)
 }

@@ -17,7 +17,7 @@ use Rattle.demand.specs.Sizes.{sized, sizedCosts}
 use Rattle.demand.specs.Charge.{charge, ipiCost, charged, coreOf, stall}
 use Rattle.demand.specs.Demand.{ceil, jobsDue, interrupts, blocking, load, demand, leastLive}
 use Rattle.demand.specs.Busy.{leastHolding, busyLoad, busySum, busyLength, tightSum, tightWindow}
-use Rattle.demand.specs.Split.{lastJitter, firstPiece, lastPiece, tightFirst, bothPass, greatestSplit}
+use Rattle.demand.specs.Split.{pieceOf, lateJitter, firstPiece, lastPiece, tightFirst, bothPass, greatestSplit}
 use Rattle.demand.specs.Verdict.{verdict, verdictOf}
 use Rattle.task.specs.declared.Name.{Name}
 use Rattle.task.specs.declared.Task.{Task}
@@ -72,7 +72,7 @@ pub record Computed : Type 0 where
   pub meets : Meet machine costs (task 97 2 2 ∷ task 98 2 2 ∷ task 99 1 2 ∷ []) (task 97 2 2 ∷ task 98 1 1 ∷ task 99 1 2 ∷ [])
 
 computed : Computed
-unfolding letter task costs machine tasks state change sized sizedCosts charge ipiCost charged coreOf stall ceil jobsDue interrupts blocking load demand leastLive leastHolding busyLoad busySum busyLength tightSum tightWindow lastJitter firstPiece lastPiece tightFirst bothPass greatestSplit verdict verdictOf nameByte formed sameName wholePiece sizedMachine faultOf stateFault denser rulesFor none putOf padded walked noPlan planOf changed editFault editOf
+unfolding letter task costs machine tasks state change sized sizedCosts charge ipiCost charged coreOf stall ceil jobsDue interrupts blocking load demand leastLive leastHolding busyLoad busySum busyLength tightSum tightWindow lateJitter firstPiece lastPiece tightFirst bothPass greatestSplit verdict verdictOf nameByte formed sameName wholePiece sizedMachine faultOf stateFault denser rulesFor none putOf padded walked noPlan planOf changed editFault editOf pieceOf
 computed =
     let third : Stand = record { core = 2; left = 0; row = wholePiece (task 99 1 2 .times) ∷ [] } in
     let placed : (t : Task) → ℕ → Placed Task = λ t q. record { on = q; item = t; piece = wholePiece (t .times) } in

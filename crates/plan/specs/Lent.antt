@@ -18,7 +18,7 @@ use Prim.Native.Nat.{ℕ, _+_, _*_, _<_, _≤_}
 use lib.ListN.{getD, length}
 use Rattle.demand.specs.declared.Piece.{Piece}
 use Rattle.demand.specs.Kinds.{kindOf}
-use Rattle.demand.specs.Lanes.{firsts}
+use Rattle.demand.specs.Lists.{firsts}
 use Rattle.demand.specs.Sizes.{Each}
 use Rattle.task.specs.declared.Times.{Times}
 use Rattle.task.specs.declared.Task.{Task}

@@ -28,7 +28,7 @@ pub fn judge_lent(costs: Costs, pieces: &[Piece]) -> Answer
     ensures exact { λ r. ⌜ r ≡ answerOf costs (length (now (pieces .entry))) (now (pieces .entry)) ⌝ }
 {
     let run = gather(pieces);
-    demand::judge(costs, run)
+    verdicts::judge(costs, run)
 }
 
 /// The same on records and costs that are lent as bytes, four a number, lowest first. First 8, where the bytes make no whole records or not
@@ -45,7 +45,7 @@ pub extern "C" fn verdict(records: &[u8], costs: &[u8]) -> u64
     }
     let mut run: [u64; 553] = [0; 553];
     read_records(&mut run, records);
-    number_of(demand::judge_records(read_costs(costs), &run, records.len() / 28))
+    number_of(verdicts::judge_records(read_costs(costs), &run, records.len() / 28))
 }
 
 /// A sheet's listing, written into a lent buffer. The answer is one number, 2^32 · which + carries: 0 and the listing's length, where it is

@@ -57,10 +57,10 @@ use Rattle.spardimple.proofs.runs.gather as gather
 use Rattle.spardimple.proofs.runs.gather.Symbol as gather-def
 use Rattle.spardimple.proofs.runs.gather.Symbol.{name as #gather}
 use Rattle.spardimple.proofs.runs.gather.Met as gather-thm
-use Rattle.demand.proofs.judge as judge
-use Rattle.demand.proofs.judge.Symbol as judge-def
-use Rattle.demand.proofs.judge.Symbol.{name as #judge}
-use Rattle.demand.proofs.judge.Met as judge-thm
+use Rattle.verdicts.proofs.judge as judge
+use Rattle.verdicts.proofs.judge.Symbol as judge-def
+use Rattle.verdicts.proofs.judge.Symbol.{name as #judge}
+use Rattle.verdicts.proofs.judge.Met as judge-thm
 use Rattle.spardimple.proofs.judge_lent.Key.{name as #judge-lent}
 use Rattle.spardimple.proofs.judge_lent as f
 use Rattle.spardimple.proofs.judge_lent.Statement as stated

@@ -19,7 +19,7 @@ use Rattle.spardimple.proofs.verdict.Statement.{statement}
 use Rattle.spardimple.proofs.verdict.Tie as tie
 use Rattle.spardimple.proofs.verdict.Reads as reads
 use Rattle.spardimple.proofs.verdict.Lts as lts
-use Rattle.demand.proofs.judge_records.Reads as judge-records-reads
+use Rattle.verdicts.proofs.judge_records.Reads as judge-records-reads
 use Rattle.spardimple.proofs.bytes.read_costs.Reads as read-costs-reads
 use Rattle.spardimple.proofs.bytes.read_records.Reads as read-records-reads
 use Rattle.spardimple.proofs.numbers.number_of.Reads as number-of-reads

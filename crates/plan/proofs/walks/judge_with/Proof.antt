@@ -7,7 +7,7 @@ use Rattle.plan.proofs.walks.judge_with.Statement.{statement}
 use Rattle.plan.proofs.walks.judge_with.Tie as tie
 use Rattle.plan.proofs.walks.judge_with.Reads as reads
 use Rattle.plan.proofs.walks.judge_with.Lts as lts
-use Rattle.demand.proofs.judge_records.Reads as judge-records-reads
+use Rattle.verdicts.proofs.judge_records.Reads as judge-records-reads
 use Rattle.demand.proofs.put_record.Reads as put-record-reads
 
 put-record-requires : tie.Need-put-record-requires

@@ -1,0 +1,28 @@
+-- `caps::cap_of` meets its contract: the second walk caps what the first left.
+use Prim.Native.Nat.{_+_, _*_}
+use native.Mathlib.Omega.{arith}
+use Rattle.verdicts.specs.ways.Lanes.{rows}
+use Rattle.verdicts.proofs.CapLaws.{caps-both}
+use borrow.Author.Needs.{needs}
+use Rattle.verdicts.proofs.caps.cap_of.Statement.{statement}
+use Rattle.verdicts.proofs.caps.cap_of.Tie as tie
+use Rattle.verdicts.proofs.caps.cap_of.Reads as reads
+use Rattle.verdicts.proofs.caps.cap_of.Lts as lts
+use Rattle.verdicts.proofs.caps.squeeze.Reads as squeeze-reads
+
+squeeze-requires : tie.Need-squeeze-requires
+squeeze-requires c κs = search needs
+
+mul-squeeze : tie.Need-mul-squeeze
+mul-squeeze c = search needs
+
+squeeze-requires-2 : tie.Need-squeeze-requires-2
+squeeze-requires-2 c κs = search needs
+
+returns : tie.Need-returns
+returns c =
+    let s = c .before .before .before .args in
+    caps-both (s .b) (rows (s .core .now) (s .n)) (s .q) (s .f) (s .a) 100000000 100000001 (c .before .before .squeeze .result) (c .squeeze2 .result) (omega arith) (c .before .before .squeeze .ensures) (s .a + 4 * s .q .period) (c .squeeze2 .ensures)
+
+pub cap-of-spec : {M : Type 1} → statement M
+cap-of-spec = tie.close (tie.spec squeeze-requires mul-squeeze squeeze-requires-2 returns)

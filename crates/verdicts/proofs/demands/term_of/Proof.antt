@@ -1,0 +1,38 @@
+-- `demands::term_of` meets its contract: each arm calls the figure that the definition names.
+use native.Mathlib.Omega.{arith}
+use borrow.Author.Needs.{needs}
+use Rattle.verdicts.proofs.demands.term_of.Statement.{statement}
+use Rattle.verdicts.proofs.demands.term_of.Tie as tie
+use Rattle.verdicts.proofs.demands.term_of.Reads as reads
+use Rattle.verdicts.proofs.demands.term_of.Lts as lts
+use Rattle.verdicts.proofs.demands.interrupts_of.Reads as interrupts-of-reads
+use Rattle.verdicts.proofs.demands.load_of.Reads as load-of-reads
+
+enum-told : tie.Need-enum-told
+enum-told c = search needs
+
+load-of-requires : tie.Need-load-of-requires
+load-of-requires c κs = search needs
+
+enum-told-2 : tie.Need-enum-told-2
+enum-told-2 c = search needs
+
+interrupts-of-requires : tie.Need-interrupts-of-requires
+interrupts-of-requires c κs = search needs
+
+returns : tie.Need-returns
+returns c = (rw (c .before .enum-told .given .1) (c .load-of .ensures .0), search needs)
+
+returns-2 : tie.Need-returns-2
+returns-2 c = (rw (c .before .enum-told2 .given .1) (c .interrupts-of .ensures .0), search needs)
+
+pub term-of-spec : {M : Type 1} → statement M
+term-of-spec =
+    tie.close
+    (tie.spec
+    enum-told
+    load-of-requires
+    enum-told-2
+    interrupts-of-requires
+    returns
+    returns-2)
