@@ -304,37 +304,41 @@ impl<T: Tally> Lean<T> {
         }
     }
 
-    /// The greatest charge of q up to f that fits at t, and the end below which the walk goes on.
-    fn level(&mut self, core: &[Lane], b: u64, w: u64, q: &Lane, f: u64, t: u64) -> (u64, u64) {
+    /// The greatest charge of q up to f that fits at t, what is asked for there beside it, and the
+    /// jobs that are charged.
+    fn level(&mut self, core: &[Lane], b: u64, w: u64, q: &Lane, f: u64, t: u64) -> [u64; 3] {
         let g = self.demand(core, b, w, t);
         let calls = self.calls(std::slice::from_ref(q), t);
         self.tally.note(Event::Divided(1));
         if t < g + calls {
-            return (0, 0);
+            return [0, 0, 0];
         }
         let jobs = jobs_due(q, t);
         let room = t - g - calls;
         let y = if jobs * f <= room { f } else { room / jobs };
-        (y, next_end(g + calls + jobs * y, w, t))
+        [y, g + calls, jobs]
     }
 
-    /// Down from the last of the l lengths from a, with f lowered wherever it does not fit.
+    /// The greatest charge of q up to f that fits at each of the l lengths from a, or 0: down from
+    /// the last of them, with f lowered wherever it does not fit.
     fn squeeze(&mut self, core: &[Lane], b: u64, q: &Lane, f: u64, a: u64, l: u64) -> u64 {
         let w = largest_window(core);
         let (mut charge, mut end) = (f, a + l);
         while a < end {
             let t = end - 1;
-            let mut level = self.level(core, b, w, q, charge, t);
-            if level.0 < charge {
+            let [most, rest, jobs] = self.level(core, b, w, q, charge, t);
+            if most == 0 {
+                return 0;
+            }
+            if most < charge {
                 self.tally.note(Event::Stretch(core.len() + 1));
                 self.tally
                     .note(Event::Divided(due(core, t) + calls(core) + 1));
                 let starts = core.iter().map(|q| lane_start(q, t)).max().unwrap_or(0);
                 let start = starts.max(lane_start(q, t));
-                level = self.level(core, b, w, q, level.0, a.max(start).min(t));
+                charge = self.level(core, b, w, q, most, a.max(start).min(t))[0];
             }
-            charge = level.0;
-            end = level.1;
+            end = next_end(rest + jobs * charge, w, t);
         }
         charge
     }

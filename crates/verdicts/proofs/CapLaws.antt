@@ -1,16 +1,19 @@
 -- Laws of the walk for a cap: what a piece q may be charged beside the core qs with the stall b.
 -- Assumes nothing.
 --
+--   squeezed-one, most-fitting-squeezed the greatest charge that fits in a span: there is one, and the definition gives it
+--   most-fitting-is, squeezed-is        from one to the other
 --   fitting-all, fitting-some           the greatest charge of which so many fit
---   level-over, level-calls, level-fits what one length leaves
---   lowers-same, lowers-again           the same, with a second length
---   passed-start, -step, -done          the walk down, one length more
+--   level-over, level-calls, level-fits what one length tells
+--   lowers-none, look-less, lowers-to   what a step leaves: nothing, or what one or two lengths allow
+--   passed-start, -step, -done          the walk down, one step more
 --   caps-both                           two walks one after the other
 --   bounds-as, caps-as                  both from the code's own figures
 --   beside-snoc, demand-same            the demand with q behind, and beside
 --   unsettled-from, passes-settles      what no busy length and a pass tell of the charge
 --   stalled-fits                        what fits at one length where the stall counts
 --   bound-most, -squeezed, -unsettled, -own, -never, -stands      what the core with q behind tells
+use mathlib.Core.Bool.{Bool, true, false}
 use mathlib.Core.Path.{_≡_, refl, sym, ap, _∙_, subst}
 use mathlib.Core.List.{List, [], _∷_, _++_}
 use mathlib.Core.Logic.{_⊎_, ⊎-elim}
@@ -18,7 +21,8 @@ use Prim.Native.Nat.{ℕ, zero, suc, _+_, _*_, _-_, _/_, _≤_, _<_, zero-le, mi
 use native.Mathlib.Nat.{mul-le-mul-right, mul-le-mul-left, zero-mul, not-suc-le-zero, le-div-iff-mul-le, mul-div-le}
 use native.Mathlib.Decide.{decLt}
 use native.Mathlib.Omega.{arith}
-use borrow.Author.Tests.{lt-ltb, le-ltb}
+use borrow.Author.Tests.{lt-ltb, le-ltb, ltb-true, ltb-false}
+use lib.Dec.{ltb}
 use lib.ListN.{length, length-append}
 use Rattle.demand.specs.declared.Charged.{Charged}
 use Rattle.demand.specs.declared.Found.{Found}
@@ -28,16 +32,64 @@ use Rattle.demand.specs.declared.Verdict.the-variants.{Passes, Overloaded, Unde
 use Rattle.verdicts.specs.declared.caps.Level.{Level}
 use Rattle.verdicts.specs.declared.caps.Bound.{Bound}
 use Rattle.verdicts.specs.declared.caps.Bound.the-variants.{Stands, Falls, AtMost}
-use Rattle.demand.specs.Sizes.{timeMost, busyMost, Each}
+use Rattle.demand.specs.Sizes.{timeMost, busyMost, Each, Tells}
 use Rattle.demand.specs.ways.Ranges.{Ranged}
 use Rattle.demand.specs.Demand.{ceil, total, jobsDue, interrupts, largestWindow, blocking, load, demand, Live, leastLive}
 use Rattle.demand.specs.Busy.{Least, Finds, busyLoad, busySum, busyLength}
 use Rattle.demand.specs.Verdict.{Calm, Says, Means, scan, overSpan, verdict}
-use Rattle.verdicts.specs.ways.Caps.{beside, Holding, Fitting, Levels, Lowers, Caps, Squeezed, Stalled, Settles, Unsettled, Bounds}
+use Rattle.verdicts.specs.ways.Caps.{beside, Fitting, Levels, Lowers, Caps, Squeezed, Stalled, Settles, Unsettled, Bounds, FitsIn, allFit, mostFitting}
 use Rattle.demand.proofs.BusyLaws.{busy-length-finds}
 use Rattle.demand.proofs.Sums.{total-snoc}
 use Rattle.demand.proofs.DemandLaws.{Recurs, jobs-due-mono, interrupts-mono, demand-mono, largest-snoc, live-mono, least-live-least}
 use Rattle.demand.proofs.VerdictLaws.{scan-says, scan-is, verdict-means, verdict-span, passes-forever}
+use Rattle.verdicts.specs.declared.caps.Look.{Look}
+
+-- ---- the greatest charge that fits in a span
+
+module _ (b : ℕ) (qs : List Charged) (q : Charged) where
+  no-more : (f a e r s : ℕ) → Squeezed b qs q f a e r → Squeezed b qs q f a e s → r ≤ s
+  no-more f a e zero s one two = zero-le
+  no-more f a e (suc r) s one two = two .greatest (suc r) (one .most) (one .fits (omega arith))
+
+  pub squeezed-one : (f a e r s : ℕ) → Squeezed b qs q f a e r → Squeezed b qs q f a e s → r ≡ s
+  squeezed-one f a e r s one two = omega (arith, no-more f a e r s one two, no-more f a e s r two one)
+
+  all-fit-tells : (f a k : ℕ) → Tells (FitsIn b qs q f a (a + k)) (allFit b qs q f a k)
+  all-fit-tells f a zero = λ u low high. absurd (omega arith)
+  all-fit-tells f a (suc k) = look (ltb (a + k) (beside b qs q f (a + k))) refl (all-fit-tells f a k)
+    where
+      wider : beside b qs q f (a + k) ≤ a + k → (o : Bool) → Tells (FitsIn b qs q f a (a + k)) o → Tells (FitsIn b qs q f a (a + suc k)) o
+      wider fine true fits = λ u low high. elim (decLt u (a + k)) [
+        | yes below ↦ fits u low below
+        | no above ↦ (let e : u ≡ a + k = omega arith in rw e fine)
+      ]
+      wider fine false fails = λ fits. fails (λ u low high. fits u low (omega arith))
+
+      look : (o : Bool) → ltb (a + k) (beside b qs q f (a + k)) ≡ o → Tells (FitsIn b qs q f a (a + k)) (allFit b qs q f a k) → Tells (FitsIn b qs q f a (a + suc k)) (elim o [ true ↦ false | false ↦ allFit b qs q f a k ])
+      look true e below = λ fits. omega (arith, ltb-true (a + k) (beside b qs q f (a + k)) e, fits (a + k) (omega arith) (omega arith))
+      look false e below = wider (ltb-false (a + k) (beside b qs q f (a + k)) e) (allFit b qs q f a k) below
+
+  pub most-fitting-squeezed : (a l f : ℕ) → Squeezed b qs q f a (a + l) (mostFitting b qs q a l f)
+  unfolding mostFitting
+  most-fitting-squeezed a l zero = record { most = zero-le; fits = λ some. absurd (omega arith); greatest = λ y le fits. le }
+  most-fitting-squeezed a l (suc f) = look (allFit b qs q (suc f) a l) (all-fit-tells (suc f) a l) (most-fitting-squeezed a l f)
+    where
+      look : (o : Bool) → Tells (FitsIn b qs q (suc f) a (a + l)) o → Squeezed b qs q f a (a + l) (mostFitting b qs q a l f) → Squeezed b qs q (suc f) a (a + l) (elim o [ true ↦ suc f | false ↦ mostFitting b qs q a l f ])
+      look true fits below = record { most = omega arith; fits = λ some. fits; greatest = λ y le k. le }
+      look false fails below = record {
+        most = omega (arith, below .most);
+        fits = below .fits;
+        greatest = λ y le k. elim (decLt f y) [
+          | yes more ↦ (let e : y ≡ suc f = omega arith in absurd (fails (subst (λ (z : ℕ). FitsIn b qs q z a (a + l)) e k)))
+          | no less ↦ below .greatest y (omega arith) k
+        ];
+      }
+
+  pub squeezed-is : (a l f r : ℕ) → r ≡ mostFitting b qs q a l f → Squeezed b qs q f a (a + l) r
+  squeezed-is a l f r is = rw is (most-fitting-squeezed a l f)
+
+  pub most-fitting-is : (a l f r : ℕ) → Squeezed b qs q f a (a + l) r → r ≡ mostFitting b qs q a l f
+  most-fitting-is a l f r squeezed = squeezed-one f a (a + l) r (mostFitting b qs q a l f) squeezed (most-fitting-squeezed a l f)
 
 -- ---- one length
 
@@ -72,73 +124,86 @@ module _ (b : ℕ) (qs : List Charged) (q : Charged) where
   beside-at f u = refl
 
   module _ (f t : ℕ) where
-    none-fits : ((y : ℕ) → t < beside b qs q y t) → Levels b qs q f t (record { charge = 0; end = 0 })
+    none-fits : ((y : ℕ) → t < beside b qs q y t) → Levels b qs q f t (record { charge = 0; rest = 0; jobs = 0 })
     none-fits over = record {
       most = zero-le;
       caps = λ y le fits. absurd (omega (arith, over y));
-      down = zero-le;
-      calm = λ some same. absurd (omega (arith, some, same));
+      fits = zero-le;
+      asks = λ some. absurd (omega arith);
     }
 
-    pub level-over : (g : ℕ) → g ≡ demand b qs t → t < g → Levels b qs q f t (record { charge = 0; end = 0 })
+    pub level-over : (g : ℕ) → g ≡ demand b qs t → t < g → Levels b qs q f t (record { charge = 0; rest = 0; jobs = 0 })
     level-over g asked over = none-fits (λ y. omega (arith, beside-at y t))
 
-    pub level-calls : (g i : ℕ) → g ≡ demand b qs t → i ≡ interrupts q t → g ≤ t → t - g < i → Levels b qs q f t (record { charge = 0; end = 0 })
+    pub level-calls : (g i : ℕ) → g ≡ demand b qs t → i ≡ interrupts q t → g ≤ t → t - g < i → Levels b qs q f t (record { charge = 0; rest = 0; jobs = 0 })
     level-calls g i asked calls fine over = none-fits (λ y. omega (arith, beside-at y t))
 
-    module _ (g i n w : ℕ) (asked : g ≡ demand b qs t) (calls : i ≡ interrupts q t) (jobs : n ≡ jobsDue q t) (widest : w ≡ largestWindow qs) where
+    module _ (g i n : ℕ) (asked : g ≡ demand b qs t) (calls : i ≡ interrupts q t) (jobs : n ≡ jobsDue q t) where
       level-at : (y : ℕ) → beside b qs q y t ≡ g + i + n * y
       level-at y = rw (beside-at y t, asked, calls, jobs) refl
 
-      pub level-fits : g ≤ t → i ≤ t - g → (y end : ℕ) → Fitting f n (t - g - i) y → (g + i + n * y ≤ end) × (end ≤ t) × (w ≤ t → w ≤ end) → Levels b qs q f t (record { charge = y; end = end })
-      level-fits fine left y end fit next = record {
+      pub level-fits : g ≤ t → i ≤ t - g → (y : ℕ) → Fitting f n (t - g - i) y → Levels b qs q f t (record { charge = y; rest = g + i; jobs = n })
+      level-fits fine left y fit = record {
         most = fit .most;
         caps = λ z le fits. fit .greatest z le (omega (arith, level-at z));
-        down = next .1;
-        calm = λ some same. (subst (λ (z : ℕ). beside b qs q z t ≤ end) same (omega (arith, level-at y, next .0)), rw widest at (next .2));
+        fits = omega (arith, fit .fits);
+        asks = λ some. level-at;
       }
 
-  -- ---- a second length
+  -- ---- one step
 
-  pub lowers-same : (f a t : ℕ) (v : Level) → a ≤ t → Levels b qs q f t v → Lowers b qs q f a t v
-  lowers-same f a t v from level = record {
-    most = level .most;
-    caps = λ y le holds. level .caps y le (holds t from);
-    down = level .down;
-    calm = level .calm;
+  pub lowers-none : (f a t : ℕ) (v : Look) → a ≤ t → v .charge ≡ 0 → Levels b qs q f t v → Lowers b qs q f a t (record { charge = 0; end = 0 })
+  lowers-none f a t v from none level = record {
+    most = zero-le;
+    caps = λ y le fits. omega (arith, level .caps y le (fits t from (omega arith)));
+    down = zero-le;
+    calm = λ some. absurd (omega arith);
   }
 
-  pub lowers-again : (f a t s : ℕ) (v w : Level) → v .charge < f → a ≤ t → a ≤ s → s ≤ t → Levels b qs q f t v → Levels b qs q (v .charge) s w → Lowers b qs q f a t w
-  lowers-again f a t s v w lower from low high one two = record {
-    most = omega (arith, two .most);
-    caps = λ y le holds. two .caps y (one .caps y le (holds t from)) (holds s low);
-    down = omega (arith, two .down);
-    calm = λ some same. absurd (omega (arith, two .most, same));
-  }
+  -- what is asked for at t with less
+  pub look-less : (f t y : ℕ) (v : Look) → Levels b qs q f t v → y ≤ v .charge → v .rest + v .jobs * y ≤ t
+  look-less f t y v level less = omega (arith, level .fits, mul-le-mul-left (v .jobs) less)
+
+  module _ (f a t w y end : ℕ) (v : Look) (widest : w ≡ largestWindow qs) (next : (v .rest + v .jobs * y ≤ end) × (end ≤ t) × (w ≤ t → w ≤ end)) where
+    -- y is no less than what fits from a to t
+    pub lowers-to : a ≤ t → Levels b qs q f t v → y ≤ v .charge → ((z : ℕ) → z ≤ v .charge → FitsIn b qs q z a (t + 1) → z ≤ y) → Lowers b qs q f a t (record { charge = y; end = end })
+    lowers-to from level less left = record {
+      most = omega (arith, level .most);
+      caps = λ z le fits. left z (level .caps z le (fits t from (omega arith))) fits;
+      down = next .1;
+      calm = λ some. (omega (arith, level .asks (omega arith) y, next .0), rw widest at (next .2));
+    }
 
   -- ---- the walk down
 
   -- the walk from e has come to `end`, and has left r of f
   pub record Passed (f a end e r : ℕ) : Type 0 where
     pub most : r ≤ f
-    pub caps : (y : ℕ) → y ≤ f → Holding b qs q y a → y ≤ r
-    pub calm : 1 ≤ f → r ≡ f → (u : ℕ) → end ≤ u → u < e → beside b qs q f u ≤ u
+    pub caps : (y : ℕ) → y ≤ f → FitsIn b qs q y a e → y ≤ r
+    pub calm : 1 ≤ r → FitsIn b qs q r end e
 
   pub passed-start : (f a e : ℕ) → Passed f a e e f
-  passed-start f a e = record { most = omega arith; caps = λ y le holds. le; calm = λ some same u low high. absurd (omega arith) }
+  passed-start f a e = record { most = omega arith; caps = λ y le fits. le; calm = λ some u low high. absurd (omega arith) }
 
-  pub passed-done : (f a end e r : ℕ) → end ≤ a → Passed f a end e r → Squeezed b qs q f a e r
-  passed-done f a end e r over passed = record {
+  pub passed-done : (f a l end r : ℕ) → end ≤ a → Passed f a end (a + l) r → r ≡ mostFitting b qs q a l f
+  passed-done f a l end r over passed = most-fitting-is b qs q a l f r (record {
     most = passed .most;
-    caps = passed .caps;
-    calm = λ some same u low high. passed .calm some same u (omega arith) high;
-  }
+    fits = λ some u low high. passed .calm some u (omega arith) high;
+    greatest = passed .caps;
+  })
 
-  pub caps-both : (f a far e d r : ℕ) → a ≤ far → Squeezed b qs q f far e d → (l : ℕ) → Squeezed b qs q d a l r → Caps b qs q f a r
-  caps-both f a far e d r h one l two = record {
-    most = omega (arith, one .most, two .most);
-    caps = λ y le holds. two .caps y (one .caps y le (λ u low. holds u (omega arith))) holds;
-  }
+  pub caps-both : (f a far k l d r : ℕ) → a ≤ far → d ≡ mostFitting b qs q far k f → r ≡ mostFitting b qs q a l d → Caps b qs q f a r
+  caps-both f a far k l d r h first second =
+      let one = squeezed-is b qs q far k f d first in
+      let two = squeezed-is b qs q a l d r second in
+      record {
+        most = omega (arith, one .most, two .most);
+        caps = λ y le holds. two .greatest y (one .greatest y le (λ u low high. holds u (omega arith))) (λ u low high. holds u low);
+      }
+
+  beside-less : (u : ℕ) {y z : ℕ} → y ≤ z → beside b qs q y u ≤ beside b qs q z u
+  unfolding beside
+  beside-less u h = omega (arith, mul-le-mul-left (jobsDue q u) h)
 
   module _ (recurs : Each Recurs qs) (own : Recurs q) where
     beside-mono : (f : ℕ) {t u : ℕ} → t ≤ u → (largestWindow qs ≤ u → largestWindow qs ≤ t) → beside b qs q f t ≤ beside b qs q f u
@@ -146,21 +211,17 @@ module _ (b : ℕ) (qs : List Charged) (q : Charged) where
     beside-mono f {t} {u} h side =
         omega (arith, demand-mono qs recurs b h side, interrupts-mono own h, mul-le-mul-right f (jobs-due-mono own h))
 
-    pub passed-step : (f a end e r : ℕ) (v : Level) → 1 ≤ end → Passed f a end e r → Lowers b qs q r a (end - 1) v → Passed f a (v .end) e (v .charge)
-    passed-step f a end e r v some passed low = record {
+    pub passed-step : (f a end e r : ℕ) (v : Level) → 1 ≤ end → end ≤ e → Passed f a end e r → Lowers b qs q r a (end - 1) v → Passed f a (v .end) e (v .charge)
+    passed-step f a end e r v some within passed low = record {
       most = omega (arith, low .most, passed .most);
-      caps = λ y le holds. low .caps y (passed .caps y le holds) holds;
-      calm = λ one same. down one (omega (arith, low .most, passed .most)) same;
+      caps = λ y le fits. low .caps y (passed .caps y le fits) (λ u from below. fits u from (omega arith));
+      calm = λ one u from below. elim (decLt (end - 1) u) [
+        | yes above ↦ omega (arith, passed .calm (omega (arith, low .most)) u (omega arith) below, beside-less u (low .most))
+        | no under ↦
+            let calm = low .calm one in
+            omega (arith, calm .0, beside-mono (v .charge) {t = u} {u = end - 1} (omega arith) (λ w. omega (arith, calm .1 w)))
+      ];
     }
-      where
-        down : 1 ≤ f → r ≡ f → v .charge ≡ f → (u : ℕ) → v .end ≤ u → u < e → beside b qs q f u ≤ u
-        down one is same u from below = elim (decLt (end - 1) u) [
-          | yes above ↦ passed .calm one is u (omega arith) below
-          | no under ↦
-              let calm = low .calm (omega arith) (omega arith) in
-              let fits : beside b qs q f (end - 1) ≤ v .end = subst (λ (g : ℕ). beside b qs q g (end - 1) ≤ v .end) is (calm .0) in
-              omega (arith, fits, beside-mono f {t = u} {u = end - 1} (omega arith) (λ w. omega (arith, calm .1 w)))
-        ]
 
 -- ---- as the code has them
 
@@ -279,8 +340,9 @@ module _ (b : ℕ) (qs rs : List Charged) (q : Charged) (laid : rs ≡ qs ++ (q 
   pub bound-most : (a r : ℕ) → a ≡ leastLive rs → r < q .charge → Caps b qs q (q .charge) a r → Bounds b qs q (AtMost r)
   bound-most a r start less caps = (less, λ y le holds settles. caps .caps y le (rw (start, laid) holds))
 
-  pub bound-squeezed : (a e r : ℕ) → a ≡ leastLive rs → r < q .charge → Squeezed b qs q (q .charge) a e r → Bounds b qs q (AtMost r)
-  bound-squeezed a e r start less caps = (less, λ y le holds settles. caps .caps y le (rw (start, laid) holds))
+  pub bound-squeezed : (a l r : ℕ) → a ≡ leastLive rs → r < q .charge → r ≡ mostFitting b qs q a l (q .charge) → Bounds b qs q (AtMost r)
+  bound-squeezed a l r start less is =
+      (less, λ y le holds settles. squeezed-is b qs q a l (q .charge) r is .greatest y le (λ u low high. holds u (rw (start, laid) at low)))
 
   pub bound-unsettled : (r : ℕ) → r < q .charge → Unsettled qs q (r + 1) → Bounds b qs q (AtMost r)
   bound-unsettled r less none = (
@@ -317,10 +379,13 @@ module _ (b : ℕ) (qs rs : List Charged) (q : Charged) (laid : rs ≡ qs ++ (q 
   pub bound-never : (a k t : ℕ) → scan b rs a k ≡ Undecided → Bounds b qs q (Falls t)
   bound-never a k t never = absurd (subst (λ (w : Verdict). Says b rs a k w) never (scan-says b rs a k))
 
-  pub bound-stands : (a l own r : ℕ) → a ≡ leastLive rs → busyLength rs ≡ At l → own ≡ max a (largestWindow qs) → 1 ≤ q .charge → q .charge ≤ r → Squeezed b qs q (q .charge) a (a + l) r → scan b rs own (q .window - own) ≡ Passes → Bounds b qs q Stands
-  bound-stands a l own r start busy is some kept near mine =
+  pub bound-stands : (a l own r : ℕ) → a ≡ leastLive rs → busyLength rs ≡ At l → own ≡ max a (largestWindow qs) → 1 ≤ q .charge → q .charge ≤ r → r ≡ mostFitting b qs q a l (q .charge) → scan b rs own (q .window - own) ≡ Passes → Bounds b qs q Stands
+  bound-stands a l own r start busy is some kept left mine =
+      let near = squeezed-is b qs q a l (q .charge) r left in
+      let whole-charge : r ≡ q .charge = omega (arith, near .most) in
+      let fits : FitsIn b qs q (q .charge) a (a + l) = subst (λ (y : ℕ). FitsIn b qs q y a (a + l)) whole-charge (near .fits (omega arith)) in
       let over : Calm b rs own (own + (q .window - own)) = subst (λ (w : Verdict). Says b rs own (q .window - own) w) mine (scan-says b rs own (q .window - own)) in
       let beyond : Calm b (qs ++ (q ∷ [])) (max a (largestWindow qs)) (q .window) = λ u low high. rw laid at (over u (omega arith) (omega arith)) in
-      let calm : Calm b (qs ++ (q ∷ [])) a (a + l) = calm-whole b qs q a (a + l) (near .calm some (omega (arith, near .most))) beyond in
+      let calm : Calm b (qs ++ (q ∷ [])) a (a + l) = calm-whole b qs q a (a + l) fits beyond in
       let whole : Calm b rs a (a + l) = rw laid calm in
       rw laid at (spanned (At l) busy ∙ sym (rw start at (scan-is b rs a l Passes whole)))

@@ -25,7 +25,7 @@ ghost use mathlib.Core.Path.{_≡_};
 ghost use Prim.Native.Nat.{_+_, _<_, _≤_};
 ghost use Rattle.demand.specs.Busy.{busyLength};
 ghost use lib.ListN.{length};
-ghost use Rattle.verdicts.specs.ways.Caps.{Fitting, Levels, Lowers, Squeezed, Caps, Stalled, Unsettled, Bounds};
+ghost use Rattle.verdicts.specs.ways.Caps.{Fitting, Levels, Lowers, Caps, Stalled, Unsettled, Bounds, mostFitting};
 ghost use Rattle.demand.specs.declared.Found.the-variants.{At};
 ghost use Rattle.demand.specs.Demand.{largestWindow, leastLive};
 ghost use Rattle.verdicts.specs.ways.Lanes.{rows, lane};
@@ -34,7 +34,14 @@ ghost use Rattle.verdicts.specs.ways.Search.{Kept};
 ghost use Rattle.demand.specs.ways.Ranges.{Ranged};
 ghost use Rattle.demand.specs.Sizes.{Each, lengthMost, timeMost, busyMost};
 
-// What a length left: the charge, and the end below which the walk goes on.
+// What a length told: the greatest charge that fits there, what is asked for beside it, and how many jobs are charged.
+pub struct Look {
+    pub charge: u64,
+    pub rest: u64,
+    pub jobs: u64,
+}
+
+// What a step left: the charge, and the end below which the walk goes on.
 pub struct Level {
     pub charge: u64,
     pub end: u64,
@@ -111,8 +118,8 @@ pub fn stretch_start(core: &[u64; 553], n: usize, q: Charged, t: u64) -> u64
     start
 }
 
-// The greatest charge up to f that fits at t; w is the largest window of the n pieces.
-pub fn level_at(core: &[u64; 553], n: usize, b: u64, w: u64, q: Charged, f: u64, t: u64) -> Level
+// The greatest charge up to f that fits at t; w is the largest window of the n pieces. Where none fits, all is 0.
+pub fn level_at(core: &[u64; 553], n: usize, b: u64, w: u64, q: Charged, f: u64, t: u64) -> Look
     requires { ⌜ (n ≤ 79) × Each Ranged (rows (now core) n) ⌝ }
     requires { ⌜ Ranged q ⌝ }
     requires { ⌜ (b ≤ 200000) × (w ≡ largestWindow (rows (now core) n)) × (f ≤ 2000000) × (t ≤ lengthMost) ⌝ }
@@ -120,22 +127,31 @@ pub fn level_at(core: &[u64; 553], n: usize, b: u64, w: u64, q: Charged, f: u64,
 {
     let g = demand_at(core, n, b, w, t);
     if t < g {
-        return Level { charge: 0, end: 0 };
+        return Look {
+            charge: 0,
+            rest: 0,
+            jobs: 0,
+        };
     }
     let calls = interrupts_of(q, t);
     if t - g < calls {
-        return Level { charge: 0, end: 0 };
+        return Look {
+            charge: 0,
+            rest: 0,
+            jobs: 0,
+        };
     }
     let jobs = jobs_due(q, t);
     let y = fitting(f, jobs, t - g - calls);
-    let end = next_end(g + calls + jobs * y, w, t);
-    Level {
+    Look {
         charge: y,
-        end: end,
+        rest: g + calls,
+        jobs: jobs,
     }
 }
 
-// The same, and where it is lowered, lowered again where the demand at t begins: it fits least there.
+// One step down: what fits at t, and where that is less than f, what of it fits where the demand at t begins, since it fits least there. The walk goes on below
+// what is asked for at t with that.
 pub fn lower(
     core: &[u64; 553],
     n: usize,
@@ -153,19 +169,32 @@ pub fn lower(
     ensures { λ r. ⌜ Lowers b (rows (now (core .entry)) n) q f a t r ⌝ }
 {
     let v = level_at(core, n, b, w, q, f, t);
+    if v.charge == 0 {
+        return Level { charge: 0, end: 0 };
+    }
     if f <= v.charge {
-        return v;
+        let end = next_end(v.rest + v.jobs * f, w, t);
+        return Level {
+            charge: f,
+            end: end,
+        };
     }
     let s = lesser(t, greater(a, stretch_start(core, n, q, t)));
-    level_at(core, n, b, w, q, v.charge, s)
+    let y = level_at(core, n, b, w, q, v.charge, s).charge;
+    let end = next_end(v.rest + v.jobs * y, w, t);
+    Level {
+        charge: y,
+        end: end,
+    }
 }
 
-// Down from the last of the l lengths from a, with f lowered wherever it does not fit.
+// The greatest charge up to f with which q fits beside the n pieces at each of the l lengths from a, or 0: down from the last of them, with f lowered wherever it
+// does not fit.
 pub fn squeeze(core: &[u64; 553], n: usize, b: u64, q: Charged, f: u64, a: u64, l: u64) -> u64
     requires { ⌜ (n ≤ 79) × Each Ranged (rows (now core) n) ⌝ }
     requires { ⌜ Ranged q ⌝ }
     requires { ⌜ (b ≤ 200000) × (f ≤ 2000000) × (a + l ≤ lengthMost) ⌝ }
-    ensures { λ r. ⌜ Squeezed b (rows (now (core .entry)) n) q f a (a + l) r ⌝ }
+    ensures { λ r. ⌜ r ≡ mostFitting b (rows (now (core .entry)) n) q a l f ⌝ }
 {
     let w = largest_window(core, n);
     let mut r = f;

@@ -8,7 +8,7 @@ use Rattle.demand.specs.declared.Found.{Found}
 use Rattle.demand.specs.declared.Figure.the-variants.{Of}
 use Rattle.demand.specs.Sizes.{runMost}
 use Rattle.demand.specs.Records.{recordsOf}
-use Rattle.demand.specs.Charge.{coreOf, stall}
+use Rattle.demand.specs.Charge.{coreOf}
 use Rattle.demand.proofs.RunLaws.{laid-ranged, figure-fine, figure-bad, check-taken, taken-countable}
 use Rattle.verdicts.specs.ways.Lanes.{rows}
 use Rattle.demand.specs.Answer.{checkRun, busyFigure}

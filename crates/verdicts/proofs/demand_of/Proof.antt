@@ -6,7 +6,7 @@ use lib.ListN.{take, length-replicate}
 use Rattle.demand.specs.declared.Charged.{Charged}
 use Rattle.demand.specs.declared.Found.{Found}
 use Rattle.demand.specs.declared.Figure.the-variants.{Of}
-use Rattle.demand.specs.Sizes.{runMost}
+use Rattle.demand.specs.Sizes.{runMost, lengthMost}
 use Rattle.demand.specs.Records.{recordsOf}
 use Rattle.demand.specs.Charge.{coreOf, stall}
 use Rattle.demand.proofs.RunLaws.{laid-ranged, figure-fine, figure-bad, check-taken, taken-countable}
@@ -15,7 +15,6 @@ use mathlib.Core.Bool.{cond}
 use lib.Dec.{leb}
 use borrow.Author.Tests.{le-leb, lt-leb}
 use Rattle.demand.specs.declared.Found.the-variants.{At, Nothing}
-use Rattle.demand.specs.Sizes.{lengthMost}
 use Rattle.demand.specs.Answer.{checkRun, demandFigure}
 use Rattle.demand.specs.Demand.{demand}
 use borrow.Author.Needs.{needs}

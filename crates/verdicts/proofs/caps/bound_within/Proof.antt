@@ -43,7 +43,7 @@ returns c =
     let s = c .before .before .before .before .args in
     let qs = rows (s .core .now) (s .n) in
     subst (λ (q : Charged). Bounds (s .b) qs q (AtMost (c .before .before .squeeze .result))) (c .before .before .before .lane-at .ensures)
-    (bound-squeezed (s .b) qs (rows (s .core .now) (s .n + 1)) (c .before .before .before .lane-at .result) (rows-lane (s .core .now) (s .n) (c .before .before .before .lane-at .result) (c .before .before .before .lane-at .ensures)) (s .a) (s .a + s .l) (c .before .before .squeeze .result) (c .before .before .before .before .pre .1 .1 .0) (c .if1 .taken) (c .before .before .squeeze .ensures))
+    (bound-squeezed (s .b) qs (rows (s .core .now) (s .n + 1)) (c .before .before .before .lane-at .result) (rows-lane (s .core .now) (s .n) (c .before .before .before .lane-at .result) (c .before .before .before .lane-at .ensures)) (s .a) (s .l) (c .before .before .squeeze .result) (c .before .before .before .before .pre .1 .1 .0) (c .if1 .taken) (c .before .before .squeeze .ensures))
 
 largest-window-requires : tie.Need-largest-window-requires
 largest-window-requires c κs = search needs

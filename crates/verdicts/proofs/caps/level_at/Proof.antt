@@ -38,22 +38,13 @@ sub-fitting c = search needs
 fitting-requires : tie.Need-fitting-requires
 fitting-requires c κs = (c .before .before .before .before .before .pre .1 .1 .2, c .jobs-due .ensures .1)
 
-add-next-end : tie.Need-add-next-end
-add-next-end c = search needs
-
-mul-next-end : tie.Need-mul-next-end
-mul-next-end c = omega (arith, c .fitting .ensures .fits)
-
-add-next-end-2 : tie.Need-add-next-end-2
-add-next-end-2 c = omega (arith, c .fitting .ensures .fits)
-
-next-end-requires : tie.Need-next-end-requires
-next-end-requires c κs = omega (arith, c .fitting .ensures .fits)
+add-t13 : tie.Need-add-t13
+add-t13 c = search needs
 
 returns-3 : tie.Need-returns-3
 returns-3 c =
-    let s = c .before .before .before .before .before .before .before .args in
-    level-fits (s .b) (rows (s .core .now) (s .n)) (s .q) (s .f) (s .t) (c .before .before .before .before .before .before .demand-at .result) (c .before .before .before .before .interrupts-of .result) (c .before .before .jobs-due .result) (s .w) (c .before .before .before .before .before .before .demand-at .ensures) (c .before .before .before .before .interrupts-of .ensures .0) (c .before .before .jobs-due .ensures .0) (c .before .before .before .before .before .before .before .pre .1 .1 .1) (omega arith) (omega arith) (c .before .fitting .result) (c .next-end .result) (c .before .fitting .ensures) (c .next-end .ensures)
+    let s = c .before .before .before .before .before .before .args in
+    level-fits (s .b) (rows (s .core .now) (s .n)) (s .q) (s .f) (s .t) (c .before .before .before .before .before .demand-at .result) (c .before .before .before .interrupts-of .result) (c .before .jobs-due .result) (c .before .before .before .before .before .demand-at .ensures) (c .before .before .before .interrupts-of .ensures .0) (c .before .jobs-due .ensures .0) (omega arith) (omega arith) (c .fitting .result) (c .fitting .ensures)
 
 pub level-at-spec : {M : Type 1} → statement M
 level-at-spec =
@@ -66,8 +57,5 @@ level-at-spec =
     jobs-due-requires
     sub-fitting
     fitting-requires
-    add-next-end
-    mul-next-end
-    add-next-end-2
-    next-end-requires
+    add-t13
     returns-3)

@@ -1,4 +1,4 @@
--- `caps::squeeze` meets its contract: from `end` up f fits, as long as it is not lowered, and what is left of it is no less than any that fits. `end` falls.
+-- `caps::squeeze` meets its contract: what is left of f fits from `end` up, and is no less than any that fits in the whole span. `end` falls.
 use borrow.Author.Needs.{needs}
 use Prim.Native.Nat.{_≤_, _+_, _-_}
 use native.Mathlib.Omega.{arith}
@@ -42,12 +42,12 @@ loop-again : tie.Need-loop-again Inv-loop μ-loop
 loop-again c =
     let s = c .before .before .before .before .args in
     let qs = rows (s .core .now) (s .n) in
-    (omega (arith, c .lower .ensures .down, c .before .before .loop .inv .0), passed-step (s .b) qs (s .q) (all-recurs qs (c .before .before .before .before .pre .0 .1)) (ranged-recurs (s .q) (c .before .before .before .before .pre .1 .0)) (s .f) (s .a) (c .before .before .loop .end) (s .a + s .l) (c .before .before .loop .r) (c .lower .result) (omega arith) (c .before .before .loop .inv .1) (c .lower .ensures))
+    (omega (arith, c .lower .ensures .down, c .before .before .loop .inv .0), passed-step (s .b) qs (s .q) (all-recurs qs (c .before .before .before .before .pre .0 .1)) (ranged-recurs (s .q) (c .before .before .before .before .pre .1 .0)) (s .f) (s .a) (c .before .before .loop .end) (s .a + s .l) (c .before .before .loop .r) (c .lower .result) (omega arith) (c .before .before .loop .inv .0) (c .before .before .loop .inv .1) (c .lower .ensures))
 
 returns : tie.Need-returns Inv-loop μ-loop
 returns c =
     let s = c .before .before .before .args in
-    passed-done (s .b) (rows (s .core .now) (s .n)) (s .q) (s .f) (s .a) (c .before .loop .end) (s .a + s .l) (c .before .loop .r) (omega arith) (c .before .loop .inv .1)
+    passed-done (s .b) (rows (s .core .now) (s .n)) (s .q) (s .f) (s .a) (s .l) (c .before .loop .end) (c .before .loop .r) (omega arith) (c .before .loop .inv .1)
 
 pub squeeze-spec : {M : Type 1} → statement M
 squeeze-spec =

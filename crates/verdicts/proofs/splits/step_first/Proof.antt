@@ -1,10 +1,9 @@
 -- `splits::step_first` meets its contract: what the core with the first piece behind tells of its charge, it tells of its budget.
 use mathlib.Core.Path.{_≡_, sym, ap, subst, _∙_}
 use mathlib.Core.List.{List}
-use Prim.Native.Nat.{_≤_}
+use Prim.Native.Nat.{_≤_, ℕ, _-_, _<_, max}
 use native.Mathlib.Omega.{arith}
 use mathlib.Core.Bool.{Bool}
-use Prim.Native.Nat.{ℕ, _-_, _<_, max}
 use Rattle.verdicts.specs.ways.Probes.{Shows}
 use Rattle.demand.specs.ways.ChargedSplit.{Tight, withFirst, TightIn}
 use Rattle.verdicts.proofs.LaneLaws.{rows-length}
