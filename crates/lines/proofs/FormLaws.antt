@@ -18,7 +18,8 @@ use Rattle.task.specs.Names.{formed}
 use Rattle.lines.specs.declared.Word.{Word}
 use Rattle.lines.specs.declared.Numbers.{Numbers}
 use Rattle.lines.specs.Lines.{tab, upTo, beyond, fields, every, isNumber, padded, nameOf, isName}
-use Rattle.lines.specs.Forms.{noLine, machineLine, costLine, partLine, fitLine, machineOf, costsOf, timesOf, numbered, values, machineForm, costForm, partForm, fitForm, wordOf, formOf, lineOf}
+use Rattle.lines.specs.Forms.{noLine, machineLine, costLine, partLine, fitLine, machineOf, costsOf, timesOf, numbered}
+use Rattle.lines.specs.Forms.{values, machineForm, costForm, partForm, fitForm, wordOf, formOf, lineOf}
 use Rattle.lines.specs.Answers.{runMost, noNumbers, numbersOf}
 use Rattle.lines.proofs.LineLaws.{padded-at, rest, run-take, run-whole, run-last, run-more}
 use Rattle.lines.proofs.FieldLaws.{both-left, both-right}
@@ -34,7 +35,8 @@ module _ (fs : List (List ℕ)) (g : Numbers) (answer : g ≡ numbersOf fs) wher
       none = ne-eqb 0 n (λ e. omega arith)
 
       by-form : (t u : Bool) → leb (length fs) runMost ≡ t
-          → (eqb (length fs) n && u) ≡ eqb ((cond {A = Numbers} (t && u) (record { count = length fs; values = padded runMost 0 (values fs) }) noNumbers) .count) n
+          → (eqb (length fs) n && u)
+          ≡ eqb ((cond {A = Numbers} (t && u) (record { count = length fs; values = padded runMost 0 (values fs) }) noNumbers) .count) n
       by-form true true e = and-true (eqb (length fs) n)
       by-form true false e = and-false (eqb (length fs) n) ∙ sym none
       by-form false true e = rw (ne-eqb (length fs) n (λ same. omega (arith, leb-false (length fs) runMost e))) (sym none)
@@ -128,7 +130,14 @@ module _ (s : List ℕ) (e : ℕ) (run : e ≡ length (upTo tab s)) where
       unfolding partForm
       part-some form good =
           let z = numbers-count (fields (rest s (e + 1))) g answer 6 (lit< tt) (lit< tt) ∙ eq-eqb (g .count) 6 good in
-          rw (run-more tab s e run more, z, is-name true form, numbers-held (fields (rest s (e + 1))) g answer 6 (lit< tt) z, times-padded (values (fields (rest s (e + 1)))), name-is)
+          rw (
+            run-more tab s e run more,
+            z,
+            is-name true form,
+            numbers-held (fields (rest s (e + 1))) g answer 6 (lit< tt) z,
+            times-padded (values (fields (rest s (e + 1)))),
+            name-is,
+          )
 
     -- the second name of a fit, which ends at i
     module _ (i : ℕ) (last : i ≡ length (upTo tab (rest s (e + 1)))) where
@@ -143,13 +152,28 @@ module _ (s : List ℕ) (e : ℕ) (run : e ≡ length (upTo tab s)) where
 
         pub fit-other : formed p ≡ false → noLine ≡ fitForm (fields s)
         unfolding fitForm
-        fit-other bad = rw (run-more tab s e run more, run-last tab (rest s (e + 1)) i last whole, run-whole tab (rest s (e + 1)) i last whole, second false bad, and-false)
+        fit-other bad =
+            rw (
+              run-more tab s e run more,
+              run-last tab (rest s (e + 1)) i last whole,
+              run-whole tab (rest s (e + 1)) i last whole,
+              second false bad,
+              and-false,
+            )
 
         pub fit-some : formed n ≡ true → formed p ≡ true → fitLine n p ≡ fitForm (fields s)
         unfolding fitForm
         fit-some form good =
             let z : isName (rest s (e + 1)) ≡ true = second true good in
-            rw (run-more tab s e run more, run-last tab (rest s (e + 1)) i last whole, run-whole tab (rest s (e + 1)) i last whole, is-name true form, z, name-is, part)
+            rw (
+              run-more tab s e run more,
+              run-last tab (rest s (e + 1)) i last whole,
+              run-whole tab (rest s (e + 1)) i last whole,
+              is-name true form,
+              z,
+              name-is,
+              part,
+            )
 
 -- ---- a line
 

@@ -50,7 +50,12 @@ number-few f good =
 
 numbers-span : (fs : List (List ℕ)) → every isNumber fs ≡ true → span fs ≤ 8 * length fs
 numbers-span [] good = omega arith
-numbers-span (f ∷ fs) good = omega (arith, number-few f (both-left (isNumber f) (every isNumber fs) good), numbers-span fs (both-right (isNumber f) (every isNumber fs) good))
+numbers-span (f ∷ fs) good =
+    omega (
+      arith,
+      number-few f (both-left (isNumber f) (every isNumber fs) good),
+      numbers-span fs (both-right (isNumber f) (every isNumber fs) good),
+    )
 
 -- ---- the forms
 
@@ -66,7 +71,12 @@ timed-long d (f ∷ fs) long = by-test (isName f && numbered 6 fs) refl
     by-test true e =
         let six = both-right (isName f) (numbered 6 fs) e in
         let many : length fs ≡ 6 = eqb-true (length fs) 6 (both-left (eqb (length fs) 6) (every isNumber fs) six) in
-        absurd (omega (arith, name-short f (both-left (isName f) (numbered 6 fs) e), numbers-span fs (both-right (eqb (length fs) 6) (every isNumber fs) six), many))
+        absurd (omega (
+          arith,
+          name-short f (both-left (isName f) (numbered 6 fs) e),
+          numbers-span fs (both-right (eqb (length fs) 6) (every isNumber fs) six),
+          many,
+        ))
     by-test false e = refl
 
 withdraw-long : (fs : List (List ℕ)) → 25 < span fs → withdrawForm fs ≡ noOrder
@@ -89,7 +99,8 @@ list-long (f ∷ fs) long = refl
 pub order-long : (l : List ℕ) → orderMost < length l → orderOf l ≡ noOrder
 unfolding orderOf deedOf
 order-long l long =
-    by-word (sameBytes (upTo tab l) (bytesOf "add")) (sameBytes (upTo tab l) (bytesOf "withdraw")) (sameBytes (upTo tab l) (bytesOf "retime")) (sameBytes (upTo tab l) (bytesOf "list")) refl refl refl refl
+    by-word (sameBytes (upTo tab l) (bytesOf "add")) (sameBytes (upTo tab l) (bytesOf "withdraw"))
+    (sameBytes (upTo tab l) (bytesOf "retime")) (sameBytes (upTo tab l) (bytesOf "list")) refl refl refl refl
   where
     by-word : (a w r s : Bool)
         → sameBytes (upTo tab l) (bytesOf "add") ≡ a

@@ -22,7 +22,9 @@ use Rattle.lines.proofs.LineLaws.{rest, rest-drop, rest-length, rest-re
 use Rattle.lines.proofs.FieldLaws.{number-ok, number-value}
 
 pub numbersWith : List ℕ → List (List ℕ) → Numbers
-numbersWith us fs = cond (leb (length us + length fs) runMost && every isNumber fs) (record { count = length us + length fs; values = padded runMost 0 (us ++ values fs) }) noNumbers
+numbersWith us fs =
+    cond (leb (length us + length fs) runMost && every isNumber fs)
+    (record { count = length us + length fs; values = padded runMost 0 (us ++ values fs) }) noNumbers
 
 with-none : (fs : List (List ℕ)) → numbersOf fs ≡ numbersWith [] fs
 unfolding numbersOf numbersWith

@@ -35,7 +35,8 @@ digits-value zero n ds fits = let z : 0 ≡ n = omega arith in ap (λ (v : ℕ).
 digits-value (suc k) n ds fits = elim (decLt n 10) [
   | yes low ↦ (let v : 0 * 10 + (48 + n - 48) ≡ n = omega arith in ap (valueFrom 0) (digits-last k n ds low) ∙ ap (λ (v : ℕ). valueFrom v ds) v)
   | no high ↦ (let v : n / 10 * 10 + (48 + n % 10 - 48) ≡ n = omega arith in
-      ap (valueFrom 0) (digits-step k n ds (omega arith)) ∙ (digits-value k (n / 10) ((48 + n % 10) ∷ ds) (front-less k n fits) ∙ ap (λ (v : ℕ). valueFrom v ds) v))
+      ap (valueFrom 0) (digits-step k n ds (omega arith))
+      ∙ (digits-value k (n / 10) ((48 + n % 10) ∷ ds) (front-less k n fits) ∙ ap (λ (v : ℕ). valueFrom v ds) v))
 ]
 
 digit-is : (d : ℕ) → d < 10 → isDigit (48 + d) ≡ true

@@ -34,23 +34,30 @@ use Rattle.plan.specs.Layout.{pieceOf, blank}
 use Rattle.plan.proofs.Lists.{map-more}
 use Rattle.lines.specs.Lines.{bytesOf, tab}
 use Rattle.listing.specs.Text.{ended, decimal}
-use Rattle.listing.specs.Listing.{Entry, spelling, kindWord, figuresLine, rowPieces, entryOf, rowEntries, entriesOn, entryWith, entryLine, entryLines, header, listingOf, planWith, listedOn}
+use Rattle.listing.specs.Listing.{Entry, spelling, kindWord, figuresLine, rowPieces, entryOf, rowEntries, entriesOn}
+use Rattle.listing.specs.Listing.{entryWith, entryLine, entryLines, header, listingOf, planWith, listedOn}
 
 pub spelling-capped : (n : Name) (r : ℕ) → r ≤ n .len → (r < n .len → r ≡ 24) → length (n .bytes) ≡ 24 → take r (n .bytes) ≡ spelling n
-spelling-capped n r h f l = ⊎-elim (λ e. rw e) (λ s. let z : r ≡ 24 = f s in take-all r (n .bytes) (omega arith) ∙ sym (take-all (n .len) (n .bytes) (omega arith))) (eq-or-lt-of-le h)
+spelling-capped n r h f l =
+    ⊎-elim (λ e. rw e) (λ s. let z : r ≡ 24 = f s in take-all r (n .bytes) (omega arith) ∙ sym (take-all (n .len) (n .bytes) (omega arith)))
+    (eq-or-lt-of-le h)
 
 pub piece-line : (c : Costs) (q : ℕ) (name : List ℕ) (s : Stored) (n : ℕ) (a : Piece) (charged : ℕ) → n ≡ q + 1 → a ≡ pieceOf s → charged ≡ chargedTime c a
-    → ended tab (bytesOf "piece") ++ (ended tab (decimal n) ++ (ended tab name ++ (ended tab (kindWord (a .kind)) ++ figuresLine (s .budget) (s .window) (s .jitter) charged))) ≡ entryLine (entryWith c q name s)
+    → ended tab (bytesOf "piece")
+    ++ (ended tab (decimal n) ++ (ended tab name ++ (ended tab (kindWord (a .kind)) ++ figuresLine (s .budget) (s .window) (s .jitter) charged)))
+    ≡ entryLine (entryWith c q name s)
 unfolding entryLine
 piece-line c q name s n a charged core piece time = rw (core, time, piece)
 
-entry-line : (p : Plan) (q : ℕ) (s : Stored) (name : List ℕ) → name ≡ spelling (taskAt (p .tasks .list) (s .task) .name) → entryLine (entryWith (p .costs) q name s) ≡ entryLine (entryOf p q s)
+entry-line : (p : Plan) (q : ℕ) (s : Stored) (name : List ℕ)
+    → name ≡ spelling (taskAt (p .tasks .list) (s .task) .name) → entryLine (entryWith (p .costs) q name s) ≡ entryLine (entryOf p q s)
 unfolding entryOf
 entry-line p q s name is = rw is
 
 pub entry-lines-append : (es fs : List Entry) → entryLines (es ++ fs) ≡ entryLines es ++ entryLines fs
 entry-lines-append [] fs = refl
-entry-lines-append (e ∷ es) fs = ap (λ (l : List ℕ). entryLine e ++ l) (entry-lines-append es fs) ∙ sym (append-assoc (entryLine e) (entryLines es) (entryLines fs))
+entry-lines-append (e ∷ es) fs = ap (λ (l : List ℕ). entryLine e ++ l) (entry-lines-append es fs)
+    ∙ sym (append-assoc (entryLine e) (entryLines es) (entryLines fs))
 
 -- one core more
 cores-more : (p : Plan) (q : ℕ) → entryLines (entriesOn p (q + 1)) ≡ entryLines (entriesOn p q) ++ entryLines (rowEntries p q)
@@ -66,10 +73,13 @@ module _ (p : Plan) (q : ℕ) (long : length (p .layout .rows) ≡ 1024) (low : 
   seats-long : length seatsOf ≡ 64
   seats-long = length-take-le 64 (drop (q * 64) (p .layout .rows)) (omega (arith, length-drop (q * 64) (p .layout .rows)))
 
-  row-more : (i : ℕ) → i < 64 → entryLines (rowRun p q (i + 1)) ≡ entryLines (rowRun p q i) ++ entryLine (entryOf p q (getD (p .layout .pieces) (getD (p .layout .rows) (q * 64 + i) 0) blank))
+  row-more : (i : ℕ) → i < 64
+      → entryLines (rowRun p q (i + 1))
+      ≡ entryLines (rowRun p q i) ++ entryLine (entryOf p q (getD (p .layout .pieces) (getD (p .layout .rows) (q * 64 + i) 0) blank))
   row-more i h =
       let f : ℕ → Entry = (λ j. entryOf p q (getD (p .layout .pieces) j blank)) in
-      let here : getD seatsOf i 0 ≡ getD (p .layout .rows) (q * 64 + i) 0 = getD-take 64 (drop (q * 64) (p .layout .rows)) i 0 h ∙ getD-drop (q * 64) (p .layout .rows) i 0 in
+      let here : getD seatsOf i 0 ≡ getD (p .layout .rows) (q * 64 + i) 0 = getD-take 64 (drop (q * 64) (p .layout .rows)) i 0 h
+      ∙ getD-drop (q * 64) (p .layout .rows) i 0 in
       ap entryLines (map-more f seatsOf i 0 (omega (arith, seats-long)) ∙ ap (λ (j : ℕ). rowRun p q i ++ (f j ∷ [])) here)
       ∙ (entry-lines-append (rowRun p q i) (f (getD (p .layout .rows) (q * 64 + i) 0) ∷ [])
       ∙ ap (λ (l : List ℕ). entryLines (rowRun p q i) ++ l) (append-nil (entryLine (f (getD (p .layout .rows) (q * 64 + i) 0)))))
@@ -78,20 +88,31 @@ module _ (p : Plan) (q : ℕ) (long : length (p .layout .rows) ≡ 1024) (low : 
   unfolding rowPieces
   row-whole r h f =
       let n = getD (p .layout .lens) q 0 in
-      let same : take r seatsOf ≡ take n seatsOf = ⊎-elim (λ e. ap (λ (k : ℕ). take k seatsOf) e) (λ s. take-all r seatsOf (omega (arith, f s, seats-long)) ∙ sym (take-all n seatsOf (omega (arith, f s, seats-long)))) (eq-or-lt-of-le h) in
+      let same : take r seatsOf ≡ take n seatsOf =
+      ⊎-elim (λ e. ap (λ (k : ℕ). take k seatsOf) e)
+      (λ s. take-all r seatsOf (omega (arith, f s, seats-long)) ∙ sym (take-all n seatsOf (omega (arith, f s, seats-long))))
+      (eq-or-lt-of-le h) in
       ap (map (λ j. entryOf p q (getD (p .layout .pieces) j blank))) same ∙ sym (map-map (entryOf p q) (λ j. getD (p .layout .pieces) j blank) (take n seatsOf))
 
   -- one place more of the row is written
-  pub seat-more : (i : ℕ) (s : Stored) (name : List ℕ) → i < 64 → s ≡ getD (p .layout .pieces) (getD (p .layout .rows) (q * 64 + i) 0) blank → name ≡ spelling (taskAt (p .tasks .list) (s .task) .name)
-      → (entryLines (entriesOn p q) ++ entryLines (rowRun p q i)) ++ entryLine (entryWith (p .costs) q name s) ≡ entryLines (entriesOn p q) ++ entryLines (rowRun p q (i + 1))
+  pub seat-more : (i : ℕ) (s : Stored) (name : List ℕ) → i < 64 → s ≡ getD (p .layout .pieces) (getD (p .layout .rows) (q * 64 + i) 0) blank
+      → name ≡ spelling (taskAt (p .tasks .list) (s .task) .name)
+      → (entryLines (entriesOn p q) ++ entryLines (rowRun p q i)) ++ entryLine (entryWith (p .costs) q name s)
+      ≡ entryLines (entriesOn p q) ++ entryLines (rowRun p q (i + 1))
   seat-more i s name h here is =
-      let line : entryLines (rowRun p q i) ++ entryLine (entryWith (p .costs) q name s) ≡ entryLines (rowRun p q (i + 1)) = ap (λ (l : List ℕ). entryLines (rowRun p q i) ++ l) (entry-line p q s name is ∙ ap (λ (x : Stored). entryLine (entryOf p q x)) here) ∙ sym (row-more i h) in
-      append-assoc (entryLines (entriesOn p q)) (entryLines (rowRun p q i)) (entryLine (entryWith (p .costs) q name s)) ∙ ap (λ (l : List ℕ). entryLines (entriesOn p q) ++ l) line
+      let line : entryLines (rowRun p q i) ++ entryLine (entryWith (p .costs) q name s) ≡ entryLines (rowRun p q (i + 1)) =
+      ap (λ (l : List ℕ). entryLines (rowRun p q i) ++ l) (entry-line p q s name is ∙ ap (λ (x : Stored). entryLine (entryOf p q x)) here)
+      ∙ sym (row-more i h) in
+      append-assoc (entryLines (entriesOn p q)) (entryLines (rowRun p q i)) (entryLine (entryWith (p .costs) q name s))
+      ∙ ap (λ (l : List ℕ). entryLines (entriesOn p q) ++ l) line
 
   -- and where all its places are, the core is
-  pub row-over : (i n : ℕ) → n ≤ i → i ≤ 64 → i ≤ getD (p .layout .lens) q 0 → (n < getD (p .layout .lens) q 0 → n ≡ 64) → entryLines (entriesOn p q) ++ entryLines (rowRun p q i) ≡ entryLines (entriesOn p (q + 1)) ++ []
+  pub row-over : (i n : ℕ) → n ≤ i → i ≤ 64 → i ≤ getD (p .layout .lens) q 0 → (n < getD (p .layout .lens) q 0 → n ≡ 64)
+      → entryLines (entriesOn p q) ++ entryLines (rowRun p q i) ≡ entryLines (entriesOn p (q + 1)) ++ []
   row-over i n over few fits all =
-      ap (λ (es : List Entry). entryLines (entriesOn p q) ++ entryLines es) (row-whole i fits (λ (h : i < getD (p .layout .lens) q 0). let z : n ≡ 64 = all (omega arith) in omega arith)) ∙ (sym (cores-more p q) ∙ sym (append-nil (entryLines (entriesOn p (q + 1)))))
+      ap (λ (es : List Entry). entryLines (entriesOn p q) ++ entryLines es)
+      (row-whole i fits (λ (h : i < getD (p .layout .lens) q 0). let z : n ≡ 64 = all (omega arith) in omega arith))
+      ∙ (sym (cores-more p q) ∙ sym (append-nil (entryLines (entriesOn p (q + 1)))))
 
 getD-defaults : {A : Type 0} (xs : List A) (n : ℕ) (d e : A) → n < length xs → getD xs n d ≡ getD xs n e
 getD-defaults [] n d e h = absurd (not-suc-le-zero h)
@@ -99,7 +120,8 @@ getD-defaults (x ∷ xs) zero d e h = refl
 getD-defaults (x ∷ xs) (suc n) d e h = getD-defaults xs n d e (le-of-suc-le-suc h)
 
 -- what lies at a place of an array, told from a place within it
-pub at-within : {A B : Type 0} (f : A → B) (xs : List A) (top n j : ℕ) (d e : A) → length xs ≡ top → (n < top → j ≡ n) → cond (ltb n top) (f (getD xs j d)) (f e) ≡ f (getD xs n e)
+pub at-within : {A B : Type 0} (f : A → B) (xs : List A) (top n j : ℕ) (d e : A)
+    → length xs ≡ top → (n < top → j ≡ n) → cond (ltb n top) (f (getD xs j d)) (f e) ≡ f (getD xs n e)
 at-within f xs top n j d e long same = elim (decLt n top) [
   | yes low ↦ rw (lt-ltb n top low, same low) (ap f (getD-defaults xs n d e (omega arith)))
   | no high ↦ rw (le-ltb n top (omega arith), List·getD-eq-default xs e {n = n} (omega arith))

@@ -57,14 +57,17 @@ module _ (c : Costs) (g : ℕ) (w : ℕ → Piece) (k : ℕ) (costs : SizedCosts
       let cut = cut-parts c g costs row (w a) (has .sizes) size f l e in
       (record { low = low; size = rw (cut .first-is) (cut .parts .first-sized) }, (record { low = low; size = rw (cut .last-is) (cut .parts .last-sized) }, tt))
 
-  shares-seated : {xs : List ℕ} {l : List (Placed ℕ)} → Shares (rulesFor c g w) (Fine c) xs l → Each (λ a. a < k) xs → Each (λ a. Sized (w a)) xs → Each (Seated k) l
+  shares-seated : {xs : List ℕ} {l : List (Placed ℕ)}
+      → Shares (rulesFor c g w) (Fine c) xs l → Each (λ a. a < k) xs → Each (λ a. Sized (w a)) xs → Each (Seated k) l
   shares-seated nil low size = tt
   shares-seated (more {k = x} {l = l} s r) low size = each-join (Seated k) x l (share-seated s (low .0) (size .0)) (shares-seated r (low .1) (size .1))
 
-module _ (m : Machine) (c : Costs) (n : ℕ) (ts : List Task) (faultless : stateFault m c n ts ≡ 0) (s : Stand) (l : List (Placed ℕ)) (planned : walked m c (take n ts) ≡ fine s l) where
+module _ (m : Machine) (c : Costs) (n : ℕ) (ts : List Task)
+    (faultless : stateFault m c n ts ≡ 0) (s : Stand) (l : List (Placed ℕ)) (planned : walked m c (take n ts) ≡ fine s l) where
   pub all-seated : Each (Seated (length (take n ts))) l
   all-seated =
-      shares-seated c (m .grain) (wholeAt (take n ts)) (length (take n ts)) (state-sane m c n ts faultless .costs) (shared m c n ts faultless s l planned) (packing-order (take n ts) .below) (sized-order m c n ts faultless)
+      shares-seated c (m .grain) (wholeAt (take n ts)) (length (take n ts)) (state-sane m c n ts faultless .costs)
+      (shared m c n ts faultless s l planned) (packing-order (take n ts) .below) (sized-order m c n ts faultless)
 
 -- ---- what is on a core
 
@@ -81,11 +84,13 @@ map-same P f g same [] ok = refl
 map-same P f g same (a ∷ x) ok = cc (same a (ok .0), map-same P f g same x (ok .1))
 
 -- the entry of what was placed, from the plan's struct
-entry-placed : (p : Plan) (c : Costs) (ts : List Task) (q : ℕ) (e : Placed ℕ) → p .costs ≡ c → p .tasks .list ≡ padded ts → SizedCosts c → Seated (length ts) e → e .on ≡ q → entryOf p q (storedOf e) ≡ placedEntry c ts e
+entry-placed : (p : Plan) (c : Costs) (ts : List Task) (q : ℕ) (e : Placed ℕ) → p .costs ≡ c
+    → p .tasks .list ≡ padded ts → SizedCosts c → Seated (length ts) e → e .on ≡ q → entryOf p q (storedOf e) ≡ placedEntry c ts e
 unfolding entryOf placedEntry padded
 entry-placed p c ts q e costs list sizes seat on =
     let piece : pieceOf (storedOf e) ≡ e .piece = piece-stored (e .item) (e .piece) in
-    let task : taskAt (p .tasks .list) (e .item) ≡ taskAt ts (e .item) = ap (λ (l : List Task). taskAt l (e .item)) list ∙ List·getD-append ts _ past (e .item) (seat .low) in
+    let task : taskAt (p .tasks .list) (e .item) ≡ taskAt ts (e .item) = ap (λ (l : List Task). taskAt l (e .item)) list
+    ∙ List·getD-append ts _ past (e .item) (seat .low) in
     let time : chargedTime (p .costs) (pieceOf (storedOf e)) ≡ charge c (e .piece) = rw (piece, costs) (charged-time-is c (e .piece) sizes (seat .size)) in
     let kind : pieceOf (storedOf e) .kind ≡ e .piece .kind = ap (λ (z : Piece). z .kind) piece in
     cc (on, task, time, kind)
@@ -112,7 +117,8 @@ count-below : (k : ℕ) (e : Placed ℕ) (l : List (Placed ℕ)) → e .on < k �
 count-below zero e l low = absurd (omega arith)
 count-below (suc q) e l low = by (eqb (e .on) q) refl (λ h. count-below q e l h)
   where
-    by : (t : Bool) → eqb (e .on) q ≡ t → (e .on < q → onFirstCores q (e ∷ l) ≡ suc (onFirstCores q l)) → onFirstCores q (e ∷ l) + length (keep t e (onCore q l)) ≡ suc (onFirstCores q l + length (onCore q l))
+    by : (t : Bool) → eqb (e .on) q ≡ t → (e .on < q → onFirstCores q (e ∷ l) ≡ suc (onFirstCores q l))
+        → onFirstCores q (e ∷ l) + length (keep t e (onCore q l)) ≡ suc (onFirstCores q l + length (onCore q l))
     by true h below = omega (arith, count-above q e l (omega (arith, eqb-true (e .on) q h)))
     by false h below = omega (arith, below (less (decLt (e .on) q)))
       where
@@ -130,7 +136,8 @@ count-all k (e ∷ l) ok = count-below k e l (ok .0) ∙ ap suc (count-all k l (
 
 -- ---- a plan that the walk gave
 
-module _ (m : Machine) (c : Costs) (n : ℕ) (ts : List Task) (faultless : stateFault m c n ts ≡ 0) (s : Stand) (l : List (Placed ℕ)) (planned : walked m c (take n ts) ≡ fine s l) where
+module _ (m : Machine) (c : Costs) (n : ℕ) (ts : List Task)
+    (faultless : stateFault m c n ts ≡ 0) (s : Stand) (l : List (Placed ℕ)) (planned : walked m c (take n ts) ≡ fine s l) where
   pub plan-is : planOf m c n ts ≡ finished m c (take n ts) (fine s l)
   unfolding planOf
   plan-is = rw (faultless, planned)
@@ -141,18 +148,29 @@ module _ (m : Machine) (c : Costs) (n : ℕ) (ts : List Task) (faultless : state
       let k : ℕ = length (take n ts) in
       let costs : p .costs ≡ c = ap (λ (r : Reply). r .plan .costs) plan-is in
       let list : p .tasks .list ≡ padded (take n ts) = ap (λ (r : Reply). r .plan .tasks .list) plan-is in
-      ap (map (entryOf p q)) (row-pieces (p .layout) l q (plan-shows m c n ts faultless s l planned) low (plan-counts m c n ts faultless s l planned .row-fits q))
+      ap (map (entryOf p q))
+      (row-pieces (p .layout) l q (plan-shows m c n ts faultless s l planned) low (plan-counts m c n ts faultless s l planned .row-fits q))
       ∙ (map-map (entryOf p q) storedOf (onCore q l)
-      ∙ map-same (λ e. Seated k e × (e .on ≡ q)) (λ e. entryOf p q (storedOf e)) (placedEntry c (take n ts)) (λ e seat. entry-placed p c (take n ts) q e costs list (state-sane m c n ts faultless .costs) (seat .0) (seat .1)) (onCore q l) (each-on (Seated k) q l (all-seated m c n ts faultless s l planned)))
+      ∙ map-same (λ e. Seated k e × (e .on ≡ q)) (λ e. entryOf p q (storedOf e)) (placedEntry c (take n ts))
+      (λ e seat. entry-placed p c (take n ts) q e costs list (state-sane m c n ts faultless .costs) (seat .0) (seat .1))
+      (onCore q l) (each-on (Seated k) q l (all-seated m c n ts faultless s l planned)))
 
   rows-count : (k : ℕ) → k ≤ 16 → length (entriesOn (planOf m c n ts .plan) k) ≡ onFirstCores k l
   rows-count zero few = refl
   rows-count (suc q) few =
       let p : Plan = planOf m c n ts .plan in
-      omega (arith, length-append (entriesOn p q) (rowEntries p q), rows-count q (omega arith), ap length (row-placed q (omega arith)), length-map (onCore q l) (placedEntry c (take n ts)))
+      omega (
+        arith,
+        length-append (entriesOn p q) (rowEntries p q),
+        rows-count q (omega arith),
+        ap length (row-placed q (omega arith)),
+        length-map (onCore q l) (placedEntry c (take n ts)),
+      )
 
   seats-low : Each (λ e. e .on < 16) l
-  seats-low = each-imp (λ (e : Placed ℕ). e .on < m .cores) (λ (e : Placed ℕ). e .on < 16) (λ e h. omega (arith, state-sane m c n ts faultless .cores-fit)) l (plan-counts m c n ts faultless s l planned .cores)
+  seats-low =
+      each-imp (λ (e : Placed ℕ). e .on < m .cores) (λ (e : Placed ℕ). e .on < 16)
+      (λ e h. omega (arith, state-sane m c n ts faultless .cores-fit)) l (plan-counts m c n ts faultless s l planned .cores)
 
   pub entries-count : length (entries (planOf m c n ts .plan)) ≡ length l
   entries-count = rows-count 16 (omega arith) ∙ count-all 16 l seats-low

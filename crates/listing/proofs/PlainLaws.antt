@@ -126,15 +126,31 @@ unfolding header
 header-short p =
     let t = decimal (p .tasks .count) in
     let k = decimal (p .layout .count) in
-    omega (arith, length-append (ended tab (bytesOf "plan")) (ended tab t ++ ended newline k), length-append (ended tab t) (ended newline k), ended-length tab t, ended-length newline k, decimal-few (p .tasks .count), decimal-few (p .layout .count))
+    omega (
+      arith,
+      length-append (ended tab (bytesOf "plan")) (ended tab t ++ ended newline k),
+      length-append (ended tab t) (ended newline k),
+      ended-length tab t,
+      ended-length newline k,
+      decimal-few (p .tasks .count),
+      decimal-few (p .layout .count),
+    )
 
 listing-short : (p : Plan) (es : List Entry) → entries p ≡ es → Each (λ e. length (e .task) ≤ 24) es → length es ≤ 79 → length (listingOf p) ≤ 20000
 unfolding listingOf
-listing-short p es is short few = omega (arith, length-append (header p) (entryLines (entries p)), header-short p, lines-short es short, ap (λ (l : List Entry). length (entryLines l)) is)
+listing-short p es is short few =
+    omega (
+      arith,
+      length-append (header p) (entryLines (entries p)),
+      header-short p,
+      lines-short es short,
+      ap (λ (l : List Entry). length (entryLines l)) is,
+    )
 
 -- ---- entries
 
-pub placed-readable : (c : Costs) (ts : List Task) (e : Placed ℕ) → SizedCosts c → Each (λ t. formed (t .name) ≡ true) ts → Seated (length ts) e → e .on < 16 → Readable (placedEntry c ts e)
+pub placed-readable : (c : Costs) (ts : List Task) (e : Placed ℕ)
+    → SizedCosts c → Each (λ t. formed (t .name) ≡ true) ts → Seated (length ts) e → e .on < 16 → Readable (placedEntry c ts e)
 unfolding placedEntry charged
 placed-readable c ts e costs names seat low =
     let time : charge c (e .piece) ≤ 2000000 = charged-ranged c costs (e .piece) (sized-countable (e .piece) (seat .size)) .charge-fits in
@@ -147,22 +163,27 @@ placed-readable c ts e costs names seat low =
       charged-fits = omega arith;
     }
 
-placed-short : (c : Costs) (ts : List Task) (e : Placed ℕ) → Each (λ t. length (spelling (t .name)) ≤ 24) ts → Seated (length ts) e → length (placedEntry c ts e .task) ≤ 24
+placed-short : (c : Costs) (ts : List Task) (e : Placed ℕ)
+    → Each (λ t. length (spelling (t .name)) ≤ 24) ts → Seated (length ts) e → length (placedEntry c ts e .task) ≤ 24
 unfolding placedEntry
 placed-short c ts e names seat = each-task (λ t. length (spelling (t .name)) ≤ 24) ts names (e .item) (seat .low)
 
-module _ (m : Machine) (c : Costs) (n : ℕ) (ts : List Task) (faultless : stateFault m c n ts ≡ 0) (s : Stand) (l : List (Placed ℕ)) (planned : walked m c (take n ts) ≡ fine s l) where
+module _ (m : Machine) (c : Costs) (n : ℕ) (ts : List Task)
+    (faultless : stateFault m c n ts ≡ 0) (s : Stand) (l : List (Placed ℕ)) (planned : walked m c (take n ts) ≡ fine s l) where
   -- what holds of the entry of each piece that was placed holds of all entries of the plan
   module _ (R : Entry → Type 0) (each : (e : Placed ℕ) → Seated (length (take n ts)) e → e .on < 16 → R (placedEntry c (take n ts) e)) where
     row-each : (q : ℕ) → q < 16 → Each R (rowEntries (planOf m c n ts .plan) q)
     row-each q low =
         let k : ℕ = length (take n ts) in
         rw (row-placed m c n ts faultless s l planned q low)
-        (each-map (λ e. Seated k e × (e .on ≡ q)) R (placedEntry c (take n ts)) (λ e seat. each e (seat .0) (omega (arith, seat .1))) (onCore q l) (each-on (Seated k) q l (all-seated m c n ts faultless s l planned)))
+        (each-map (λ e. Seated k e × (e .on ≡ q)) R (placedEntry c (take n ts)) (λ e seat. each e (seat .0) (omega (arith, seat .1)))
+        (onCore q l) (each-on (Seated k) q l (all-seated m c n ts faultless s l planned)))
 
     rows-each : (k : ℕ) → k ≤ 16 → Each R (entriesOn (planOf m c n ts .plan) k)
     rows-each zero few = tt
-    rows-each (suc q) few = each-join R (entriesOn (planOf m c n ts .plan) q) (rowEntries (planOf m c n ts .plan) q) (rows-each q (omega arith)) (row-each q (omega arith))
+    rows-each (suc q) few =
+        each-join R (entriesOn (planOf m c n ts .plan) q)
+        (rowEntries (planOf m c n ts .plan) q) (rows-each q (omega arith)) (row-each q (omega arith))
 
     entries-each : Each R (entries (planOf m c n ts .plan))
     entries-each = rows-each 16 (omega arith)
@@ -175,5 +196,7 @@ module _ (m : Machine) (c : Costs) (n : ℕ) (ts : List Task) (faultless : state
   pub listing-few : Each (λ t. length (spelling (t .name)) ≤ 24) (take n ts) → length (listingOf (planOf m c n ts .plan)) ≤ 20000
   listing-few names =
       let p = planOf m c n ts .plan in
-      let short : Each (λ e. length (e .task) ≤ 24) (entries p) = entries-each (λ e. length (e .task) ≤ 24) (λ e seat low. placed-short c (take n ts) e names seat) in
-      listing-short p (entries p) refl short (omega (arith, entries-count m c n ts faultless s l planned, plan-counts m c n ts faultless s l planned .pieces-fit))
+      let short : Each (λ e. length (e .task) ≤ 24) (entries p) =
+      entries-each (λ e. length (e .task) ≤ 24) (λ e seat low. placed-short c (take n ts) e names seat) in
+      listing-short p (entries p) refl short
+      (omega (arith, entries-count m c n ts faultless s l planned, plan-counts m c n ts faultless s l planned .pieces-fit))

@@ -44,7 +44,8 @@ abbrev pub fieldsOn : List (List ℕ) → List ℕ → List ℕ
 fieldsOn [] r = r
 fieldsOn (f ∷ fs) r = f ++ (tab ∷ fieldsOn fs r)
 
-pub fields-alike : (fs gs : List (List ℕ)) (r s : List ℕ) → length fs ≡ length gs → Each (Lacks tab) fs → Each (Lacks tab) gs → fieldsOn fs r ≡ fieldsOn gs s → (fs ≡ gs) × (r ≡ s)
+pub fields-alike : (fs gs : List (List ℕ)) (r s : List ℕ)
+    → length fs ≡ length gs → Each (Lacks tab) fs → Each (Lacks tab) gs → fieldsOn fs r ≡ fieldsOn gs s → (fs ≡ gs) × (r ≡ s)
 fields-alike [] [] r s l h k e = (refl, e)
 fields-alike [] (g ∷ gs) r s l h k e = absurd (omega arith)
 fields-alike (f ∷ fs) [] r s l h k e = absurd (omega arith)
@@ -58,13 +59,17 @@ fields-alike (f ∷ fs) (g ∷ gs) r s l h k e =
 lacks-by : (b : ℕ) (f : List ℕ) → every (λ a. not (eqb a b)) f ≡ true → Lacks b f
 lacks-by b [] ok = tt
 lacks-by b (a ∷ f) ok = (
-  (λ e. let z : false ≡ true = (let h = both-left (not (eqb a b)) (every (λ a. not (eqb a b)) f) ok in rw (eq-eqb a b e) at h) in let y : _≡_ {A = ℕ} 0 1 = cc in omega arith),
+  (λ e. let z : false ≡ true = (let h = both-left (not (eqb a b)) (every (λ a. not (eqb a b)) f) ok in rw (eq-eqb a b e) at h) in
+      let y : _≡_ {A = ℕ} 0 1 = cc in omega arith),
   lacks-by b f (both-right (not (eqb a b)) (every (λ a. not (eqb a b)) f) ok),
 )
 
 digits-lack : (b : ℕ) → b < 48 → (f : List ℕ) → every isDigit f ≡ true → Lacks b f
 digits-lack b low [] ok = tt
-digits-lack b low (a ∷ f) ok = ((λ e. omega (arith, digit-low a (both-left (isDigit a) (every isDigit f) ok))), digits-lack b low f (both-right (isDigit a) (every isDigit f) ok))
+digits-lack b low (a ∷ f) ok = (
+  (λ e. omega (arith, digit-low a (both-left (isDigit a) (every isDigit f) ok))),
+  digits-lack b low f (both-right (isDigit a) (every isDigit f) ok),
+)
 
 pub decimal-lacks : (b : ℕ) → b < 48 → (n : ℕ) → Lacks b (decimal n)
 decimal-lacks b low n = digits-lack b low (decimal n) (decimal-digits n)
@@ -111,14 +116,19 @@ unfolding entryLine
 line-parts e r = simp append-assoc
 
 front-lacks : (e : Entry) → Readable e → Each (Lacks tab) (front e)
-front-lacks e ok = (lacks-by tab (bytesOf "piece") refl, (digits (e .core), (ok .task-plain, (word-lacks (e .kind), (digits (e .budget), (digits (e .window), (digits (e .jitter), tt)))))))
+front-lacks e ok = (
+  lacks-by tab (bytesOf "piece") refl,
+  (digits (e .core), (ok .task-plain, (word-lacks (e .kind), (digits (e .budget), (digits (e .window), (digits (e .jitter), tt)))))),
+)
   where
     digits : (n : ℕ) → Lacks tab (decimal n)
     digits n = decimal-lacks tab (omega arith) n
 
 line-alike : (e f : Entry) (r s : List ℕ) → Readable e → Readable f → entryLine e ++ r ≡ entryLine f ++ s → (e ≡ f) × (r ≡ s)
 line-alike e f r s ok good same =
-    let cut = line-cut (front e) (front f) (e .charged) (f .charged) r s refl (front-lacks e ok) (front-lacks f good) (sym (line-parts e r) ∙ (same ∙ line-parts f s)) in
+    let cut =
+    line-cut (front e) (front f) (e .charged)
+    (f .charged) r s refl (front-lacks e ok) (front-lacks f good) (sym (line-parts e r) ∙ (same ∙ line-parts f s)) in
     let core = decimal-one (e .core) (f .core) (ok .core-fits) (good .core-fits) (cc (cut .0)) in
     let task : e .task ≡ f .task = cc (cut .0) in
     let kind = word-one (e .kind) (f .kind) (cc (cut .0)) in
@@ -126,7 +136,15 @@ line-alike e f r s ok good same =
     let window = decimal-one (e .window) (f .window) (ok .window-fits) (good .window-fits) (cc (cut .0)) in
     let jitter = decimal-one (e .jitter) (f .jitter) (ok .jitter-fits) (good .jitter-fits) (cc (cut .0)) in
     let charged = decimal-one (e .charged) (f .charged) (ok .charged-fits) (good .charged-fits) (cut .1) in
-    let all : _≡_ {A = Entry} (record { core = e .core; task = e .task; kind = e .kind; budget = e .budget; window = e .window; jitter = e .jitter; charged = e .charged })
+    let all : _≡_ {A = Entry} (record {
+      core = e .core;
+      task = e .task;
+      kind = e .kind;
+      budget = e .budget;
+      window = e .window;
+      jitter = e .jitter;
+      charged = e .charged;
+    })
     (record { core = f .core; task = f .task; kind = f .kind; budget = f .budget; window = f .window; jitter = f .jitter; charged = f .charged }) = cc in
     (all, cut .2)
 
@@ -154,10 +172,14 @@ head-parts p r = simp append-assoc
 head-lacks : (p : Plan) → Each (Lacks tab) (headFront p)
 head-lacks p = (lacks-by tab (bytesOf "plan") refl, (decimal-lacks tab (omega arith) (p .tasks .count), tt))
 
-pub listing-alike : (p q : Plan) → listingOf p ≡ listingOf q → (decimal (p .tasks .count) ≡ decimal (q .tasks .count)) × (decimal (p .layout .count) ≡ decimal (q .layout .count)) × (entryLines (entries p) ≡ entryLines (entries q))
+pub listing-alike : (p q : Plan) → listingOf p ≡ listingOf q
+    → (decimal (p .tasks .count) ≡ decimal (q .tasks .count))
+    × (decimal (p .layout .count) ≡ decimal (q .layout .count)) × (entryLines (entries p) ≡ entryLines (entries q))
 unfolding listingOf
 listing-alike p q same =
     let r : List ℕ = entryLines (entries p) in
     let s : List ℕ = entryLines (entries q) in
-    let cut = line-cut (headFront p) (headFront q) (p .layout .count) (q .layout .count) r s refl (head-lacks p) (head-lacks q) (sym (head-parts p r) ∙ (same ∙ head-parts q s)) in
+    let cut =
+    line-cut (headFront p) (headFront q)
+    (p .layout .count) (q .layout .count) r s refl (head-lacks p) (head-lacks q) (sym (head-parts p r) ∙ (same ∙ head-parts q s)) in
     (cc (cut .0), cut .1, cut .2)

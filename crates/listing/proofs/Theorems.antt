@@ -46,8 +46,12 @@ module _ (m : Machine) (c : Costs) (n : ℕ) (ts : List Task) where
     pub listing-placed : (q : ℕ) → q < 16 → rowEntries (planOf m c n ts .plan) q ≡ map (placedEntry c (take n ts)) (onCore q l)
     listing-placed q low = row-placed m c n ts faultless s l planned q low
 
-    pub header-counts : (planOf m c n ts .plan .layout .count ≡ length (entries (planOf m c n ts .plan))) × (planOf m c n ts .plan .tasks .count ≡ length (take n ts))
-    header-counts = (pieces-count m c n ts faultless s l planned ∙ sym (entries-count m c n ts faultless s l planned), tasks-count m c n ts faultless s l planned)
+    pub header-counts : (planOf m c n ts .plan .layout .count ≡ length (entries (planOf m c n ts .plan)))
+        × (planOf m c n ts .plan .tasks .count ≡ length (take n ts))
+    header-counts = (
+      pieces-count m c n ts faultless s l planned ∙ sym (entries-count m c n ts faultless s l planned),
+      tasks-count m c n ts faultless s l planned,
+    )
 
   readable : planOf m c n ts .number ≡ 0 → Each Readable (entries (planOf m c n ts .plan))
   readable comes =
@@ -57,7 +61,8 @@ module _ (m : Machine) (c : Costs) (n : ℕ) (ts : List Task) where
 
 -- ---- two plans
 
-pub listing-determines : (m : Machine) (c : Costs) (n : ℕ) (ts : List Task) (m′ : Machine) (c′ : Costs) (n′ : ℕ) (ts′ : List Task) → planOf m c n ts .number ≡ 0 → planOf m′ c′ n′ ts′ .number ≡ 0
+pub listing-determines : (m : Machine) (c : Costs) (n : ℕ) (ts : List Task) (m′ : Machine) (c′ : Costs) (n′ : ℕ) (ts′ : List Task)
+    → planOf m c n ts .number ≡ 0 → planOf m′ c′ n′ ts′ .number ≡ 0
     → listingOf (planOf m c n ts .plan) ≡ listingOf (planOf m′ c′ n′ ts′ .plan) → entries (planOf m c n ts .plan) ≡ entries (planOf m′ c′ n′ ts′ .plan)
 listing-determines m c n ts m′ c′ n′ ts′ comes comes′ same =
     let p = planOf m c n ts .plan in

@@ -54,7 +54,8 @@ module _ (ls : List (List ℕ)) (l : List ℕ) where
 
   fitted-on : (t : Task) → Fitted ls t → Fitted (ls ++ (l ∷ [])) t
   fitted-on t f =
-      let inner : (f .between ++ (f .fit-line ∷ f .below)) ++ (l ∷ []) ≡ f .between ++ (f .fit-line ∷ (f .below ++ (l ∷ []))) = append-assoc (f .between) (f .fit-line ∷ f .below) (l ∷ []) in
+      let inner : (f .between ++ (f .fit-line ∷ f .below)) ++ (l ∷ []) ≡ f .between ++ (f .fit-line ∷ (f .below ++ (l ∷ []))) =
+      append-assoc (f .between) (f .fit-line ∷ f .below) (l ∷ []) in
       record {
         above = f .above;
         between = f .between;
@@ -137,11 +138,17 @@ arrows-step ls a l so-far none = by-word (lineOf l .word) refl
     by-word : (w : Word) → lineOf l .word ≡ w → Arrows (ls ++ (l ∷ [])) (wordAfter w a (lineOf l))
     by-word Word.Machine word = record { parts-stand = parts; tasks-fitted = tasks }
     by-word Word.Cost word = record { parts-stand = parts; tasks-fitted = tasks }
-    by-word Word.Part word = record { parts-stand = each-snoc (Stands (ls ++ (l ∷ []))) (a .parts) (lineOf l .task) parts (part-stands ls l word); tasks-fitted = tasks }
+    by-word Word.Part word = record {
+      parts-stand = each-snoc (Stands (ls ++ (l ∷ []))) (a .parts) (lineOf l .task) parts (part-stands ls l word);
+      tasks-fitted = tasks;
+    }
     by-word Word.Fit word =
         let known = line-fit a (lineOf l) none word .known in
         let one = task-fitted ls l (a .parts) word (found (Stands ls) 1 (lineOf l .part) (a .parts) (so-far .parts-stand) known) in
-        record { parts-stand = parts; tasks-fitted = each-snoc (Fitted (ls ++ (l ∷ []))) (a .tasks) (taskOf (lineOf l .task .name) (lineOf l .part) (a .parts)) tasks one }
+        record {
+          parts-stand = parts;
+          tasks-fitted = each-snoc (Fitted (ls ++ (l ∷ []))) (a .tasks) (taskOf (lineOf l .task .name) (lineOf l .part) (a .parts)) tasks one;
+        }
     by-word Word.Other word = record { parts-stand = parts; tasks-fitted = tasks }
 
 -- ---- the whole sheet

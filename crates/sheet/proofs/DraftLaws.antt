@@ -66,19 +66,30 @@ module _ (a : Above) (h : Head) (ps ts : Tasks) (held : Holds a h ps ts) (l : Li
     tasks-are = held .tasks-are ∙ ap tasksOf (sym (ap (λ (v : Word). wordAfter v a l .tasks) word ∙ tasks));
   }
 
-  pub holds-part : l .word ≡ Word.Part → length (a .parts) < tasksMost → Holds (after a l) next (record { count = ps .count + 1; list = set (ps .list) (ps .count) (l .task) }) ts
+  pub holds-part : l .word ≡ Word.Part → length (a .parts) < tasksMost
+      → Holds (after a l) next (record { count = ps .count + 1; list = set (ps .list) (ps .count) (l .task) }) ts
   unfolding after
-  holds-part word space = record { head-is = head; parts-are = rw word (tasks-put ps (a .parts) (held .parts-are) (l .task) space); tasks-are = rw word (held .tasks-are) }
+  holds-part word space = record {
+    head-is = head;
+    parts-are = rw word (tasks-put ps (a .parts) (held .parts-are) (l .task) space);
+    tasks-are = rw word (held .tasks-are);
+  }
 
   pub holds-task : l .word ≡ Word.Fit → length (a .tasks) < tasksMost → (times : Times) → times ≡ partTimes (l .part) (a .parts)
       → Holds (after a l) next ps (record { count = ts .count + 1; list = set (ts .list) (ts .count) (record { name = l .task .name; times = times }) })
   unfolding after
-  holds-task word space times timed = record { head-is = head; parts-are = rw word (held .parts-are); tasks-are = rw (word, timed) (tasks-put ts (a .tasks) (held .tasks-are) (taskOf (l .task .name) (l .part) (a .parts)) space) }
+  holds-task word space times timed = record {
+    head-is = head;
+    parts-are = rw word (held .parts-are);
+    tasks-are = rw (word, timed) (tasks-put ts (a .tasks) (held .tasks-are) (taskOf (l .task .name) (l .part) (a .parts)) space);
+  }
 
 -- ---- what is wrong with a line, by what was found
 
 module _ (a : Above) (l : Line) (source parts twin tasks : ℕ) (found : Found a l source parts twin tasks) where
-  pub found-part : l .word ≡ Word.Part → rule (eqb (a .stage) 2) 8 (rule (sized (wholePiece (l .task .times))) 3 (rule (eqb source 0) 4 (rule (ltb parts 64) 6 0))) ≡ lineFault a l
+  pub found-part : l .word ≡ Word.Part
+      → rule (eqb (a .stage) 2) 8 (rule (sized (wholePiece (l .task .times))) 3 (rule (eqb source 0) 4 (rule (ltb parts 64) 6 0)))
+      ≡ lineFault a l
   unfolding lineFault partFault
   found-part word =
       let place : source ≡ placeOf 1 (l .task .name) (a .parts) = rw word at (found .source-is) in

@@ -22,7 +22,8 @@ use Rattle.task.specs.Names.{sameName}
 use Rattle.task.specs.Tasks.{tasksMost, sizedMachine, wholePiece, placeOf, rule}
 use Rattle.lines.specs.declared.Word.{Word}
 use Rattle.lines.specs.declared.Line.{Line}
-use Rattle.sheet.specs.Sheet.{Above, atTop, belowMachine, amongParts, free, room, machineFault, costFault, partFault, fitFault, wordFault, lineFault, partTimes}
+use Rattle.sheet.specs.Sheet.{Above, atTop, belowMachine, amongParts, free, room, machineFault, costFault}
+use Rattle.sheet.specs.Sheet.{partFault, fitFault, wordFault, lineFault, partTimes}
 
 -- ---- good lines
 

@@ -13,7 +13,8 @@ use lib.Dec.{leb}
 use lib.ListN.{length}
 use Rattle.lines.specs.Lines.{newline, upTo, beyond}
 use Rattle.lines.specs.Forms.{lineOf}
-use Rattle.sheet.specs.Sheet.{Above, amongParts, top, lineFault, after, Outcome, refused, whole, ending, next, readFrom, sheetMost, outcomeOf, shown, readOf}
+use Rattle.sheet.specs.Sheet.{Above, amongParts, top, lineFault, after, Outcome, refused, whole, ending}
+use Rattle.sheet.specs.Sheet.{next, readFrom, sheetMost, outcomeOf, shown, readOf}
 use Rattle.sheet.specs.Fitted.{ended, linesOf}
 use Rattle.sheet.specs.Refusing.{lastRun, tailOf, Refusing, bad, good, cut, missing}
 
@@ -39,9 +40,13 @@ unfolding readFrom
 from-says a n l [] k j e = end-says a n l k j e
 from-says a n l (m ∷ ls) k j e = by (lineFault a (lineOf l)) refl e (from-says (after a (lineOf l)) (n + 1) m ls k j)
   where
-    by : (f : ℕ) → lineFault a (lineOf l) ≡ f → Says (next f n (readFrom (after a (lineOf l)) (n + 1) m ls)) k j → (Says (readFrom (after a (lineOf l)) (n + 1) m ls) k j → Refusing (after a (lineOf l)) (n + 1) (ended m ls) (lastRun m ls) k j) → Refusing a n (l ∷ ended m ls) (lastRun m ls) k j
+    by : (f : ℕ) → lineFault a (lineOf l) ≡ f → Says (next f n (readFrom (after a (lineOf l)) (n + 1) m ls)) k j
+        → (Says (readFrom (after a (lineOf l)) (n + 1) m ls) k j → Refusing (after a (lineOf l)) (n + 1) (ended m ls) (lastRun m ls) k j)
+        → Refusing a n (l ∷ ended m ls) (lastRun m ls) k j
     by zero h e′ more = good h (more e′)
-    by (suc f) h e′ more = subst (λ (q : ℕ). Refusing a n (l ∷ ended m ls) (lastRun m ls) q j) (e′ .0) (subst (Refusing a n (l ∷ ended m ls) (lastRun m ls) (suc f)) (e′ .1) (bad h))
+    by (suc f) h e′ more =
+        subst (λ (q : ℕ). Refusing a n (l ∷ ended m ls) (lastRun m ls) q j)
+        (e′ .0) (subst (Refusing a n (l ∷ ended m ls) (lastRun m ls) (suc f)) (e′ .1) (bad h))
 
 -- and the other way
 end-refuses : (a : Above) (n : ℕ) (tail : List ℕ) (k j : ℕ) → Refusing a n [] tail k j → ending a n tail ≡ refused k j
@@ -52,7 +57,8 @@ refuses : (a : Above) (n : ℕ) (l : List ℕ) (ls : List (List ℕ)) (k j : ℕ
 unfolding readFrom
 refuses a n l [] k j r = end-refuses a n l k j r
 refuses a n l (m ∷ ls) k j (bad {k = f} h) = ap (λ (q : ℕ). next q n (readFrom (after a (lineOf l)) (n + 1) m ls)) h
-refuses a n l (m ∷ ls) k j (good h more) = ap (λ (q : ℕ). next q n (readFrom (after a (lineOf l)) (n + 1) m ls)) h ∙ refuses (after a (lineOf l)) (n + 1) m ls k j more
+refuses a n l (m ∷ ls) k j (good h more) = ap (λ (q : ℕ). next q n (readFrom (after a (lineOf l)) (n + 1) m ls)) h
+    ∙ refuses (after a (lineOf l)) (n + 1) m ls k j more
 
 short : (bytes : List ℕ) → length bytes ≤ sheetMost → outcomeOf bytes ≡ readFrom top 1 (upTo newline bytes) (beyond newline bytes)
 unfolding outcomeOf
@@ -62,9 +68,12 @@ shown-says : (o : Outcome) (k j : ℕ) → shown o .number ≡ suc k → shown o
 shown-says (refused n l) k j e f = (e, f)
 shown-says (whole a) k j e f = omega arith
 
-pub first-bad : (bytes : List ℕ) → length bytes ≤ sheetMost → (k j : ℕ) → ((readOf bytes .number ≡ suc k) × (readOf bytes .carries ≡ j)) ↔ Refusing top 1 (linesOf bytes) (tailOf bytes) (suc k) j
+pub first-bad : (bytes : List ℕ) → length bytes ≤ sheetMost
+    → (k j : ℕ) → ((readOf bytes .number ≡ suc k) × (readOf bytes .carries ≡ j)) ↔ Refusing top 1 (linesOf bytes) (tailOf bytes) (suc k) j
 unfolding readOf linesOf tailOf
 first-bad bytes few k j = (
-  (λ e. from-says top 1 (upTo newline bytes) (beyond newline bytes) (suc k) j (subst (λ (o : Outcome). Says o (suc k) j) (short bytes few) (shown-says (outcomeOf bytes) k j (e .0) (e .1)))),
-  (λ r. (let is = short bytes few ∙ refuses top 1 (upTo newline bytes) (beyond newline bytes) (suc k) j r in (ap (λ (o : Outcome). shown o .number) is, ap (λ (o : Outcome). shown o .carries) is))),
+  (λ e. from-says top 1 (upTo newline bytes) (beyond newline bytes)
+      (suc k) j (subst (λ (o : Outcome). Says o (suc k) j) (short bytes few) (shown-says (outcomeOf bytes) k j (e .0) (e .1)))),
+  (λ r. (let is = short bytes few ∙ refuses top 1 (upTo newline bytes) (beyond newline bytes) (suc k) j r in
+      (ap (λ (o : Outcome). shown o .number) is, ap (λ (o : Outcome). shown o .carries) is))),
 )

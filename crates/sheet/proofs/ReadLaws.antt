@@ -16,7 +16,8 @@ use Rattle.lines.specs.declared.Word.{Word}
 use Rattle.lines.specs.declared.Line.{Line}
 use Rattle.lines.specs.Lines.{newline, upTo, beyond}
 use Rattle.lines.specs.Forms.{lineOf}
-use Rattle.sheet.specs.Sheet.{Above, top, amongParts, lineFault, wordAfter, after, Outcome, refused, whole, ending, next, readFrom, sheetMost, outcomeOf, shown, readOf}
+use Rattle.sheet.specs.Sheet.{Above, top, amongParts, lineFault, wordAfter, after, Outcome, refused, whole}
+use Rattle.sheet.specs.Sheet.{ending, next, readFrom, sheetMost, outcomeOf, shown, readOf}
 use Rattle.lines.proofs.LineLaws.{rest, rest-drop, rest-length, rest-rest, run-le, run-take, run-whole, run-last, run-more}
 use Rattle.sheet.proofs.FaultLaws.{line-part, line-fit}
 
@@ -92,7 +93,9 @@ module _ (bytes : List ℕ) (a : Above) (at n : ℕ) (r : Reached bytes a at n) 
         some-left (b ∷ l) some = refl
 
     module _ (ended : e ≡ length (rest bytes at) → ⊥) (line : Line) (says : line ≡ lineOf (take e (rest bytes at))) where
-      one-line : outcomeOf bytes ≡ next (lineFault a line) n (readFrom (after a line) (n + 1) (upTo newline (rest bytes (at + e + 1))) (beyond newline (rest bytes (at + e + 1))))
+      one-line : outcomeOf bytes
+          ≡ next (lineFault a line) n
+          (readFrom (after a line) (n + 1) (upTo newline (rest bytes (at + e + 1))) (beyond newline (rest bytes (at + e + 1))))
       unfolding readFrom
       one-line =
           let more = run-more newline (rest bytes at) e run (omega (arith, run-le newline (rest bytes at) e run)) in

@@ -23,7 +23,9 @@ use Rattle.lines.specs.declared.Word.{Word}
 use Rattle.lines.specs.declared.Line.{Line}
 use Rattle.lines.specs.Lines.{newline, upTo, beyond}
 use Rattle.lines.specs.Forms.{lineOf}
-use Rattle.sheet.specs.Sheet.{Above, atTop, belowMachine, amongParts, top, free, room, machineFault, costFault, partFault, fitFault, wordFault, lineFault, after, Outcome, refused, whole, ending, next, readFrom, sheetMost, outcomeOf, shown, readOf}
+use Rattle.sheet.specs.Sheet.{Above, atTop, belowMachine, amongParts, top, free, room, machineFault, costFault}
+use Rattle.sheet.specs.Sheet.{partFault, fitFault, wordFault, lineFault, after, Outcome, refused, whole, ending}
+use Rattle.sheet.specs.Sheet.{next, readFrom, sheetMost, outcomeOf, shown, readOf}
 
 -- ---- one line
 
@@ -45,7 +47,8 @@ part-small stage t parts =
     let fits : Bool = sized (wholePiece (t .times)) in
     let last : rule (room parts) 6 0 ≤ 8 = rule-small (room parts) 6 0 (omega arith) (omega arith) in
     let new : rule (free (t .name) parts) 4 (rule (room parts) 6 0) ≤ 8 = rule-small (free (t .name) parts) 4 (rule (room parts) 6 0) (omega arith) last in
-    rule-small (eqb stage amongParts) 8 (rule fits 3 (rule (free (t .name) parts) 4 (rule (room parts) 6 0))) (omega arith) (rule-small fits 3 (rule (free (t .name) parts) 4 (rule (room parts) 6 0)) (omega arith) new)
+    rule-small (eqb stage amongParts) 8 (rule fits 3 (rule (free (t .name) parts) 4 (rule (room parts) 6 0)))
+    (omega arith) (rule-small fits 3 (rule (free (t .name) parts) 4 (rule (room parts) 6 0)) (omega arith) new)
 
 fit-small : (stage : ℕ) (n p : Name) (parts tasks : List Task) → fitFault stage n p parts tasks ≤ 8
 unfolding fitFault
@@ -53,7 +56,8 @@ fit-small stage n p parts tasks =
     let known : Bool = not (free p parts) in
     let last : rule (room tasks) 6 0 ≤ 8 = rule-small (room tasks) 6 0 (omega arith) (omega arith) in
     let five : rule known 5 (rule (room tasks) 6 0) ≤ 8 = rule-small known 5 (rule (room tasks) 6 0) (omega arith) last in
-    rule-small (leb amongParts stage) 8 (rule (free n tasks) 4 (rule known 5 (rule (room tasks) 6 0))) (omega arith) (rule-small (free n tasks) 4 (rule known 5 (rule (room tasks) 6 0)) (omega arith) five)
+    rule-small (leb amongParts stage) 8 (rule (free n tasks) 4 (rule known 5 (rule (room tasks) 6 0)))
+    (omega arith) (rule-small (free n tasks) 4 (rule known 5 (rule (room tasks) 6 0)) (omega arith) five)
 
 word-small : (w : Word) (a : Above) (l : Line) → wordFault w a l ≤ 8
 word-small Word.Machine a l = machine-small (a .stage) (l .machine)
@@ -88,7 +92,9 @@ ending-small most a n [] low = by (leb amongParts (a .stage))
 from-small : (most : ℕ) (a : Above) (n : ℕ) (l : List ℕ) (ls : List (List ℕ)) → n + length ls ≤ most → Small most (readFrom a n l ls)
 unfolding readFrom
 from-small most a n l [] low = ending-small most a n l (omega arith)
-from-small most a n l (m ∷ ls) low = next-small most (lineFault a (lineOf l)) n (readFrom (after a (lineOf l)) (n + 1) m ls) (line-small a (lineOf l)) (omega arith) (from-small most (after a (lineOf l)) (n + 1) m ls (omega arith))
+from-small most a n l (m ∷ ls) low =
+    next-small most (lineFault a (lineOf l)) n (readFrom (after a (lineOf l)) (n + 1) m ls)
+    (line-small a (lineOf l)) (omega arith) (from-small most (after a (lineOf l)) (n + 1) m ls (omega arith))
 
 beyond-few : (b : ℕ) (s : List ℕ) → length (beyond b s) ≤ length s
 unfolding beyond
@@ -101,12 +107,14 @@ beyond-few b (x ∷ s) = by (eqb x b) (beyond-few b s)
 
 long-sheet : (bytes : List ℕ) → sheetMost < length bytes → outcomeOf bytes ≡ refused 9 0
 unfolding outcomeOf
-long-sheet bytes long = ap (λ (b : Bool). cond b (readFrom top 1 (upTo newline bytes) (beyond newline bytes)) (refused 9 0)) (lt-leb (length bytes) sheetMost long)
+long-sheet bytes long =
+    ap (λ (b : Bool). cond b (readFrom top 1 (upTo newline bytes) (beyond newline bytes)) (refused 9 0)) (lt-leb (length bytes) sheetMost long)
 
 short-sheet : (bytes : List ℕ) → length bytes ≤ sheetMost → Small 16385 (outcomeOf bytes)
 unfolding outcomeOf
 short-sheet bytes short =
-    subst (λ (b : Bool). Small 16385 (cond b (readFrom top 1 (upTo newline bytes) (beyond newline bytes)) (refused 9 0))) (sym (le-leb (length bytes) sheetMost short))
+    subst (λ (b : Bool). Small 16385 (cond b (readFrom top 1 (upTo newline bytes) (beyond newline bytes)) (refused 9 0)))
+    (sym (le-leb (length bytes) sheetMost short))
     (from-small 16385 top 1 (upTo newline bytes) (beyond newline bytes) (omega (arith, beyond-few newline bytes)))
 
 shown-small : (o : Outcome) → Small 16385 o → (shown o .number ≤ 8) × (shown o .carries ≤ 16385)
@@ -117,7 +125,10 @@ pub read-nine : (bytes : List ℕ) → (sheetMost < length bytes) ↔ (readOf by
 unfolding readOf
 read-nine bytes = (
   (λ long. ap (λ (o : Outcome). shown o .number) (long-sheet bytes long)),
-  (λ nine. elim (decLt sheetMost (length bytes)) [ yes long ↦ long | no short ↦ absurd (omega (arith, shown-small (outcomeOf bytes) (short-sheet bytes (omega arith)) .0)) ]),
+  (λ nine. elim (decLt sheetMost (length bytes)) [
+    | yes long ↦ long
+    | no short ↦ absurd (omega (arith, shown-small (outcomeOf bytes) (short-sheet bytes (omega arith)) .0))
+  ]),
 )
 
 pub read-small : (bytes : List ℕ) → (readOf bytes .number ≤ 9) × (readOf bytes .carries ≤ 16385)

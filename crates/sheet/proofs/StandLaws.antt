@@ -37,8 +37,13 @@ pub record Standing (bytes : List ℕ) (h : Head) (ps ts : Tasks) (at n : ℕ) :
   pub held : Holds above h ps ts
   pub reached : Reached bytes above at n
 
-pub stand-top : (bytes : List ℕ) (h : Head) (ps ts : Tasks) → length bytes ≤ sheetMost → h ≡ headOf top → ps ≡ tasksOf [] → ts ≡ tasksOf [] → Standing bytes h ps ts 0 1
-stand-top bytes h ps ts short head parts tasks = record { above = top; held = record { head-is = head; parts-are = parts; tasks-are = tasks }; reached = reached-top bytes short }
+pub stand-top : (bytes : List ℕ) (h : Head) (ps ts : Tasks)
+    → length bytes ≤ sheetMost → h ≡ headOf top → ps ≡ tasksOf [] → ts ≡ tasksOf [] → Standing bytes h ps ts 0 1
+stand-top bytes h ps ts short head parts tasks = record {
+  above = top;
+  held = record { head-is = head; parts-are = parts; tasks-are = tasks };
+  reached = reached-top bytes short;
+}
 
 module _ {bytes : List ℕ} {h : Head} {ps ts : Tasks} {at n : ℕ} (s : Standing bytes h ps ts at n) where
   pub parts-few : ps .count ≤ tasksMost
@@ -59,7 +64,8 @@ module _ {bytes : List ℕ} {h : Head} {ps ts : Tasks} {at n : ℕ} (s : Standin
   pub stand-missing : length bytes ≤ at → h .stage < amongParts → shown (refused 8 n) ≡ readOf bytes
   stand-missing end early = reached-missing bytes (s .above) at n (s .reached) end (rw stage-is early)
 
-  pub stand-whole : length bytes ≤ at → amongParts ≤ h .stage → record { number = 0; carries = 0; sheet = record { machine = h .machine; costs = h .costs; tasks = ts } } ≡ readOf bytes
+  pub stand-whole : length bytes ≤ at → amongParts ≤ h .stage
+      → record { number = 0; carries = 0; sheet = record { machine = h .machine; costs = h .costs; tasks = ts } } ≡ readOf bytes
   stand-whole end late = rw (s .held .head-is, s .held .tasks-are) (reached-whole bytes (s .above) at n (s .reached) end (rw stage-is late))
 
   pub record LineRead (e : ℕ) (l : Line) (source fault : ℕ) : Type 0 where
@@ -69,8 +75,10 @@ module _ {bytes : List ℕ} {h : Head} {ps ts : Tasks} {at n : ℕ} (s : Standin
     pub place : source ≡ placeOf 1 (sought (l .word) l) (listOf ps)
     pub judged : fault ≡ lineFault (s .above) l
 
-  module _ (e : ℕ) (run : e ≡ length (upTo newline (rest bytes at))) (ended : e ≡ length (rest bytes at) → ⊥) (l : Line) (says : l ≡ lineOf (take e (rest bytes at)))
-      (name : Name) (names : name ≡ sought (l .word) l) (i source : ℕ) (first : Seeking name ps i source) (all : ps .count ≤ i) (j twin : ℕ) (second : Seeking (l .task .name) ts j twin) (over : ts .count ≤ j)
+  module _ (e : ℕ) (run : e ≡ length (upTo newline (rest bytes at)))
+      (ended : e ≡ length (rest bytes at) → ⊥) (l : Line) (says : l ≡ lineOf (take e (rest bytes at)))
+      (name : Name) (names : name ≡ sought (l .word) l) (i source : ℕ) (first : Seeking name ps i source)
+      (all : ps .count ≤ i) (j twin : ℕ) (second : Seeking (l .task .name) ts j twin) (over : ts .count ≤ j)
       (fault : ℕ) (judged : (a : Above) → a .stage ≡ h .stage → Found a l source (ps .count) twin (ts .count) → fault ≡ lineFault a l) where
     source-at : source ≡ placeOf 1 (sought (l .word) l) (listOf ps)
     source-at = rw (← names) (seek-end name ps i source first all)
@@ -126,11 +134,31 @@ module _ {bytes : List ℕ} {h : Head} {ps ts : Tasks} {at n : ℕ} (s : Standin
         heads : next ≡ headOf (after (s .above) l)
         heads = head (s .above) (s .held .head-is)
 
-        pub stand-same : (w : Word) → l .word ≡ w → wordAfter w (s .above) l .parts ≡ s .above .parts → wordAfter w (s .above) l .tasks ≡ s .above .tasks → Standing bytes next ps ts (at + e + 1) (n + 1)
-        stand-same w word parts tasks = record { above = after (s .above) l; held = holds-same (s .above) h ps ts (s .held) l next heads w word parts tasks; reached = there }
+        pub stand-same : (w : Word) → l .word ≡ w → wordAfter w (s .above) l .parts ≡ s .above .parts
+            → wordAfter w (s .above) l .tasks ≡ s .above .tasks → Standing bytes next ps ts (at + e + 1) (n + 1)
+        stand-same w word parts tasks = record {
+          above = after (s .above) l;
+          held = holds-same (s .above) h ps ts (s .held) l next heads w word parts tasks;
+          reached = there;
+        }
 
-        pub stand-part : l .word ≡ Word.Part → Standing bytes next (record { count = ps .count + 1; list = set (ps .list) (ps .count) (l .task) }) ts (at + e + 1) (n + 1)
-        stand-part word = record { above = after (s .above) l; held = holds-part (s .above) h ps ts (s .held) l next heads word (line-part (s .above) l none word .space); reached = there }
+        pub stand-part : l .word ≡ Word.Part
+            → Standing bytes next (record { count = ps .count + 1; list = set (ps .list) (ps .count) (l .task) }) ts (at + e + 1) (n + 1)
+        stand-part word = record {
+          above = after (s .above) l;
+          held = holds-part (s .above) h ps ts (s .held) l next heads word (line-part (s .above) l none word .space);
+          reached = there;
+        }
 
-        pub stand-fit : l .word ≡ Word.Fit → (d : Task) → Standing bytes next ps (record { count = ts .count + 1; list = set (ts .list) (ts .count) (record { name = l .task .name; times = getD (ps .list) (source - 1) d .times }) }) (at + e + 1) (n + 1)
-        stand-fit word d = record { above = after (s .above) l; held = holds-task (s .above) h ps ts (s .held) l next heads word (line-fit (s .above) l none word .space) (getD (ps .list) (source - 1) d .times) (source-times word d); reached = there }
+        pub stand-fit : l .word ≡ Word.Fit → (d : Task)
+            → Standing bytes next ps (record {
+              count = ts .count + 1;
+              list = set (ts .list) (ts .count) (record { name = l .task .name; times = getD (ps .list) (source - 1) d .times });
+            })
+            (at + e + 1) (n + 1)
+        stand-fit word d = record {
+          above = after (s .above) l;
+          held = holds-task (s .above) h ps ts (s .held) l next heads word
+              (line-fit (s .above) l none word .space) (getD (ps .list) (source - 1) d .times) (source-times word d);
+          reached = there;
+        }

@@ -24,7 +24,8 @@ use Rattle.task.proofs.NameLaws.{same-name-exact}
 use Rattle.lines.specs.Lines.{newline, upTo, beyond}
 use Rattle.lines.specs.Forms.{noTask, lineOf}
 use Rattle.lines.proofs.LineLaws.{padded-take}
-use Rattle.sheet.specs.Sheet.{Above, top, amongParts, lineFault, partTimes, after, Outcome, refused, whole, ending, next, readFrom, sheetMost, outcomeOf, shown, readOf}
+use Rattle.sheet.specs.Sheet.{Above, top, amongParts, lineFault, partTimes, after, Outcome, refused, whole}
+use Rattle.sheet.specs.Sheet.{ending, next, readFrom, sheetMost, outcomeOf, shown, readOf}
 use Rattle.task.specs.Tasks.{listOf}
 use Rattle.sheet.specs.Fitted.{ended, linesOf}
 use Rattle.sheet.proofs.ReadLaws.{Fits, after-fits}
@@ -133,7 +134,8 @@ pub found : (Q : Task → Type 0) (k : ℕ) (n : Name) (ps : List Task) → Each
 found Q k n [] each some = absurd (some refl)
 found Q k n (p ∷ ps) each some = by-test (sameName n (p .name)) refl (λ h. found Q (k + 1) n ps (each .1) h) some
   where
-    by-test : (t : Bool) → sameName n (p .name) ≡ t → ((placeOf (k + 1) n ps ≡ 0 → ⊥) → Found Q n ps) → (cond t k (placeOf (k + 1) n ps) ≡ 0 → ⊥) → Found Q n (p ∷ ps)
+    by-test : (t : Bool) → sameName n (p .name) ≡ t
+        → ((placeOf (k + 1) n ps ≡ 0 → ⊥) → Found Q n ps) → (cond t k (placeOf (k + 1) n ps) ≡ 0 → ⊥) → Found Q n (p ∷ ps)
     by-test true e h some = record { part = p; holds = each .0; same = same-name-exact n (p .name) e; times = rw e }
     by-test false e h some =
         let f = h some in

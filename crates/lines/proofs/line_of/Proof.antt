@@ -20,22 +20,37 @@ no-line-requires : tie.Need-no-line-requires
 no-line-requires c κs = search needs
 
 returns : tie.Need-returns
-returns c = c .no-line .ensures ∙ line-short (c .before .before .before .before .args .line .now) (c .before .before .until .result) (c .before .before .until .ensures) (c .before .if1 .taken)
+returns c =
+    let until = c .before .before .until in
+    let start = c .before .before .before .before .args in
+    c .no-line .ensures ∙ line-short (start .line .now) (until .result) (until .ensures) (c .before .if1 .taken)
 
 slice-aggregate-word-of : tie.Need-slice-aggregate-word-of
-slice-aggregate-word-of c = sym (length-take-le (c .before .before .until .result) (c .before .before .before .before .args .line .now) (run-le tab (c .before .before .before .before .args .line .now) (c .before .before .until .result) (c .before .before .until .ensures)))
+slice-aggregate-word-of c =
+    let until = c .before .before .until in
+    let start = c .before .before .before .before .args in
+    sym (length-take-le (until .result) (start .line .now) (run-le tab (start .line .now) (until .result) (until .ensures)))
 
 word-of-requires : tie.Need-word-of-requires
 word-of-requires c κs = search needs
 
 add-rest : tie.Need-add-rest
-add-rest c = omega (arith, run-le tab (c .before .before .before .before .before .args .line .now) (c .before .before .before .until .result) (c .before .before .before .until .ensures))
+add-rest c =
+    let until = c .before .before .before .until in
+    let start = c .before .before .before .before .before .args in
+    omega (arith, run-le tab (start .line .now) (until .result) (until .ensures))
 
 sub-rest : tie.Need-sub-rest
-sub-rest c = omega (arith, run-le tab (c .before .before .before .before .before .args .line .now) (c .before .before .before .until .result) (c .before .before .before .until .ensures))
+sub-rest c =
+    let until = c .before .before .before .until in
+    let start = c .before .before .before .before .before .args in
+    omega (arith, run-le tab (start .line .now) (until .result) (until .ensures))
 
 part-rest-start : tie.Need-part-rest-start
-part-rest-start c = omega (arith, run-le tab (c .before .before .before .before .before .args .line .now) (c .before .before .before .until .result) (c .before .before .before .until .ensures))
+part-rest-start c =
+    let until = c .before .before .before .until in
+    let start = c .before .before .before .before .before .args in
+    omega (arith, run-le tab (start .line .now) (until .result) (until .ensures))
 
 part-rest-end : tie.Need-part-rest-end
 part-rest-end c = search needs
@@ -73,42 +88,52 @@ no-line-requires-2 c κs = search needs
 returns-2 : tie.Need-returns-2
 returns-2 c =
     let l = c .before .before .before .before .before .before .before .before .before .args .line .now in
-    let e = c .before .before .before .before .before .before .before .until .result in
-    let run = c .before .before .before .before .before .before .before .until .ensures in
+    let until = c .before .before .before .before .before .before .before .until in
+    let e = until .result in
+    let run = until .ensures in
     let more : e < length l = omega (arith, run-le tab l e run) in
-    c .machine-form .ensures ∙ line-some l e run more Word.Machine (sym (c .before .enum-told .given .1) ∙ c .before .before .before .before .word-of .ensures)
+    let word-of = c .before .before .before .before .word-of in
+    c .machine-form .ensures ∙ line-some l e run more Word.Machine (sym (c .before .enum-told .given .1) ∙ word-of .ensures)
 
 returns-3 : tie.Need-returns-3
 returns-3 c =
     let l = c .before .before .before .before .before .before .before .before .before .args .line .now in
-    let e = c .before .before .before .before .before .before .before .until .result in
-    let run = c .before .before .before .before .before .before .before .until .ensures in
+    let until = c .before .before .before .before .before .before .before .until in
+    let e = until .result in
+    let run = until .ensures in
     let more : e < length l = omega (arith, run-le tab l e run) in
-    c .cost-form .ensures ∙ line-some l e run more Word.Cost (sym (c .before .enum-told2 .given .1) ∙ c .before .before .before .before .word-of .ensures)
+    let word-of = c .before .before .before .before .word-of in
+    c .cost-form .ensures ∙ line-some l e run more Word.Cost (sym (c .before .enum-told2 .given .1) ∙ word-of .ensures)
 
 returns-4 : tie.Need-returns-4
 returns-4 c =
     let l = c .before .before .before .before .before .before .before .before .before .args .line .now in
-    let e = c .before .before .before .before .before .before .before .until .result in
-    let run = c .before .before .before .before .before .before .before .until .ensures in
+    let until = c .before .before .before .before .before .before .before .until in
+    let e = until .result in
+    let run = until .ensures in
     let more : e < length l = omega (arith, run-le tab l e run) in
-    c .part-form .ensures ∙ line-some l e run more Word.Part (sym (c .before .enum-told3 .given .1) ∙ c .before .before .before .before .word-of .ensures)
+    let word-of = c .before .before .before .before .word-of in
+    c .part-form .ensures ∙ line-some l e run more Word.Part (sym (c .before .enum-told3 .given .1) ∙ word-of .ensures)
 
 returns-5 : tie.Need-returns-5
 returns-5 c =
     let l = c .before .before .before .before .before .before .before .before .before .args .line .now in
-    let e = c .before .before .before .before .before .before .before .until .result in
-    let run = c .before .before .before .before .before .before .before .until .ensures in
+    let until = c .before .before .before .before .before .before .before .until in
+    let e = until .result in
+    let run = until .ensures in
     let more : e < length l = omega (arith, run-le tab l e run) in
-    c .fit-form .ensures ∙ line-some l e run more Word.Fit (sym (c .before .enum-told4 .given .1) ∙ c .before .before .before .before .word-of .ensures)
+    let word-of = c .before .before .before .before .word-of in
+    c .fit-form .ensures ∙ line-some l e run more Word.Fit (sym (c .before .enum-told4 .given .1) ∙ word-of .ensures)
 
 returns-6 : tie.Need-returns-6
 returns-6 c =
     let l = c .before .before .before .before .before .before .before .before .before .args .line .now in
-    let e = c .before .before .before .before .before .before .before .until .result in
-    let run = c .before .before .before .before .before .before .before .until .ensures in
+    let until = c .before .before .before .before .before .before .before .until in
+    let e = until .result in
+    let run = until .ensures in
     let more : e < length l = omega (arith, run-le tab l e run) in
-    c .no-line2 .ensures ∙ line-some l e run more Word.Other (sym (c .before .enum-told5 .given .1) ∙ c .before .before .before .before .word-of .ensures)
+    let word-of = c .before .before .before .before .word-of in
+    c .no-line2 .ensures ∙ line-some l e run more Word.Other (sym (c .before .enum-told5 .given .1) ∙ word-of .ensures)
 
 pub line-of-spec : {M : Type 1} → statement M
 line-of-spec =

@@ -18,7 +18,8 @@ until-requires c κs = search needs
 
 slice-aggregate-deed-of : tie.Need-slice-aggregate-deed-of
 slice-aggregate-deed-of c =
-    sym (length-take-le (c .before .until .result) (c .before .before .before .args .line .now) (run-le tab (c .before .before .before .args .line .now) (c .before .until .result) (c .before .until .ensures)))
+    let start = c .before .before .before .args in
+    sym (length-take-le (c .before .until .result) (start .line .now) (run-le tab (start .line .now) (c .before .until .result) (c .before .until .ensures)))
 
 deed-of-requires : tie.Need-deed-of-requires
 deed-of-requires c κs = search needs
@@ -28,19 +29,28 @@ bare-order-requires c κs = search needs
 
 returns : tie.Need-returns
 returns c =
-    c .bare-order .ensures ∙ order-bare (c .before .before .before .before .before .before .args .line .now) (c .before .before .before .before .until .result) (c .before .before .before .before .until .ensures) (c .before .before .deed-of .result) (c .before .before .deed-of .ensures) (c .before .if1 .taken)
+    let deed-of = c .before .before .deed-of in
+    let until = c .before .before .before .before .until in
+    let start = c .before .before .before .before .before .before .args in
+    c .bare-order .ensures ∙ order-bare (start .line .now) (until .result) (until .ensures) (deed-of .result) (deed-of .ensures) (c .before .if1 .taken)
 
 add-rest : tie.Need-add-rest
 add-rest c =
-    omega (arith, run-le tab (c .before .before .before .before .before .args .line .now) (c .before .before .before .until .result) (c .before .before .before .until .ensures))
+    let until = c .before .before .before .until in
+    let start = c .before .before .before .before .before .args in
+    omega (arith, run-le tab (start .line .now) (until .result) (until .ensures))
 
 sub-rest : tie.Need-sub-rest
 sub-rest c =
-    omega (arith, run-le tab (c .before .before .before .before .before .args .line .now) (c .before .before .before .until .result) (c .before .before .before .until .ensures))
+    let until = c .before .before .before .until in
+    let start = c .before .before .before .before .before .args in
+    omega (arith, run-le tab (start .line .now) (until .result) (until .ensures))
 
 part-rest-start : tie.Need-part-rest-start
 part-rest-start c =
-    omega (arith, run-le tab (c .before .before .before .before .before .args .line .now) (c .before .before .before .until .result) (c .before .before .before .until .ensures))
+    let until = c .before .before .before .until in
+    let start = c .before .before .before .before .before .args in
+    omega (arith, run-le tab (start .line .now) (until .result) (until .ensures))
 
 part-rest-end : tie.Need-part-rest-end
 part-rest-end c = search needs
@@ -78,42 +88,53 @@ no-order-requires-2 c κs = search needs
 returns-2 : tie.Need-returns-2
 returns-2 c =
     let l = c .before .before .before .before .before .before .before .before .before .args .line .now in
-    let e = c .before .before .before .before .before .before .before .until .result in
-    let run = c .before .before .before .before .before .before .before .until .ensures in
+    let until = c .before .before .before .before .before .before .before .until in
+    let e = until .result in
+    let run = until .ensures in
     let more : e < length l = omega (arith, run-le tab l e run) in
-    c .timed-order .ensures ∙ order-some l e run Deed.Add (sym (c .before .enum-told .given .1) ∙ c .before .before .before .before .before .deed-of .ensures) more
+    let deed-of = c .before .before .before .before .before .deed-of in
+    c .timed-order .ensures ∙ order-some l e run Deed.Add (sym (c .before .enum-told .given .1) ∙ deed-of .ensures) more
 
 returns-3 : tie.Need-returns-3
 returns-3 c =
     let l = c .before .before .before .before .before .before .before .before .before .args .line .now in
-    let e = c .before .before .before .before .before .before .before .until .result in
-    let run = c .before .before .before .before .before .before .before .until .ensures in
+    let until = c .before .before .before .before .before .before .before .until in
+    let e = until .result in
+    let run = until .ensures in
     let more : e < length l = omega (arith, run-le tab l e run) in
-    c .withdraw-order .ensures ∙ order-some l e run Deed.Withdraw (sym (c .before .enum-told2 .given .1) ∙ c .before .before .before .before .before .deed-of .ensures) more
+    let deed-of = c .before .before .before .before .before .deed-of in
+    c .withdraw-order .ensures ∙ order-some l e run Deed.Withdraw (sym (c .before .enum-told2 .given .1) ∙ deed-of .ensures) more
 
 returns-4 : tie.Need-returns-4
 returns-4 c =
     let l = c .before .before .before .before .before .before .before .before .before .args .line .now in
-    let e = c .before .before .before .before .before .before .before .until .result in
-    let run = c .before .before .before .before .before .before .before .until .ensures in
+    let until = c .before .before .before .before .before .before .before .until in
+    let e = until .result in
+    let run = until .ensures in
     let more : e < length l = omega (arith, run-le tab l e run) in
-    c .timed-order2 .ensures ∙ order-some l e run Deed.Retime (sym (c .before .enum-told3 .given .1) ∙ c .before .before .before .before .before .deed-of .ensures) more
+    let deed-of = c .before .before .before .before .before .deed-of in
+    c .timed-order2 .ensures ∙ order-some l e run Deed.Retime (sym (c .before .enum-told3 .given .1) ∙ deed-of .ensures) more
 
 returns-5 : tie.Need-returns-5
 returns-5 c =
     let l = c .before .before .before .before .before .before .before .before .before .args .line .now in
-    let e = c .before .before .before .before .before .before .before .until .result in
-    let run = c .before .before .before .before .before .before .before .until .ensures in
+    let until = c .before .before .before .before .before .before .before .until in
+    let e = until .result in
+    let run = until .ensures in
     let more : e < length l = omega (arith, run-le tab l e run) in
-    c .no-order .ensures ∙ list-more (upTo tab (rest l (e + 1))) (beyond tab (rest l (e + 1))) ∙ order-some l e run Deed.List (sym (c .before .enum-told4 .given .1) ∙ c .before .before .before .before .before .deed-of .ensures) more
+    let deed-of = c .before .before .before .before .before .deed-of in
+    c .no-order .ensures ∙ list-more (upTo tab (rest l (e + 1))) (beyond tab (rest l (e + 1)))
+    ∙ order-some l e run Deed.List (sym (c .before .enum-told4 .given .1) ∙ deed-of .ensures) more
 
 returns-6 : tie.Need-returns-6
 returns-6 c =
     let l = c .before .before .before .before .before .before .before .before .before .args .line .now in
-    let e = c .before .before .before .before .before .before .before .until .result in
-    let run = c .before .before .before .before .before .before .before .until .ensures in
+    let until = c .before .before .before .before .before .before .before .until in
+    let e = until .result in
+    let run = until .ensures in
     let more : e < length l = omega (arith, run-le tab l e run) in
-    c .no-order2 .ensures ∙ order-some l e run Deed.Other (sym (c .before .enum-told5 .given .1) ∙ c .before .before .before .before .before .deed-of .ensures) more
+    let deed-of = c .before .before .before .before .before .deed-of in
+    c .no-order2 .ensures ∙ order-some l e run Deed.Other (sym (c .before .enum-told5 .given .1) ∙ deed-of .ensures) more
 
 pub order-of-spec : {M : Type 1} → statement M
 order-of-spec =

@@ -23,7 +23,9 @@ shared-slice-read-if1 : tie.Need-shared-slice-read-if1 Inv-loop μ-loop
 shared-slice-read-if1 c = search needs
 
 returns : tie.Need-returns Inv-loop μ-loop
-returns c = omega (arith, run-here (c .before .before .before .before .args .b) (c .before .before .before .before .args .s .now) (c .before .before .before .loop .i) (c .before .before .loop-test .taken) (c .if1 .taken))
+returns c =
+    let start = c .before .before .before .before .args in
+    omega (arith, run-here (start .b) (start .s .now) (c .before .before .before .loop .i) (c .before .before .loop-test .taken) (c .if1 .taken))
 
 add-i : tie.Need-add-i Inv-loop μ-loop
 add-i c = search needs
@@ -32,10 +34,14 @@ loop-less : tie.Need-loop-less Inv-loop μ-loop
 loop-less c = search needs
 
 loop-again : tie.Need-loop-again Inv-loop μ-loop
-loop-again c = omega (arith, run-other (c .before .before .before .before .args .b) (c .before .before .before .before .args .s .now) (c .before .before .before .loop .i) (c .before .before .loop-test .taken) (c .if1 .left))
+loop-again c =
+    let start = c .before .before .before .before .args in
+    omega (arith, run-other (start .b) (start .s .now) (c .before .before .before .loop .i) (c .before .before .loop-test .taken) (c .if1 .left))
 
 returns-2 : tie.Need-returns-2 Inv-loop μ-loop
-returns-2 c = omega (arith, run-end (c .before .before .args .b) (c .before .before .args .s .now) (c .before .loop .i) (c .loop-test .left))
+returns-2 c =
+    let start = c .before .before .args in
+    omega (arith, run-end (start .b) (start .s .now) (c .before .loop .i) (c .loop-test .left))
 
 pub until-spec : {M : Type 1} → statement M
 until-spec =

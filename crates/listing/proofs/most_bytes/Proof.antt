@@ -33,7 +33,9 @@ mul-most : tie.Need-mul-most Inv-loop μ-loop
 mul-most c = omega (arith, c .seats .ensures .1)
 
 add-most : tie.Need-add-most Inv-loop μ-loop
-add-most c = omega (arith, c .seats .ensures .1, c .before .before .loop .inv .1, listed-few (c .before .before .before .args .t1) (c .before .before .loop .core), c .before .before .loop .inv .0)
+add-most c =
+    let loop = c .before .before .loop in
+    omega (arith, c .seats .ensures .1, loop .inv .1, listed-few (c .before .before .before .args .t1) (loop .core), loop .inv .0)
 
 add-core : tie.Need-add-core Inv-loop μ-loop
 add-core c = search needs
@@ -44,8 +46,14 @@ loop-less c = search needs
 loop-again : tie.Need-loop-again Inv-loop μ-loop
 loop-again c =
     let n = c .seats in
-    let l = c .before .before .loop in
-    (omega arith, omega (arith, l .inv .1, listed-more (c .before .before .before .args .t1) (l .core) (n .result) (n .ensures .0) (n .ensures .1) (n .ensures .2)))
+    let l = c .before .before .loop in (
+      omega arith,
+      omega (
+        arith,
+        l .inv .1,
+        listed-more (c .before .before .before .args .t1) (l .core) (n .result) (n .ensures .0) (n .ensures .1) (n .ensures .2),
+      ),
+    )
 
 returns : tie.Need-returns Inv-loop μ-loop
 returns c =

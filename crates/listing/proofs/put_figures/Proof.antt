@@ -25,11 +25,14 @@ same-length c = search needs
 
 returns : tie.Need-returns
 returns c =
-    let a = c .before .before .before .before .before .before .before .before .before .before .before .before .before .before .put-number in
-    let b = c .before .before .before .before .before .before .before .before .before .before .put-number2 in
-    let d = c .before .before .before .before .before .before .put-number3 in
-    let e = c .before .before .put-number4 in
-    (wrote-both (a .ensures .0) (wrote-both (b .ensures .0) (wrote-both (d .ensures .0) (e .ensures .0))), omega (arith, a .ensures .1, b .ensures .1, d .ensures .1, e .ensures .1))
+    let at-put-number3 = c .before .before .before .before .before .before in
+    let a = at-put-number3 .before .before .before .before .before .before .before .before .put-number in
+    let b = at-put-number3 .before .before .before .before .put-number2 in
+    let d = at-put-number3 .put-number3 in
+    let e = c .before .before .put-number4 in (
+      wrote-both (a .ensures .0) (wrote-both (b .ensures .0) (wrote-both (d .ensures .0) (e .ensures .0))),
+      omega (arith, a .ensures .1, b .ensures .1, d .ensures .1, e .ensures .1),
+    )
 
 pub put-figures-spec : {M : Type 1} → statement M
 put-figures-spec =

@@ -34,11 +34,12 @@ same-length c = search needs
 
 returns : tie.Need-returns
 returns c =
-    let a = c .before .before .before .before .before .before .before .before .before .before .before .before .put-bytes in
+    let at-wide = c .before .before .before .before .before .before .before .before in
+    let a = at-wide .before .before .before .before .put-bytes in
     let b = c .before .before .before .before .before .before .before .put-number in
     let d = c .before .before .put-number2 in
     let w = wrote-both (a .ensures) (wrote-both (b .ensures .0) (d .ensures .0)) in
-    (rw (sym (c .before .before .before .before .before .before .before .before .wide .ensures), sym (c .before .before .before .wide2 .ensures)) w, omega (arith, a .ensures .place, b .ensures .1, d .ensures .1))
+    (rw (sym (at-wide .wide .ensures), sym (c .before .before .before .wide2 .ensures)) w, omega (arith, a .ensures .place, b .ensures .1, d .ensures .1))
 
 pub put-header-spec : {M : Type 1} → statement M
 put-header-spec =

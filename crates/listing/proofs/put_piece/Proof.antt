@@ -56,15 +56,24 @@ same-length c = search needs
 
 returns : tie.Need-returns
 returns c =
-    let s = c .before .before .before .before .before .before .before .before .before .before .before .before .before .before .before .before .before .before .before .before .before .before .before .before .before .args in
-    let a = c .before .before .before .before .before .before .before .before .before .before .before .before .before .before .before .before .before .before .before .put-bytes in
-    let b = c .before .before .before .before .before .before .before .before .before .before .before .before .before .before .put-number in
-    let n = c .before .before .before .before .before .before .before .before .before .before .put-name in
-    let k = c .before .before .before .before .before .before .put-kind in
+    let at-put-kind = c .before .before .before .before .before .before in
+    let at-wide = at-put-kind .before .before .before .before .before .before .before .before .before in
+    let s = at-wide .before .before .before .before .before .before .before .before .before .before .args in
+    let a = at-wide .before .before .before .before .put-bytes in
+    let b = at-put-kind .before .before .before .before .before .before .before .before .put-number in
+    let n = at-put-kind .before .before .before .before .put-name in
+    let k = at-put-kind .put-kind in
     let f = c .before .before .put-figures in
     let w = wrote-both (a .ensures) (wrote-both (b .ensures .0) (wrote-both (n .ensures .0) (wrote-both (k .ensures .0) (f .ensures .0)))) in
-    let e = piece-line (s .costs) (s .core) (spelling (s .name)) (s .stored) (c .before .before .before .before .before .before .before .before .before .before .before .before .before .before .before .wide .result) (c .before .before .before .before .before .before .before .before .before .before .before .before .before .before .before .before .before .before .before .before .before .before .before .stored-piece .result) (c .before .before .before .before .before .before .before .before .before .before .before .before .before .before .before .before .before .before .before .before .before .before .charged-time .result) (c .before .before .before .before .before .before .before .before .before .before .before .before .before .before .before .wide .ensures) (c .before .before .before .before .before .before .before .before .before .before .before .before .before .before .before .before .before .before .before .before .before .before .before .stored-piece .ensures) (c .before .before .before .before .before .before .before .before .before .before .before .before .before .before .before .before .before .before .before .before .before .before .charged-time .ensures) in
-    (subst (λ (l : List ℕ). Wrote (s .buf .now) (s .at) l (f .result) (f .last .0)) e w, omega (arith, a .ensures .place, b .ensures .1, n .ensures .1, k .ensures .1, f .ensures .1))
+    let wide = at-wide .wide in
+    let charged-time = at-wide .before .before .before .before .before .before .before .charged-time in
+    let stored-piece = at-wide .before .before .before .before .before .before .before .before .stored-piece in
+    let e =
+    piece-line (s .costs) (s .core) (spelling (s .name)) (s .stored)
+    (wide .result) (stored-piece .result) (charged-time .result) (wide .ensures) (stored-piece .ensures) (charged-time .ensures) in (
+      subst (λ (l : List ℕ). Wrote (s .buf .now) (s .at) l (f .result) (f .last .0)) e w,
+      omega (arith, a .ensures .place, b .ensures .1, n .ensures .1, k .ensures .1, f .ensures .1),
+    )
 
 pub put-piece-spec : {M : Type 1} → statement M
 put-piece-spec =

@@ -49,7 +49,9 @@ put-header-requires : tie.Need-put-header-requires Inv-loop μ-loop
 put-header-requires c κs = search needs
 
 loop-holds : tie.Need-loop-holds Inv-loop μ-loop
-loop-holds c = (search needs, search needs, search needs, omega (arith, c .before .before .put-header .ensures .1, listed-none (c .before .before .before .before .before .args .t4 .lens)), wrote-none _ _)
+loop-holds c =
+    let start = c .before .before .before .before .before .args in
+    (search needs, search needs, search needs, omega (arith, c .before .before .put-header .ensures .1, listed-none (start .t4 .lens)), wrote-none _ _)
 
 mul-seats : tie.Need-mul-seats Inv-loop μ-loop
 mul-seats c = search needs
@@ -98,8 +100,11 @@ named-requires c κs = search needs
 
 put-piece-requires : tie.Need-put-piece-requires Inv-loop μ-loop
 put-piece-requires c κs =
-    let l = c .before .before .before .before .before .before .before .before .before .before .before .before .loop in
-    (omega (arith, l .inv .3, l .inv .1, l .inv .0, listed-few (c .before .before .before .before .before .before .before .before .before .before .before .before .before .before .before .before .before .before .args .t4 .lens) (l .core)), search needs)
+    let near-within = c .before .before .before .before .before .before in
+    let at-loop = near-within .before .before .before .before .before .before in
+    let l = at-loop .loop in
+    let start = at-loop .before .before .before .before .before .before .args in
+    (omega (arith, l .inv .3, l .inv .1, l .inv .0, listed-few (start .t4 .lens) (l .core)), search needs)
 
 add-i : tie.Need-add-i Inv-loop μ-loop
 add-i c = search needs
@@ -109,17 +114,30 @@ loop-less c = search needs
 
 loop-again : tie.Need-loop-again Inv-loop μ-loop
 loop-again c =
-    let b = c .before .before .before .before .before .before .before .before .before .before .before .before .before .before .before .before .before .before .before .before .before in
+    let near-within = c .before .before .before .before .before .before .before .before .before in
+    let at-loop = near-within .before .before .before .before .before .before in
+    let b = at-loop .before .before .before .before .before .before in
     let s = b .args in
     let p = planWith (s .costs) (s .t3) (s .t4) in
-    let h = c .before .before .before .before .before .before .before .before .before .before .before .before .before .before .before .before .before .before .put-header in
-    let l = c .before .before .before .before .before .before .before .before .before .before .before .before .before .before .before .loop in
+    let h = at-loop .before .before .before .put-header in
+    let l = at-loop .loop in
     let f = c .before .before .put-piece in
-    let n = c .before .before .before .before .before .before .before .before .before .before .before .before .seats .ensures in
-    let low : l .i < 64 = omega (arith, n .1, c .before .before .before .before .before .before .before .before .before .before .before .if1 .taken) in
-    let stored = c .before .before .before .before .before .before .before .numbered .ensures ∙ at-within (λ (x : Stored). x) (s .t4 .pieces) 79 _ _ _ blank (pieces-long b) (c .before .before .before .before .before .before .before .before .before .within .ensures .1) in
-    let name = c .before .before .before .before .named .ensures ∙ at-within (λ (t : Task). spelling (t .name)) (s .t3 .list) 64 _ _ _ past (tasks-long b) (c .before .before .before .before .before .before .within2 .ensures .1) in
-    (omega arith, omega (arith, low), omega (arith, n .0, c .before .before .before .before .before .before .before .before .before .before .before .if1 .taken), omega (arith, f .ensures .1, l .inv .3), subst (λ (t : List ℕ). Wrote (h .last .0) (h .result) t (f .result) (f .last .0)) (seat-more p (l .core) (rows-long b) (omega (arith, c .before .before .before .before .before .before .before .before .before .before .before .before .before .before .loop-test .taken)) (l .i) _ _ low stored name) (wrote-both (l .inv .4) (f .ensures .0)))
+    let n = near-within .before .before .before .seats .ensures in
+    let if1 = near-within .before .before .if1 in
+    let low : l .i < 64 = omega (arith, n .1, if1 .taken) in
+    let numbered = c .before .before .before .before .before .before .before .numbered in
+    let stored = numbered .ensures ∙ at-within (λ (x : Stored). x) (s .t4 .pieces) 79 _ _ _ blank (pieces-long b) (near-within .within .ensures .1) in
+    let named = c .before .before .before .before .named in
+    let within2 = c .before .before .before .before .before .before .within2 in
+    let name = named .ensures ∙ at-within (λ (t : Task). spelling (t .name)) (s .t3 .list) 64 _ _ _ past (tasks-long b) (within2 .ensures .1) in
+    let loop-test = near-within .before .before .before .before .before .loop-test in (
+      omega arith,
+      omega (arith, low),
+      omega (arith, n .0, if1 .taken),
+      omega (arith, f .ensures .1, l .inv .3),
+      subst (λ (t : List ℕ). Wrote (h .last .0) (h .result) t (f .result) (f .last .0))
+          (seat-more p (l .core) (rows-long b) (omega (arith, loop-test .taken)) (l .i) _ _ low stored name) (wrote-both (l .inv .4) (f .ensures .0)),
+    )
 
 add-core : tie.Need-add-core Inv-loop μ-loop
 add-core c = search needs
@@ -136,8 +154,14 @@ loop-again-2 c =
     let l = c .before .before .before .before .loop in
     let n = c .before .seats in
     let same : l .i ≡ n .result = row-all (l .i) (n .result) (getD (s .t4 .lens) (l .core) 0) (omega arith) (l .inv .1) (l .inv .2) (n .ensures .2) in
-    let more = listed-more (s .t4 .lens) (l .core) (n .result) (n .ensures .0) (n .ensures .1) (n .ensures .2) in
-    (omega arith, omega arith, omega arith, omega (arith, l .inv .3, same, more), subst (λ (t : List ℕ). Wrote (h .last .0) (h .result) t (l .k) (l .buf)) (row-over p (l .core) (rows-long b) (omega arith) (l .i) (n .result) (omega arith) (l .inv .1) (l .inv .2) (n .ensures .2)) (l .inv .4))
+    let more = listed-more (s .t4 .lens) (l .core) (n .result) (n .ensures .0) (n .ensures .1) (n .ensures .2) in (
+      omega arith,
+      omega arith,
+      omega arith,
+      omega (arith, l .inv .3, same, more),
+      subst (λ (t : List ℕ). Wrote (h .last .0) (h .result) t (l .k) (l .buf))
+          (row-over p (l .core) (rows-long b) (omega arith) (l .i) (n .result) (omega arith) (l .inv .1) (l .inv .2) (n .ensures .2)) (l .inv .4),
+    )
 
 same-length : tie.Need-same-length Inv-loop μ-loop
 same-length c =
@@ -153,8 +177,16 @@ returns c =
     let h = c .before .before .before .before .put-header in
     let l = c .before .loop in
     let all : l .core ≡ 16 = omega arith in
-    let none : l .i ≡ 0 = omega (arith, l .inv .2, ap (λ (q : ℕ). getD (s .t4 .lens) q 0) all, List·getD-eq-default (s .t4 .lens) 0 {n = 16} (omega (arith, lens-long b))) in
-    let rows : Wrote (h .last .0) (h .result) (entryLines (entriesOn p 16)) (l .k) (l .buf) = subst (λ (t : List ℕ). Wrote (h .last .0) (h .result) t (l .k) (l .buf)) (rw (all, none) (append-nil (entryLines (entriesOn p 16)))) (l .inv .4) in
+    let none : l .i ≡ 0 =
+    omega (
+      arith,
+      l .inv .2,
+      ap (λ (q : ℕ). getD (s .t4 .lens) q 0) all,
+      List·getD-eq-default (s .t4 .lens) 0 {n = 16} (omega (arith, lens-long b)),
+    ) in
+    let rows : Wrote (h .last .0) (h .result) (entryLines (entriesOn p 16)) (l .k) (l .buf) =
+    subst (λ (t : List ℕ). Wrote (h .last .0) (h .result) t (l .k) (l .buf))
+    (rw (all, none) (append-nil (entryLines (entriesOn p 16)))) (l .inv .4) in
     (wrote-both (h .ensures .0) rows, omega (arith, l .inv .3, none, ap (listedOn (s .t4 .lens)) all))
 
 pub put-plan-spec : {M : Type 1} → statement M

@@ -27,12 +27,15 @@ same-length c = search needs
 
 returns : tie.Need-returns
 returns c =
-    let p = c .before .before .before .before .before .before .before .before .args .plan in
-    let y = c .before .before .before .before .before .before .before .before .args .buf .now in
+    let start = c .before .before .before .before .before .before .before .before .args in
+    let p = start .plan in
+    let y = start .buf .now in
     let r = c .before .before .put-plan in
     let w = rw (listing-with p) at (r .ensures .0) in
     let j : r .result ≡ length (listingOf p) = w .place ∙ rw zero-add in
-    let fits : length (listingOf p) ≤ length y = omega (arith, j, r .ensures .1, c .before .before .before .before .before .most-bytes .ensures, c .before .before .before .before .if1 .taken) in
+    let if1 = c .before .before .before .before .if1 in
+    let most-bytes = c .before .before .before .before .before .most-bytes in
+    let fits : length (listingOf p) ≤ length y = omega (arith, j, r .ensures .1, most-bytes .ensures, if1 .taken) in
     (j, over-whole (listingOf p) y (r .last .0) (r .result) w fits, omega (arith, r .ensures .1, listed-few (p .layout .lens) 16))
 
 slice-relend-prefix-put-plan : tie.Need-slice-relend-prefix-put-plan
@@ -49,9 +52,10 @@ same-length-2 c = search needs
 
 returns-2 : tie.Need-returns-2
 returns-2 c =
-    let p = c .before .before .before .before .before .before .before .before .before .args .plan in
+    let start = c .before .before .before .before .before .before .before .before .before .args in
+    let p = start .plan in
     let t = listingOf p in
-    let y = c .before .before .before .before .before .before .before .before .before .args .buf .now in
+    let y = start .buf .now in
     let r = c .before .before .before .put-plan2 in
     let w = rw (listing-with p) at (r .ensures .0) in
     let j : r .result ≡ length t = w .place ∙ rw zero-add in
@@ -67,15 +71,21 @@ same-length-3 c = search needs
 
 returns-3 : tie.Need-returns-3
 returns-3 c =
-    let p = c .before .before .before .before .before .before .before .before .before .before .before .before .before .args .plan in
+    let at-put-plan2 = c .before .before .before .before .before .before .before in
+    let start = at-put-plan2 .before .before .before .before .before .before .args in
+    let p = start .plan in
     let t = listingOf p in
-    let y = c .before .before .before .before .before .before .before .before .before .before .before .before .before .args .buf .now in
-    let r = c .before .before .before .before .before .before .before .put-plan2 in
+    let y = start .buf .now in
+    let r = at-put-plan2 .put-plan2 in
     let w = rw (listing-with p) at (r .ensures .0) in
     let j : r .result ≡ length t = w .place ∙ rw zero-add in
     let q = c .before .before .put-plan3 in
     let v = rw (listing-with p) at (q .ensures .0) in
-    (v .place ∙ rw zero-add, second-pass t (r .last .0) y (q .last .0) (r .result) (q .result) w v (omega (arith, j, c .before .before .before .before .if2 .left)), omega (arith, q .ensures .1, listed-few (p .layout .lens) 16))
+    let if2 = c .before .before .before .before .if2 in (
+      v .place ∙ rw zero-add,
+      second-pass t (r .last .0) y (q .last .0) (r .result) (q .result) w v (omega (arith, j, if2 .left)),
+      omega (arith, q .ensures .1, listed-few (p .layout .lens) 16),
+    )
 
 pub write-listing-spec : {M : Type 1} → statement M
 write-listing-spec =

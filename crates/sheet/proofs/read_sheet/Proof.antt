@@ -13,7 +13,9 @@ use Rattle.lines.specs.Lines.{newline}
 use Rattle.lines.proofs.LineLaws.{rest, rest-length, run-le}
 use Rattle.sheet.proofs.DraftLaws.{Seeking, seek-start, seek-other, seek-here}
 use Rattle.sheet.proofs.ReadLaws.{read-long, reached-cut}
-use Rattle.sheet.proofs.StandLaws.{Standing, stand-top, parts-few, parts-long, tasks-few, tasks-long, stand-missing, stand-whole, LineRead, line-read, line-bad, part-space, task-space, source-some, source-low, stand-same, stand-part, stand-fit}
+use Rattle.sheet.proofs.StandLaws.{Standing, stand-top, parts-few, parts-long, tasks-few, tasks-long, stand-missing}
+use Rattle.sheet.proofs.StandLaws.{stand-whole, LineRead, line-read, line-bad, part-space, task-space, source-some}
+use Rattle.sheet.proofs.StandLaws.{source-low, stand-same, stand-part, stand-fit}
 use Rattle.sheet.proofs.read_sheet.Statement.{statement}
 use Rattle.sheet.proofs.read_sheet.Tie as tie
 use Rattle.sheet.proofs.read_sheet.Lts as lts
@@ -46,8 +48,23 @@ abbrev μ-loop : tie.MeasureT-loop
 μ-loop bytes head₀ parts₀ tasks₀ at₀ number₀ head parts tasks at number = length bytes - at
 
 -- the line that was read, and what was found for it
-judged : (c : tie.After-line-fault Inv-loop2 μ-loop2 Inv-loop3 μ-loop3 Inv-loop μ-loop) → LineRead (c .before .before .before .before .before .before .before .before .before .before .before .before .before .before .loop .inv .1) (c .before .before .before .before .before .before .before .before .before .before .before .until .result) (c .before .before .before .before .before .before .before .before .line-of .result) (c .before .before .before .before .loop2 .source) (c .line-fault .result)
-judged c = line-read (c .before .before .before .before .before .before .before .before .before .before .before .before .before .before .loop .inv .1) (c .before .before .before .before .before .before .before .before .before .before .before .until .result) (c .before .before .before .before .before .before .before .before .before .before .before .until .ensures) (c .before .before .before .before .before .before .before .before .before .before .if2 .left) (c .before .before .before .before .before .before .before .before .line-of .result) (c .before .before .before .before .before .before .before .before .line-of .ensures) (c .before .before .before .before .before .part-sought .result) (c .before .before .before .before .before .part-sought .ensures) (c .before .before .before .before .loop2 .i) (c .before .before .before .before .loop2 .source) (c .before .before .before .before .loop2 .inv) (c .before .before .before .loop2-test .left) (c .before .before .loop3 .j) (c .before .before .loop3 .twin) (c .before .before .loop3 .inv) (c .before .loop3-test .left) (c .line-fault .result) (c .line-fault .ensures)
+judged : (c : tie.After-line-fault Inv-loop2 μ-loop2 Inv-loop3 μ-loop3 Inv-loop μ-loop)
+    → let loop2 = c .before .before .before .before .loop2 in
+    let at-line-of = c .before .before .before .before .before .before .before .before in
+    let until = at-line-of .before .before .before .until in
+    let loop = at-line-of .before .before .before .before .before .before .loop in
+    LineRead (loop .inv .1) (until .result) (at-line-of .line-of .result) (loop2 .source) (c .line-fault .result)
+judged c =
+    let loop3 = c .before .before .loop3 in
+    let loop2 = c .before .before .before .before .loop2 in
+    let part-sought = c .before .before .before .before .before .part-sought in
+    let line-of = c .before .before .before .before .before .before .before .before .line-of in
+    let at-if2 = c .before .before .before .before .before .before .before .before .before .before in
+    let until = at-if2 .before .until in
+    let loop = at-if2 .before .before .before .before .loop in
+    line-read (loop .inv .1) (until .result) (until .ensures) (at-if2 .if2 .left) (line-of .result) (line-of .ensures)
+    (part-sought .result) (part-sought .ensures) (loop2 .i) (loop2 .source) (loop2 .inv) (c .before .before .before .loop2-test .left)
+    (loop3 .j) (loop3 .twin) (loop3 .inv) (c .before .loop3-test .left) (c .line-fault .result) (c .line-fault .ensures)
 
 refuse-requires : tie.Need-refuse-requires Inv-loop2 μ-loop2 Inv-loop3 μ-loop3 Inv-loop μ-loop
 refuse-requires c κs = search needs
@@ -65,7 +82,10 @@ no-tasks-requires-2 : tie.Need-no-tasks-requires-2 Inv-loop2 μ-loop2 Inv-loop3 
 no-tasks-requires-2 c κs = search needs
 
 loop-holds : tie.Need-loop-holds Inv-loop2 μ-loop2 Inv-loop3 μ-loop3 Inv-loop μ-loop
-loop-holds c = (c .before .before .before .before .before .if1 .left, stand-top _ _ _ _ (c .before .before .before .before .before .if1 .left) (rw (c .before .before .before .before .no-line .ensures)) (c .before .no-tasks .ensures) (c .no-tasks2 .ensures))
+loop-holds c =
+    let no-line = c .before .before .before .before .no-line in
+    let if1 = c .before .before .before .before .before .if1 in
+    (if1 .left, stand-top _ _ _ _ (if1 .left) (rw (no-line .ensures)) (c .before .no-tasks .ensures) (c .no-tasks2 .ensures))
 
 sub-rest : tie.Need-sub-rest Inv-loop2 μ-loop2 Inv-loop3 μ-loop3 Inv-loop μ-loop
 sub-rest c = omega (arith, c .before .loop .inv .1 .reached .on)
@@ -84,13 +104,23 @@ refuse-requires-2 c κs = search needs
 
 returns-2 : tie.Need-returns-2 Inv-loop2 μ-loop2 Inv-loop3 μ-loop3 Inv-loop μ-loop
 returns-2 c =
-    let s = c .before .before .before .before .before .loop .inv .1 in
-    c .refuse2 .ensures ∙ reached-cut (c .before .before .before .before .before .before .before .before .before .before .before .before .before .args .bytes .now) (s .above) (c .before .before .before .before .before .loop .at) (c .before .before .before .before .before .loop .number) (s .reached) (c .before .before .until .result) (c .before .before .until .ensures) (c .before .before .before .before .loop-test .taken) (c .before .if2 .taken)
+    let at-loop = c .before .before .before .before .before in
+    let loop = at-loop .loop in
+    let s = loop .inv .1 in
+    let until = c .before .before .until in
+    let loop-test = c .before .before .before .before .loop-test in
+    let start = at-loop .before .before .before .before .before .before .before .before .args in
+    c .refuse2 .ensures
+    ∙ reached-cut (start .bytes .now)
+    (s .above) (loop .at) (loop .number) (s .reached) (until .result) (until .ensures) (loop-test .taken) (c .before .if2 .taken)
 
 slice-aggregate-line-of : tie.Need-slice-aggregate-line-of Inv-loop2 μ-loop2 Inv-loop3 μ-loop3 Inv-loop μ-loop
 slice-aggregate-line-of c =
-    let s = rest (c .before .before .before .before .before .before .before .before .before .before .before .before .before .args .bytes .now) (c .before .before .before .before .before .loop .at) in
-    sym (length-take-le (c .before .before .until .result) s (run-le newline s (c .before .before .until .result) (c .before .before .until .ensures)))
+    let at-loop = c .before .before .before .before .before in
+    let start = at-loop .before .before .before .before .before .before .before .before .args in
+    let s = rest (start .bytes .now) (at-loop .loop .at) in
+    let until = c .before .before .until in
+    sym (length-take-le (until .result) s (run-le newline s (until .result) (until .ensures)))
 
 line-of-requires : tie.Need-line-of-requires Inv-loop2 μ-loop2 Inv-loop3 μ-loop3 Inv-loop μ-loop
 line-of-requires c κs = search needs
@@ -102,13 +132,22 @@ loop2-holds : tie.Need-loop2-holds Inv-loop2 μ-loop2 Inv-loop3 μ-loop3 Inv-loo
 loop2-holds c = seek-start _ _
 
 mul-part : tie.Need-mul-part Inv-loop2 μ-loop2 Inv-loop3 μ-loop3 Inv-loop μ-loop
-mul-part c = omega (arith, c .loop2-test .taken, parts-few (c .before .before .before .before .before .before .before .before .before .before .before .loop .inv .1))
+mul-part c =
+    let at-line-of = c .before .before .before .before .before in
+    let loop = at-line-of .before .before .before .before .before .before .loop in
+    omega (arith, c .loop2-test .taken, parts-few (loop .inv .1))
 
 element-copy-out-part : tie.Need-element-copy-out-part Inv-loop2 μ-loop2 Inv-loop3 μ-loop3 Inv-loop μ-loop
-element-copy-out-part c = omega (arith, c .loop2-test .taken, parts-few (c .before .before .before .before .before .before .before .before .before .before .before .loop .inv .1))
+element-copy-out-part c =
+    let at-line-of = c .before .before .before .before .before in
+    let loop = at-line-of .before .before .before .before .before .before .loop in
+    omega (arith, c .loop2-test .taken, parts-few (loop .inv .1))
 
 add-i : tie.Need-add-i Inv-loop2 μ-loop2 Inv-loop3 μ-loop3 Inv-loop μ-loop
-add-i c = omega (arith, c .before .loop2-test .taken, parts-few (c .before .before .before .before .before .before .before .before .before .before .before .before .loop .inv .1))
+add-i c =
+    let at-line-of = c .before .before .before .before .before .before in
+    let loop = at-line-of .before .before .before .before .before .before .loop in
+    omega (arith, c .before .loop2-test .taken, parts-few (loop .inv .1))
 
 same-name-requires : tie.Need-same-name-requires Inv-loop2 μ-loop2 Inv-loop3 μ-loop3 Inv-loop μ-loop
 same-name-requires c κs = search needs
@@ -118,28 +157,45 @@ loop2-less c = omega (arith, c .before .before .before .loop2-test .taken)
 
 loop2-again : tie.Need-loop2-again Inv-loop2 μ-loop2 Inv-loop3 μ-loop3 Inv-loop μ-loop
 loop2-again c =
-    let s = c .before .before .before .before .before .before .before .before .before .before .before .before .before .before .loop .inv .1 in
-    seek-here _ _ (c .before .before .before .before .loop2 .i) (c .before .before .before .before .loop2 .source) (c .before .before .before .before .loop2 .inv) (c .before .before .before .loop2-test .taken) (omega (arith, c .before .before .before .loop2-test .taken, parts-few s, parts-long s)) past (sym (c .before .same-name .ensures) ∙ c .if3 .taken)
+    let at-loop2 = c .before .before .before .before in
+    let s = at-loop2 .before .before .before .before .before .before .before .before .before .before .loop .inv .1 in
+    let loop2-test = c .before .before .before .loop2-test in
+    let loop2 = at-loop2 .loop2 in
+    seek-here _ _ (loop2 .i) (loop2 .source) (loop2 .inv) (loop2-test .taken)
+    (omega (arith, loop2-test .taken, parts-few s, parts-long s)) past (sym (c .before .same-name .ensures) ∙ c .if3 .taken)
 
 loop2-less-2 : tie.Need-loop2-less-2 Inv-loop2 μ-loop2 Inv-loop3 μ-loop3 Inv-loop μ-loop
 loop2-less-2 c = omega (arith, c .before .before .before .loop2-test .taken)
 
 loop2-again-2 : tie.Need-loop2-again-2 Inv-loop2 μ-loop2 Inv-loop3 μ-loop3 Inv-loop μ-loop
 loop2-again-2 c =
-    let s = c .before .before .before .before .before .before .before .before .before .before .before .before .before .before .loop .inv .1 in
-    seek-other _ _ (c .before .before .before .before .loop2 .i) (c .before .before .before .before .loop2 .source) (c .before .before .before .before .loop2 .inv) (c .before .before .before .loop2-test .taken) (omega (arith, c .before .before .before .loop2-test .taken, parts-few s, parts-long s)) past (sym (c .before .same-name .ensures) ∙ c .if3 .left)
+    let at-loop2 = c .before .before .before .before in
+    let s = at-loop2 .before .before .before .before .before .before .before .before .before .before .loop .inv .1 in
+    let loop2-test = c .before .before .before .loop2-test in
+    let loop2 = at-loop2 .loop2 in
+    seek-other _ _ (loop2 .i) (loop2 .source) (loop2 .inv) (loop2-test .taken)
+    (omega (arith, loop2-test .taken, parts-few s, parts-long s)) past (sym (c .before .same-name .ensures) ∙ c .if3 .left)
 
 loop3-holds : tie.Need-loop3-holds Inv-loop2 μ-loop2 Inv-loop3 μ-loop3 Inv-loop μ-loop
 loop3-holds c = seek-start _ _
 
 mul-other : tie.Need-mul-other Inv-loop2 μ-loop2 Inv-loop3 μ-loop3 Inv-loop μ-loop
-mul-other c = omega (arith, c .loop3-test .taken, tasks-few (c .before .before .before .before .before .before .before .before .before .before .before .before .before .loop .inv .1))
+mul-other c =
+    let at-line-of = c .before .before .before .before .before .before .before in
+    let loop = at-line-of .before .before .before .before .before .before .loop in
+    omega (arith, c .loop3-test .taken, tasks-few (loop .inv .1))
 
 element-copy-out-other : tie.Need-element-copy-out-other Inv-loop2 μ-loop2 Inv-loop3 μ-loop3 Inv-loop μ-loop
-element-copy-out-other c = omega (arith, c .loop3-test .taken, tasks-few (c .before .before .before .before .before .before .before .before .before .before .before .before .before .loop .inv .1))
+element-copy-out-other c =
+    let at-line-of = c .before .before .before .before .before .before .before in
+    let loop = at-line-of .before .before .before .before .before .before .loop in
+    omega (arith, c .loop3-test .taken, tasks-few (loop .inv .1))
 
 add-j : tie.Need-add-j Inv-loop2 μ-loop2 Inv-loop3 μ-loop3 Inv-loop μ-loop
-add-j c = omega (arith, c .before .loop3-test .taken, tasks-few (c .before .before .before .before .before .before .before .before .before .before .before .before .before .before .loop .inv .1))
+add-j c =
+    let at-line-of = c .before .before .before .before .before .before .before .before in
+    let loop = at-line-of .before .before .before .before .before .before .loop in
+    omega (arith, c .before .loop3-test .taken, tasks-few (loop .inv .1))
 
 same-name-requires-2 : tie.Need-same-name-requires-2 Inv-loop2 μ-loop2 Inv-loop3 μ-loop3 Inv-loop μ-loop
 same-name-requires-2 c κs = search needs
@@ -149,16 +205,26 @@ loop3-less c = omega (arith, c .before .before .before .loop3-test .taken)
 
 loop3-again : tie.Need-loop3-again Inv-loop2 μ-loop2 Inv-loop3 μ-loop3 Inv-loop μ-loop
 loop3-again c =
-    let s = c .before .before .before .before .before .before .before .before .before .before .before .before .before .before .before .before .loop .inv .1 in
-    seek-here _ _ (c .before .before .before .before .loop3 .j) (c .before .before .before .before .loop3 .twin) (c .before .before .before .before .loop3 .inv) (c .before .before .before .loop3-test .taken) (omega (arith, c .before .before .before .loop3-test .taken, tasks-few s, tasks-long s)) past (sym (c .before .same-name2 .ensures) ∙ c .if4 .taken)
+    let at-loop3 = c .before .before .before .before in
+    let at-line-of = at-loop3 .before .before .before .before .before .before in
+    let s = at-line-of .before .before .before .before .before .before .loop .inv .1 in
+    let loop3-test = c .before .before .before .loop3-test in
+    let loop3 = at-loop3 .loop3 in
+    seek-here _ _ (loop3 .j) (loop3 .twin) (loop3 .inv) (loop3-test .taken)
+    (omega (arith, loop3-test .taken, tasks-few s, tasks-long s)) past (sym (c .before .same-name2 .ensures) ∙ c .if4 .taken)
 
 loop3-less-2 : tie.Need-loop3-less-2 Inv-loop2 μ-loop2 Inv-loop3 μ-loop3 Inv-loop μ-loop
 loop3-less-2 c = omega (arith, c .before .before .before .loop3-test .taken)
 
 loop3-again-2 : tie.Need-loop3-again-2 Inv-loop2 μ-loop2 Inv-loop3 μ-loop3 Inv-loop μ-loop
 loop3-again-2 c =
-    let s = c .before .before .before .before .before .before .before .before .before .before .before .before .before .before .before .before .loop .inv .1 in
-    seek-other _ _ (c .before .before .before .before .loop3 .j) (c .before .before .before .before .loop3 .twin) (c .before .before .before .before .loop3 .inv) (c .before .before .before .loop3-test .taken) (omega (arith, c .before .before .before .loop3-test .taken, tasks-few s, tasks-long s)) past (sym (c .before .same-name2 .ensures) ∙ c .if4 .left)
+    let at-loop3 = c .before .before .before .before in
+    let at-line-of = at-loop3 .before .before .before .before .before .before in
+    let s = at-line-of .before .before .before .before .before .before .loop .inv .1 in
+    let loop3-test = c .before .before .before .loop3-test in
+    let loop3 = at-loop3 .loop3 in
+    seek-other _ _ (loop3 .j) (loop3 .twin) (loop3 .inv) (loop3-test .taken)
+    (omega (arith, loop3-test .taken, tasks-few s, tasks-long s)) past (sym (c .before .same-name2 .ensures) ∙ c .if4 .left)
 
 line-fault-requires : tie.Need-line-fault-requires Inv-loop2 μ-loop2 Inv-loop3 μ-loop3 Inv-loop μ-loop
 line-fault-requires c κs = search needs
@@ -167,100 +233,228 @@ refuse-requires-3 : tie.Need-refuse-requires-3 Inv-loop2 μ-loop2 Inv-loop3 μ-l
 refuse-requires-3 c κs = search needs
 
 returns-3 : tie.Need-returns-3 Inv-loop2 μ-loop2 Inv-loop3 μ-loop3 Inv-loop μ-loop
-returns-3 c = c .refuse3 .ensures ∙ line-bad (c .before .before .before .before .before .before .before .before .before .before .before .before .before .before .before .before .loop .inv .1) (judged (c .before .before)) (c .before .if5 .taken)
+returns-3 c =
+    let at-part-sought = c .before .before .before .before .before .before .before in
+    let loop = at-part-sought .before .before .before .before .before .before .before .before .before .loop in
+    c .refuse3 .ensures ∙ line-bad (loop .inv .1) (judged (c .before .before)) (c .before .if5 .taken)
 
 head-after-requires : tie.Need-head-after-requires Inv-loop2 μ-loop2 Inv-loop3 μ-loop3 Inv-loop μ-loop
 head-after-requires c κs = search needs
 
 add-at : tie.Need-add-at Inv-loop2 μ-loop2 Inv-loop3 μ-loop3 Inv-loop μ-loop
-add-at c = omega (arith, run-le newline (rest (c .before .before .before .before .before .before .before .before .before .before .before .before .before .before .before .before .before .before .before .before .before .before .before .before .args .bytes .now) (c .before .before .before .before .before .before .before .before .before .before .before .before .before .before .before .before .loop .at)) (c .before .before .before .before .before .before .before .before .before .before .before .before .before .until .result) (c .before .before .before .before .before .before .before .before .before .before .before .before .before .until .ensures), rest-length (c .before .before .before .before .before .before .before .before .before .before .before .before .before .before .before .before .before .before .before .before .before .before .before .before .args .bytes .now) (c .before .before .before .before .before .before .before .before .before .before .before .before .before .before .before .before .loop .at), c .before .before .before .before .before .before .before .before .before .before .before .before .before .before .before .before .loop .inv .0)
+add-at c =
+    let at-part-sought = c .before .before .before .before .before .before .before in
+    let until = at-part-sought .before .before .before .before .before .before .until in
+    let at-loop = at-part-sought .before .before .before .before .before .before .before .before .before in
+    let loop = at-loop .loop in
+    let start = at-loop .before .before .before .before .before .before .before .before .args in
+    omega (
+      arith,
+      run-le newline (rest (start .bytes .now) (loop .at)) (until .result) (until .ensures),
+      rest-length (start .bytes .now) (loop .at),
+      loop .inv .0,
+    )
 
 add-at-2 : tie.Need-add-at-2 Inv-loop2 μ-loop2 Inv-loop3 μ-loop3 Inv-loop μ-loop
-add-at-2 c = omega (arith, run-le newline (rest (c .before .before .before .before .before .before .before .before .before .before .before .before .before .before .before .before .before .before .before .before .before .before .before .before .args .bytes .now) (c .before .before .before .before .before .before .before .before .before .before .before .before .before .before .before .before .loop .at)) (c .before .before .before .before .before .before .before .before .before .before .before .before .before .until .result) (c .before .before .before .before .before .before .before .before .before .before .before .before .before .until .ensures), rest-length (c .before .before .before .before .before .before .before .before .before .before .before .before .before .before .before .before .before .before .before .before .before .before .before .before .args .bytes .now) (c .before .before .before .before .before .before .before .before .before .before .before .before .before .before .before .before .loop .at), c .before .before .before .before .before .before .before .before .before .before .before .before .before .before .before .before .loop .inv .0)
+add-at-2 c =
+    let at-part-sought = c .before .before .before .before .before .before .before in
+    let until = at-part-sought .before .before .before .before .before .before .until in
+    let at-loop = at-part-sought .before .before .before .before .before .before .before .before .before in
+    let loop = at-loop .loop in
+    let start = at-loop .before .before .before .before .before .before .before .before .args in
+    omega (
+      arith,
+      run-le newline (rest (start .bytes .now) (loop .at)) (until .result) (until .ensures),
+      rest-length (start .bytes .now) (loop .at),
+      loop .inv .0,
+    )
 
 add-number : tie.Need-add-number Inv-loop2 μ-loop2 Inv-loop3 μ-loop3 Inv-loop μ-loop
-add-number c = omega (arith, c .before .before .before .before .before .before .before .before .before .before .before .before .before .before .before .before .loop .inv .1 .reached .near, c .before .before .before .before .before .before .before .before .before .before .before .before .before .before .before .before .loop .inv .1 .reached .on, c .before .before .before .before .before .before .before .before .before .before .before .before .before .before .before .before .loop .inv .0)
+add-number c =
+    let at-part-sought = c .before .before .before .before .before .before .before in
+    let loop = at-part-sought .before .before .before .before .before .before .before .before .before .loop in
+    omega (arith, loop .inv .1 .reached .near, loop .inv .1 .reached .on, loop .inv .0)
 
 enum-told : tie.Need-enum-told Inv-loop2 μ-loop2 Inv-loop3 μ-loop3 Inv-loop μ-loop
 enum-told c = search needs
 
 loop-less : tie.Need-loop-less Inv-loop2 μ-loop2 Inv-loop3 μ-loop3 Inv-loop μ-loop
-loop-less c = omega (arith, c .before .before .before .before .before .before .before .before .before .before .before .before .before .before .before .before .before .loop-test .taken)
+loop-less c =
+    let at-part-sought = c .before .before .before .before .before .before .before .before .before in
+    let loop-test = at-part-sought .before .before .before .before .before .before .before .before .loop-test in
+    omega (arith, loop-test .taken)
 
 loop-again : tie.Need-loop-again Inv-loop2 μ-loop2 Inv-loop3 μ-loop3 Inv-loop μ-loop
-loop-again c = (c .before .before .before .before .before .before .before .before .before .before .before .before .before .before .before .before .before .before .loop .inv .0, stand-same (c .before .before .before .before .before .before .before .before .before .before .before .before .before .before .before .before .before .before .loop .inv .1) (judged (c .before .before .before .before)) (c .before .before .before .if5 .left) (c .before .before .head-after .result) (c .before .before .head-after .ensures) Word.Machine (c .enum-told .given .1) refl refl)
+loop-again c =
+    let head-after = c .before .before .head-after in
+    let at-line-fault = c .before .before .before .before in
+    let at-line-of = at-line-fault .before .before .before .before .before .before .before .before in
+    let loop = at-line-of .before .before .before .before .before .before .loop in (
+      loop .inv .0,
+      stand-same (loop .inv .1) (judged at-line-fault)
+          (c .before .before .before .if5 .left) (head-after .result) (head-after .ensures) Word.Machine (c .enum-told .given .1) refl refl,
+    )
 
 enum-told-2 : tie.Need-enum-told-2 Inv-loop2 μ-loop2 Inv-loop3 μ-loop3 Inv-loop μ-loop
 enum-told-2 c = search needs
 
 loop-less-2 : tie.Need-loop-less-2 Inv-loop2 μ-loop2 Inv-loop3 μ-loop3 Inv-loop μ-loop
-loop-less-2 c = omega (arith, c .before .before .before .before .before .before .before .before .before .before .before .before .before .before .before .before .before .loop-test .taken)
+loop-less-2 c =
+    let at-part-sought = c .before .before .before .before .before .before .before .before .before in
+    let loop-test = at-part-sought .before .before .before .before .before .before .before .before .loop-test in
+    omega (arith, loop-test .taken)
 
 loop-again-2 : tie.Need-loop-again-2 Inv-loop2 μ-loop2 Inv-loop3 μ-loop3 Inv-loop μ-loop
-loop-again-2 c = (c .before .before .before .before .before .before .before .before .before .before .before .before .before .before .before .before .before .before .loop .inv .0, stand-same (c .before .before .before .before .before .before .before .before .before .before .before .before .before .before .before .before .before .before .loop .inv .1) (judged (c .before .before .before .before)) (c .before .before .before .if5 .left) (c .before .before .head-after .result) (c .before .before .head-after .ensures) Word.Cost (c .enum-told2 .given .1) refl refl)
+loop-again-2 c =
+    let head-after = c .before .before .head-after in
+    let at-line-fault = c .before .before .before .before in
+    let at-line-of = at-line-fault .before .before .before .before .before .before .before .before in
+    let loop = at-line-of .before .before .before .before .before .before .loop in (
+      loop .inv .0,
+      stand-same (loop .inv .1) (judged at-line-fault)
+          (c .before .before .before .if5 .left) (head-after .result) (head-after .ensures) Word.Cost (c .enum-told2 .given .1) refl refl,
+    )
 
 enum-told-3 : tie.Need-enum-told-3 Inv-loop2 μ-loop2 Inv-loop3 μ-loop3 Inv-loop μ-loop
 enum-told-3 c = search needs
 
 mul-task : tie.Need-mul-task Inv-loop2 μ-loop2 Inv-loop3 μ-loop3 Inv-loop μ-loop
-mul-task c = omega (arith, part-space (c .before .before .before .before .before .before .before .before .before .before .before .before .before .before .before .before .before .before .loop .inv .1) (judged (c .before .before .before .before)) (c .before .before .before .if5 .left) (c .enum-told3 .given .1))
+mul-task c =
+    let at-line-fault = c .before .before .before .before in
+    let at-line-of = at-line-fault .before .before .before .before .before .before .before .before in
+    let loop = at-line-of .before .before .before .before .before .before .loop in
+    omega (arith, part-space (loop .inv .1) (judged at-line-fault) (c .before .before .before .if5 .left) (c .enum-told3 .given .1))
 
 element-set-from-task : tie.Need-element-set-from-task Inv-loop2 μ-loop2 Inv-loop3 μ-loop3 Inv-loop μ-loop
-element-set-from-task c = omega (arith, part-space (c .before .before .before .before .before .before .before .before .before .before .before .before .before .before .before .before .before .before .loop .inv .1) (judged (c .before .before .before .before)) (c .before .before .before .if5 .left) (c .enum-told3 .given .1))
+element-set-from-task c =
+    let at-line-fault = c .before .before .before .before in
+    let at-line-of = at-line-fault .before .before .before .before .before .before .before .before in
+    let loop = at-line-of .before .before .before .before .before .before .loop in
+    omega (arith, part-space (loop .inv .1) (judged at-line-fault) (c .before .before .before .if5 .left) (c .enum-told3 .given .1))
 
 add-parts : tie.Need-add-parts Inv-loop2 μ-loop2 Inv-loop3 μ-loop3 Inv-loop μ-loop
-add-parts c = omega (arith, part-space (c .before .before .before .before .before .before .before .before .before .before .before .before .before .before .before .before .before .before .loop .inv .1) (judged (c .before .before .before .before)) (c .before .before .before .if5 .left) (c .enum-told3 .given .1))
+add-parts c =
+    let at-line-fault = c .before .before .before .before in
+    let at-line-of = at-line-fault .before .before .before .before .before .before .before .before in
+    let loop = at-line-of .before .before .before .before .before .before .loop in
+    omega (arith, part-space (loop .inv .1) (judged at-line-fault) (c .before .before .before .if5 .left) (c .enum-told3 .given .1))
 
 loop-less-3 : tie.Need-loop-less-3 Inv-loop2 μ-loop2 Inv-loop3 μ-loop3 Inv-loop μ-loop
-loop-less-3 c = omega (arith, c .before .before .before .before .before .before .before .before .before .before .before .before .before .before .before .before .before .loop-test .taken)
+loop-less-3 c =
+    let at-part-sought = c .before .before .before .before .before .before .before .before .before in
+    let loop-test = at-part-sought .before .before .before .before .before .before .before .before .loop-test in
+    omega (arith, loop-test .taken)
 
 loop-again-3 : tie.Need-loop-again-3 Inv-loop2 μ-loop2 Inv-loop3 μ-loop3 Inv-loop μ-loop
-loop-again-3 c = (c .before .before .before .before .before .before .before .before .before .before .before .before .before .before .before .before .before .before .loop .inv .0, stand-part (c .before .before .before .before .before .before .before .before .before .before .before .before .before .before .before .before .before .before .loop .inv .1) (judged (c .before .before .before .before)) (c .before .before .before .if5 .left) (c .before .before .head-after .result) (c .before .before .head-after .ensures) (c .enum-told3 .given .1))
+loop-again-3 c =
+    let head-after = c .before .before .head-after in
+    let at-line-fault = c .before .before .before .before in
+    let at-line-of = at-line-fault .before .before .before .before .before .before .before .before in
+    let loop = at-line-of .before .before .before .before .before .before .loop in (
+      loop .inv .0,
+      stand-part (loop .inv .1) (judged at-line-fault)
+          (c .before .before .before .if5 .left) (head-after .result) (head-after .ensures) (c .enum-told3 .given .1),
+    )
 
 enum-told-4 : tie.Need-enum-told-4 Inv-loop2 μ-loop2 Inv-loop3 μ-loop3 Inv-loop μ-loop
 enum-told-4 c = search needs
 
 sub-k : tie.Need-sub-k Inv-loop2 μ-loop2 Inv-loop3 μ-loop3 Inv-loop μ-loop
-sub-k c = omega (arith, source-some (c .before .before .before .before .before .before .before .before .before .before .before .before .before .before .before .before .before .before .loop .inv .1) (judged (c .before .before .before .before)) (c .before .before .before .if5 .left) (c .enum-told4 .given .1))
+sub-k c =
+    let at-line-fault = c .before .before .before .before in
+    let at-line-of = at-line-fault .before .before .before .before .before .before .before .before in
+    let loop = at-line-of .before .before .before .before .before .before .loop in
+    omega (arith, source-some (loop .inv .1) (judged at-line-fault) (c .before .before .before .if5 .left) (c .enum-told4 .given .1))
 
 mul-part-2 : tie.Need-mul-part-2 Inv-loop2 μ-loop2 Inv-loop3 μ-loop3 Inv-loop μ-loop
-mul-part-2 c = omega (arith, source-low (c .before .before .before .before .before .before .before .before .before .before .before .before .before .before .before .before .before .before .loop .inv .1) (judged (c .before .before .before .before)) (c .before .before .before .if5 .left) (c .enum-told4 .given .1))
+mul-part-2 c =
+    let at-line-fault = c .before .before .before .before in
+    let at-line-of = at-line-fault .before .before .before .before .before .before .before .before in
+    let loop = at-line-of .before .before .before .before .before .before .loop in
+    omega (arith, source-low (loop .inv .1) (judged at-line-fault) (c .before .before .before .if5 .left) (c .enum-told4 .given .1))
 
 element-copy-out-part-2 : tie.Need-element-copy-out-part-2 Inv-loop2 μ-loop2 Inv-loop3 μ-loop3 Inv-loop μ-loop
-element-copy-out-part-2 c = omega (arith, source-low (c .before .before .before .before .before .before .before .before .before .before .before .before .before .before .before .before .before .before .loop .inv .1) (judged (c .before .before .before .before)) (c .before .before .before .if5 .left) (c .enum-told4 .given .1))
+element-copy-out-part-2 c =
+    let at-line-fault = c .before .before .before .before in
+    let at-line-of = at-line-fault .before .before .before .before .before .before .before .before in
+    let loop = at-line-of .before .before .before .before .before .before .loop in
+    omega (arith, source-low (loop .inv .1) (judged at-line-fault) (c .before .before .before .if5 .left) (c .enum-told4 .given .1))
 
 mul-t56 : tie.Need-mul-t56 Inv-loop2 μ-loop2 Inv-loop3 μ-loop3 Inv-loop μ-loop
-mul-t56 c = omega (arith, task-space (c .before .before .before .before .before .before .before .before .before .before .before .before .before .before .before .before .before .before .before .before .loop .inv .1) (judged (c .before .before .before .before .before .before)) (c .before .before .before .before .before .if5 .left) (c .before .before .enum-told4 .given .1))
+mul-t56 c =
+    let if5 = c .before .before .before .before .before .if5 in
+    let at-line-fault = c .before .before .before .before .before .before in
+    let at-line-of = at-line-fault .before .before .before .before .before .before .before .before in
+    let loop = at-line-of .before .before .before .before .before .before .loop in
+    omega (arith, task-space (loop .inv .1) (judged at-line-fault) (if5 .left) (c .before .before .enum-told4 .given .1))
 
 element-set-from-tasks : tie.Need-element-set-from-tasks Inv-loop2 μ-loop2 Inv-loop3 μ-loop3 Inv-loop μ-loop
-element-set-from-tasks c = omega (arith, task-space (c .before .before .before .before .before .before .before .before .before .before .before .before .before .before .before .before .before .before .before .before .loop .inv .1) (judged (c .before .before .before .before .before .before)) (c .before .before .before .before .before .if5 .left) (c .before .before .enum-told4 .given .1))
+element-set-from-tasks c =
+    let if5 = c .before .before .before .before .before .if5 in
+    let at-line-fault = c .before .before .before .before .before .before in
+    let at-line-of = at-line-fault .before .before .before .before .before .before .before .before in
+    let loop = at-line-of .before .before .before .before .before .before .loop in
+    omega (arith, task-space (loop .inv .1) (judged at-line-fault) (if5 .left) (c .before .before .enum-told4 .given .1))
 
 add-tasks : tie.Need-add-tasks Inv-loop2 μ-loop2 Inv-loop3 μ-loop3 Inv-loop μ-loop
-add-tasks c = omega (arith, task-space (c .before .before .before .before .before .before .before .before .before .before .before .before .before .before .before .before .before .before .before .before .loop .inv .1) (judged (c .before .before .before .before .before .before)) (c .before .before .before .before .before .if5 .left) (c .before .before .enum-told4 .given .1))
+add-tasks c =
+    let if5 = c .before .before .before .before .before .if5 in
+    let at-line-fault = c .before .before .before .before .before .before in
+    let at-line-of = at-line-fault .before .before .before .before .before .before .before .before in
+    let loop = at-line-of .before .before .before .before .before .before .loop in
+    omega (arith, task-space (loop .inv .1) (judged at-line-fault) (if5 .left) (c .before .before .enum-told4 .given .1))
 
 loop-less-4 : tie.Need-loop-less-4 Inv-loop2 μ-loop2 Inv-loop3 μ-loop3 Inv-loop μ-loop
-loop-less-4 c = omega (arith, c .before .before .before .before .before .before .before .before .before .before .before .before .before .before .before .before .before .before .before .loop-test .taken)
+loop-less-4 c =
+    let at-loop2 = c .before .before .before .before .before .before .before .before .before .before in
+    let loop-test = at-loop2 .before .before .before .before .before .before .before .before .before .loop-test in
+    omega (arith, loop-test .taken)
 
 loop-again-4 : tie.Need-loop-again-4 Inv-loop2 μ-loop2 Inv-loop3 μ-loop3 Inv-loop μ-loop
-loop-again-4 c = (c .before .before .before .before .before .before .before .before .before .before .before .before .before .before .before .before .before .before .before .before .loop .inv .0, stand-fit (c .before .before .before .before .before .before .before .before .before .before .before .before .before .before .before .before .before .before .before .before .loop .inv .1) (judged (c .before .before .before .before .before .before)) (c .before .before .before .before .before .if5 .left) (c .before .before .before .before .head-after .result) (c .before .before .before .before .head-after .ensures) (c .before .before .enum-told4 .given .1) past)
+loop-again-4 c =
+    let head-after = c .before .before .before .before .head-after in
+    let if5 = c .before .before .before .before .before .if5 in
+    let at-line-fault = c .before .before .before .before .before .before in
+    let at-line-of = at-line-fault .before .before .before .before .before .before .before .before in
+    let loop = at-line-of .before .before .before .before .before .before .loop in (
+      loop .inv .0,
+      stand-fit (loop .inv .1) (judged at-line-fault)
+          (if5 .left) (head-after .result) (head-after .ensures) (c .before .before .enum-told4 .given .1) past,
+    )
 
 enum-told-5 : tie.Need-enum-told-5 Inv-loop2 μ-loop2 Inv-loop3 μ-loop3 Inv-loop μ-loop
 enum-told-5 c = search needs
 
 loop-less-5 : tie.Need-loop-less-5 Inv-loop2 μ-loop2 Inv-loop3 μ-loop3 Inv-loop μ-loop
-loop-less-5 c = omega (arith, c .before .before .before .before .before .before .before .before .before .before .before .before .before .before .before .before .before .loop-test .taken)
+loop-less-5 c =
+    let at-part-sought = c .before .before .before .before .before .before .before .before .before in
+    let loop-test = at-part-sought .before .before .before .before .before .before .before .before .loop-test in
+    omega (arith, loop-test .taken)
 
 loop-again-5 : tie.Need-loop-again-5 Inv-loop2 μ-loop2 Inv-loop3 μ-loop3 Inv-loop μ-loop
-loop-again-5 c = (c .before .before .before .before .before .before .before .before .before .before .before .before .before .before .before .before .before .before .loop .inv .0, stand-same (c .before .before .before .before .before .before .before .before .before .before .before .before .before .before .before .before .before .before .loop .inv .1) (judged (c .before .before .before .before)) (c .before .before .before .if5 .left) (c .before .before .head-after .result) (c .before .before .head-after .ensures) Word.Other (c .enum-told5 .given .1) refl refl)
+loop-again-5 c =
+    let head-after = c .before .before .head-after in
+    let at-line-fault = c .before .before .before .before in
+    let at-line-of = at-line-fault .before .before .before .before .before .before .before .before in
+    let loop = at-line-of .before .before .before .before .before .before .loop in (
+      loop .inv .0,
+      stand-same (loop .inv .1) (judged at-line-fault)
+          (c .before .before .before .if5 .left) (head-after .result) (head-after .ensures) Word.Other (c .enum-told5 .given .1) refl refl,
+    )
 
 refuse-requires-4 : tie.Need-refuse-requires-4 Inv-loop2 μ-loop2 Inv-loop3 μ-loop3 Inv-loop μ-loop
 refuse-requires-4 c κs = search needs
 
 returns-4 : tie.Need-returns-4 Inv-loop2 μ-loop2 Inv-loop3 μ-loop3 Inv-loop μ-loop
-returns-4 c = c .refuse4 .ensures ∙ stand-missing (c .before .before .before .before .loop .inv .1) (c .before .before .before .loop-test .left) (c .before .if6 .taken)
+returns-4 c =
+    let loop = c .before .before .before .before .loop in
+    c .refuse4 .ensures ∙ stand-missing (loop .inv .1) (c .before .before .before .loop-test .left) (c .before .if6 .taken)
 
 returns-5 : tie.Need-returns-5 Inv-loop2 μ-loop2 Inv-loop3 μ-loop3 Inv-loop μ-loop
-returns-5 c = stand-whole (c .before .before .before .before .before .loop .inv .1) (c .before .before .before .before .loop-test .left) (c .before .before .if6 .left)
+returns-5 c =
+    let loop-test = c .before .before .before .before .loop-test in
+    let loop = c .before .before .before .before .before .loop in
+    stand-whole (loop .inv .1) (loop-test .left) (c .before .before .if6 .left)
 
 pub read-sheet-spec : {M : Type 1} → statement M
 read-sheet-spec =

@@ -21,7 +21,9 @@ unfolding padded
 loop-holds c = search needs
 
 returns : tie.Need-returns Inv-loop μ-loop
-returns c = name-cut (c .before .before .before .args .f .now) (c .before .before .loop .bytes) (c .before .before .loop .i) (c .before .before .loop .inv .2) (omega arith)
+returns c =
+    let loop = c .before .before .loop in
+    name-cut (c .before .before .before .args .f .now) (loop .bytes) (loop .i) (loop .inv .2) (omega arith)
 
 shared-slice-read-bytes : tie.Need-shared-slice-read-bytes Inv-loop μ-loop
 shared-slice-read-bytes c = search needs
@@ -36,7 +38,10 @@ loop-less : tie.Need-loop-less Inv-loop μ-loop
 loop-less c = search needs
 
 loop-again : tie.Need-loop-again Inv-loop μ-loop
-loop-again c = (omega arith, omega arith, name-more (c .before .before .before .before .args .f .now) (c .before .before .before .loop .bytes) (c .before .before .before .loop .i) (c .before .before .before .loop .inv .2) (omega arith) (omega arith))
+loop-again c =
+    let loop = c .before .before .before .loop in
+    let start = c .before .before .before .before .args in
+    (omega arith, omega arith, name-more (start .f .now) (loop .bytes) (loop .i) (loop .inv .2) (omega arith) (omega arith))
 
 returns-2 : tie.Need-returns-2 Inv-loop μ-loop
 returns-2 c = name-all (c .before .before .args .f .now) (c .before .loop .bytes) (c .before .loop .i) (c .before .loop .inv .2) (omega arith)

@@ -9,7 +9,8 @@ use native.Mathlib.Omega.{arith}
 use borrow.Author.Tests.{not-true, not-false}
 use lib.ListN.{length, drop, getD}
 use Rattle.lines.specs.Lines.{isDigit, every, valueFrom, valueOf}
-use Rattle.lines.proofs.FieldLaws.{every-at, every-end, value-at, value-end, digit-low, digit-high, digits-small, digits-more, number-short, number-long, number-led, number-other, number-yes}
+use Rattle.lines.proofs.FieldLaws.{every-at, every-end, value-at, value-end, digit-low, digit-high, digits-small}
+use Rattle.lines.proofs.FieldLaws.{digits-more, number-short, number-long, number-led, number-other, number-yes}
 use Rattle.lines.proofs.fields.number_of.Statement.{statement}
 use Rattle.lines.proofs.fields.number_of.Tie as tie
 
@@ -29,7 +30,9 @@ no-number-requires-2 : tie.Need-no-number-requires-2 Inv-loop μ-loop
 no-number-requires-2 c κs = search needs
 
 returns-2 : tie.Need-returns-2 Inv-loop μ-loop
-returns-2 c = c .no-number2 .ensures ∙ number-long (c .before .before .before .before .args .f .now) (c .before .if2 .taken)
+returns-2 c =
+    let start = c .before .before .before .before .args in
+    c .no-number2 .ensures ∙ number-long (start .f .now) (c .before .if2 .taken)
 
 unled-requires : tie.Need-unled-requires Inv-loop μ-loop
 unled-requires c κs = search needs
@@ -38,7 +41,10 @@ no-number-requires-3 : tie.Need-no-number-requires-3 Inv-loop μ-loop
 no-number-requires-3 c κs = search needs
 
 returns-3 : tie.Need-returns-3 Inv-loop μ-loop
-returns-3 c = c .no-number3 .ensures ∙ number-led (c .before .before .before .before .before .before .args .f .now) (sym (c .before .before .unled .ensures) ∙ not-true (c .before .before .unled .result) (c .before .if3 .taken))
+returns-3 c =
+    let unled = c .before .before .unled in
+    let start = c .before .before .before .before .before .before .args in
+    c .no-number3 .ensures ∙ number-led (start .f .now) (sym (unled .ensures) ∙ not-true (unled .result) (c .before .if3 .taken))
 
 loop-holds : tie.Need-loop-holds Inv-loop μ-loop
 loop-holds c = search needs
@@ -54,23 +60,35 @@ no-number-requires-4 c κs = search needs
 
 returns-4 : tie.Need-returns-4 Inv-loop μ-loop
 returns-4 c =
-    let f = c .before .before .before .before .before .before .before .before .before .before .before .args .f .now in
-    let i = c .before .before .before .before .before .loop .i in
-    let bad : isDigit (getD f i 0) ≡ false = sym (c .before .before .is-digit .ensures) ∙ not-true (c .before .before .is-digit .result) (c .before .if4 .taken) in
+    let at-loop = c .before .before .before .before .before in
+    let f = at-loop .before .before .before .before .before .before .args .f .now in
+    let loop = at-loop .loop in
+    let i = loop .i in
+    let is-digit = c .before .before .is-digit in
+    let bad : isDigit (getD f i 0) ≡ false = sym (is-digit .ensures) ∙ not-true (is-digit .result) (c .before .if4 .taken) in
     let rest = every isDigit (drop (i + 1) f) in
-    c .no-number4 .ensures ∙ number-other f (c .before .before .before .before .before .loop .inv .2 ∙ every-at isDigit f i (c .before .before .before .before .loop-test .taken) ∙ ap (λ (t : Bool). t && rest) bad)
+    let loop-test = c .before .before .before .before .loop-test in
+    c .no-number4 .ensures ∙ number-other f (loop .inv .2 ∙ every-at isDigit f i (loop-test .taken) ∙ ap (λ (t : Bool). t && rest) bad)
 
 mul-value : tie.Need-mul-value Inv-loop μ-loop
-mul-value c = omega (arith, digits-small (c .before .before .before .before .loop .value) (c .before .before .before .before .loop .i) (c .before .before .before .before .loop .inv .1) (omega arith))
+mul-value c =
+    let loop = c .before .before .before .before .loop in
+    omega (arith, digits-small (loop .value) (loop .i) (loop .inv .1) (omega arith))
 
 wide-requires : tie.Need-wide-requires Inv-loop μ-loop
 wide-requires c κs = search needs
 
 sub-value : tie.Need-sub-value Inv-loop μ-loop
-sub-value c = omega (arith, digit-low (getD (c .before .before .before .before .before .before .before .before .before .before .before .args .f .now) (c .before .before .before .before .before .loop .i) 0) (sym (c .before .before .is-digit .ensures) ∙ not-false (c .before .before .is-digit .result) (c .before .if4 .left)))
+sub-value c =
+    let is-digit = c .before .before .is-digit in
+    let at-loop = c .before .before .before .before .before in
+    let start = at-loop .before .before .before .before .before .before .args in
+    omega (arith, digit-low (getD (start .f .now) (at-loop .loop .i) 0) (sym (is-digit .ensures) ∙ not-false (is-digit .result) (c .before .if4 .left)))
 
 add-value : tie.Need-add-value Inv-loop μ-loop
-add-value c = omega (arith, digits-small (c .before .before .before .before .before .loop .value) (c .before .before .before .before .before .loop .i) (c .before .before .before .before .before .loop .inv .1) (omega arith))
+add-value c =
+    let loop = c .before .before .before .before .before .loop in
+    omega (arith, digits-small (loop .value) (loop .i) (loop .inv .1) (omega arith))
 
 add-i : tie.Need-add-i Inv-loop μ-loop
 add-i c = search needs
@@ -80,23 +98,34 @@ loop-less c = search needs
 
 loop-again : tie.Need-loop-again Inv-loop μ-loop
 loop-again c =
-    let f = c .before .before .before .before .before .before .before .before .before .before .before .args .f .now in
-    let i = c .before .before .before .before .before .loop .i in
+    let at-loop = c .before .before .before .before .before in
+    let f = at-loop .before .before .before .before .before .before .args .f .now in
+    let loop = at-loop .loop in
+    let i = loop .i in
     let b = getD f i 0 in
-    let digit : isDigit b ≡ true = sym (c .before .before .is-digit .ensures) ∙ not-false (c .before .before .is-digit .result) (c .before .if4 .left) in
-    let low : i < length f = c .before .before .before .before .loop-test .taken in
+    let is-digit = c .before .before .is-digit in
+    let digit : isDigit b ≡ true = sym (is-digit .ensures) ∙ not-false (is-digit .result) (c .before .if4 .left) in
+    let loop-test = c .before .before .before .before .loop-test in
+    let low : i < length f = loop-test .taken in
     let wide = c .wide .result in
     let same : wide ≡ b = c .wide .ensures .0 in
     let rest = every isDigit (drop (i + 1) f) in
-    let value = c .before .before .before .before .before .loop .value * 10 + (b - 48) in
-    (omega arith, digits-more (c .before .before .before .before .before .loop .value) i (wide - 48) (c .before .before .before .before .before .loop .inv .1) (omega (arith, digit-high b digit)), c .before .before .before .before .before .loop .inv .2 ∙ every-at isDigit f i low ∙ ap (λ (t : Bool). t && rest) digit, c .before .before .before .before .before .loop .inv .3 ∙ value-at (c .before .before .before .before .before .loop .value) f i low ∙ ap (λ (v : ℕ). valueFrom (c .before .before .before .before .before .loop .value * 10 + (v - 48)) (drop (i + 1) f)) (sym same))
+    let value = loop .value * 10 + (b - 48) in (
+      omega arith,
+      digits-more (loop .value) i (wide - 48) (loop .inv .1) (omega (arith, digit-high b digit)),
+      loop .inv .2 ∙ every-at isDigit f i low ∙ ap (λ (t : Bool). t && rest) digit,
+      loop .inv .3 ∙ value-at (loop .value) f i low ∙ ap (λ (v : ℕ). valueFrom (loop .value * 10 + (v - 48)) (drop (i + 1) f)) (sym same),
+    )
 
 returns-5 : tie.Need-returns-5 Inv-loop μ-loop
 returns-5 c =
     let f = c .before .before .before .before .before .before .before .args .f .now in
-    let i = c .before .loop .i in
+    let loop = c .before .loop in
+    let i = loop .i in
     let short : length f ≤ i = c .loop-test .left in
-    number-yes f (c .before .loop .value) (omega arith) (omega arith) (sym (c .before .before .before .unled .ensures) ∙ not-false (c .before .before .before .unled .result) (c .before .before .if3 .left)) (c .before .loop .inv .2 ∙ every-end isDigit f i short) (sym (c .before .loop .inv .3 ∙ value-end (c .before .loop .value) f i short))
+    let unled = c .before .before .before .unled in
+    number-yes f (loop .value) (omega arith) (omega arith) (sym (unled .ensures) ∙ not-false (unled .result) (c .before .before .if3 .left))
+    (loop .inv .2 ∙ every-end isDigit f i short) (sym (loop .inv .3 ∙ value-end (loop .value) f i short))
 
 pub number-of-spec : {M : Type 1} → statement M
 number-of-spec =

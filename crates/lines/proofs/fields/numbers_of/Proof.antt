@@ -36,7 +36,9 @@ until-requires c κs = search needs
 
 slice-aggregate-number-of : tie.Need-slice-aggregate-number-of Inv-loop μ-loop
 slice-aggregate-number-of c =
-    let s = rest (c .before .before .before .before .before .before .args .s .now) (c .before .before .before .before .loop .at) in
+    let loop = c .before .before .before .before .loop in
+    let start = c .before .before .before .before .before .before .args in
+    let s = rest (start .s .now) (loop .at) in
     sym (length-take-le (c .before .until .result) s (omega (arith, run-le tab s (c .before .until .result) (c .before .until .ensures))))
 
 number-of-requires : tie.Need-number-of-requires Inv-loop μ-loop
@@ -46,7 +48,14 @@ no-numbers-requires : tie.Need-no-numbers-requires Inv-loop μ-loop
 no-numbers-requires c κs = search needs
 
 returns : tie.Need-returns Inv-loop μ-loop
-returns c = c .no-numbers .ensures ∙ passed-bad (c .before .before .before .before .before .before .before .before .before .before .args .s .now) (c .before .before .before .before .before .before .before .before .loop .values) (c .before .before .before .before .before .before .before .before .loop .at) (c .before .before .before .before .before .before .before .before .loop .i) (c .before .before .before .before .before .before .before .before .loop .inv) (c .before .before .before .before .before .until .result) (c .before .before .before .before .before .until .ensures) (c .before .before .before .number-of .result) (c .before .before .before .number-of .ensures) (not-true (c .before .before .before .number-of .result .ok) (c .before .if1 .taken))
+returns c =
+    let number-of = c .before .before .before .number-of in
+    let until = c .before .before .before .before .before .until in
+    let loop = c .before .before .before .before .before .before .before .before .loop in
+    let start = c .before .before .before .before .before .before .before .before .before .before .args in
+    c .no-numbers .ensures
+    ∙ passed-bad (start .s .now) (loop .values) (loop .at) (loop .i) (loop .inv)
+    (until .result) (until .ensures) (number-of .result) (number-of .ensures) (not-true (number-of .result .ok) (c .before .if1 .taken))
 
 mul-values : tie.Need-mul-values Inv-loop μ-loop
 mul-values c = search needs
@@ -58,29 +67,52 @@ add-i : tie.Need-add-i Inv-loop μ-loop
 add-i c = search needs
 
 returns-2 : tie.Need-returns-2 Inv-loop μ-loop
-returns-2 c = passed-last (c .before .before .before .before .before .before .before .before .before .before .args .s .now) (c .before .before .before .before .before .before .before .before .loop .values) (c .before .before .before .before .before .before .before .before .loop .at) (c .before .before .before .before .before .before .before .before .loop .i) (c .before .before .before .before .before .before .before .before .loop .inv) (c .before .before .before .before .before .until .result) (c .before .before .before .before .before .until .ensures) (c .before .before .before .number-of .result) (c .before .before .before .number-of .ensures) (not-false (c .before .before .before .number-of .result .ok) (c .before .if1 .left)) (c .before .before .before .before .before .before .before .loop-test .taken) (c .if2 .taken)
+returns-2 c =
+    let number-of = c .before .before .before .number-of in
+    let until = c .before .before .before .before .before .until in
+    let loop-test = c .before .before .before .before .before .before .before .loop-test in
+    let loop = c .before .before .before .before .before .before .before .before .loop in
+    let start = c .before .before .before .before .before .before .before .before .before .before .args in
+    passed-last (start .s .now) (loop .values) (loop .at) (loop .i) (loop .inv) (until .result) (until .ensures)
+    (number-of .result) (number-of .ensures) (not-false (number-of .result .ok) (c .before .if1 .left)) (loop-test .taken) (c .if2 .taken)
 
 add-at : tie.Need-add-at Inv-loop μ-loop
 add-at c =
-    let s = rest (c .before .before .before .before .before .before .before .before .before .before .args .s .now) (c .before .before .before .before .before .before .before .before .loop .at) in
-    omega (arith, run-le tab s (c .before .before .before .before .before .until .result) (c .before .before .before .before .before .until .ensures), rest-length (c .before .before .before .before .before .before .before .before .before .before .args .s .now) (c .before .before .before .before .before .before .before .before .loop .at))
+    let loop = c .before .before .before .before .before .before .before .before .loop in
+    let start = c .before .before .before .before .before .before .before .before .before .before .args in
+    let s = rest (start .s .now) (loop .at) in
+    let until = c .before .before .before .before .before .until in
+    omega (arith, run-le tab s (until .result) (until .ensures), rest-length (start .s .now) (loop .at))
 
 add-at-2 : tie.Need-add-at-2 Inv-loop μ-loop
 add-at-2 c =
-    let s = rest (c .before .before .before .before .before .before .before .before .before .before .args .s .now) (c .before .before .before .before .before .before .before .before .loop .at) in
-    omega (arith, run-le tab s (c .before .before .before .before .before .until .result) (c .before .before .before .before .before .until .ensures), rest-length (c .before .before .before .before .before .before .before .before .before .before .args .s .now) (c .before .before .before .before .before .before .before .before .loop .at))
+    let loop = c .before .before .before .before .before .before .before .before .loop in
+    let start = c .before .before .before .before .before .before .before .before .before .before .args in
+    let s = rest (start .s .now) (loop .at) in
+    let until = c .before .before .before .before .before .until in
+    omega (arith, run-le tab s (until .result) (until .ensures), rest-length (start .s .now) (loop .at))
 
 loop-less : tie.Need-loop-less Inv-loop μ-loop
 loop-less c = search needs
 
 loop-again : tie.Need-loop-again Inv-loop μ-loop
-loop-again c = passed-more (c .before .before .before .before .before .before .before .before .before .before .args .s .now) (c .before .before .before .before .before .before .before .before .loop .values) (c .before .before .before .before .before .before .before .before .loop .at) (c .before .before .before .before .before .before .before .before .loop .i) (c .before .before .before .before .before .before .before .before .loop .inv) (c .before .before .before .before .before .until .result) (c .before .before .before .before .before .until .ensures) (c .before .before .before .number-of .result) (c .before .before .before .number-of .ensures) (not-false (c .before .before .before .number-of .result .ok) (c .before .if1 .left)) (c .before .before .before .before .before .before .before .loop-test .taken) (c .if2 .left)
+loop-again c =
+    let number-of = c .before .before .before .number-of in
+    let until = c .before .before .before .before .before .until in
+    let loop-test = c .before .before .before .before .before .before .before .loop-test in
+    let loop = c .before .before .before .before .before .before .before .before .loop in
+    let start = c .before .before .before .before .before .before .before .before .before .before .args in
+    passed-more (start .s .now) (loop .values) (loop .at) (loop .i) (loop .inv) (until .result) (until .ensures)
+    (number-of .result) (number-of .ensures) (not-false (number-of .result .ok) (c .before .if1 .left)) (loop-test .taken) (c .if2 .left)
 
 no-numbers-requires-2 : tie.Need-no-numbers-requires-2 Inv-loop μ-loop
 no-numbers-requires-2 c κs = search needs
 
 returns-3 : tie.Need-returns-3 Inv-loop μ-loop
-returns-3 c = c .no-numbers2 .ensures ∙ passed-many (c .before .before .before .before .args .s .now) (c .before .before .loop .values) (c .before .before .loop .at) (c .before .before .loop .i) (c .before .before .loop .inv) (c .before .loop-test .left)
+returns-3 c =
+    let loop = c .before .before .loop in
+    let start = c .before .before .before .before .args in
+    c .no-numbers2 .ensures ∙ passed-many (start .s .now) (loop .values) (loop .at) (loop .i) (loop .inv) (c .before .loop-test .left)
 
 pub numbers-of-spec : {M : Type 1} → statement M
 numbers-of-spec =

@@ -14,7 +14,10 @@ no-line-requires : tie.Need-no-line-requires
 no-line-requires c κs = search needs
 
 returns : tie.Need-returns
-returns c = c .no-line .ensures ∙ cost-none (fields (c .before .before .before .before .before .args .s .now)) (c .before .before .before .numbers-of .result) (c .before .before .before .numbers-of .ensures) (c .before .if1 .taken)
+returns c =
+    let numbers-of = c .before .before .before .numbers-of in
+    let start = c .before .before .before .before .before .args in
+    c .no-line .ensures ∙ cost-none (fields (start .s .now)) (numbers-of .result) (numbers-of .ensures) (c .before .if1 .taken)
 
 array-read-t7 : tie.Need-array-read-t7
 array-read-t7 c = search needs
@@ -47,7 +50,10 @@ cost-line-requires : tie.Need-cost-line-requires
 cost-line-requires c κs = search needs
 
 returns-2 : tie.Need-returns-2
-returns-2 c = c .cost-line .ensures ∙ cost-some (fields (c .before .before .before .before .before .before .args .s .now)) (c .before .before .before .before .numbers-of .result) (c .before .before .before .before .numbers-of .ensures) (c .before .before .if1 .left)
+returns-2 c =
+    let numbers-of = c .before .before .before .before .numbers-of in
+    let start = c .before .before .before .before .before .before .args in
+    c .cost-line .ensures ∙ cost-some (fields (start .s .now)) (numbers-of .result) (numbers-of .ensures) (c .before .before .if1 .left)
 
 pub cost-form-spec : {M : Type 1} → statement M
 cost-form-spec =

@@ -20,10 +20,16 @@ no-line-requires : tie.Need-no-line-requires
 no-line-requires c κs = search needs
 
 returns : tie.Need-returns
-returns c = c .no-line .ensures ∙ part-short (c .before .before .before .before .args .s .now) (c .before .before .until .result) (c .before .before .until .ensures) (c .before .if1 .taken)
+returns c =
+    let until = c .before .before .until in
+    let start = c .before .before .before .before .args in
+    c .no-line .ensures ∙ part-short (start .s .now) (until .result) (until .ensures) (c .before .if1 .taken)
 
 slice-aggregate-name-of : tie.Need-slice-aggregate-name-of
-slice-aggregate-name-of c = sym (length-take-le (c .before .before .until .result) (c .before .before .before .before .args .s .now) (run-le tab (c .before .before .before .before .args .s .now) (c .before .before .until .result) (c .before .before .until .ensures)))
+slice-aggregate-name-of c =
+    let until = c .before .before .until in
+    let start = c .before .before .before .before .args in
+    sym (length-take-le (until .result) (start .s .now) (run-le tab (start .s .now) (until .result) (until .ensures)))
 
 name-of-requires : tie.Need-name-of-requires
 name-of-requires c κs = search needs
@@ -37,21 +43,32 @@ no-line-requires-2 c κs = search needs
 returns-2 : tie.Need-returns-2
 returns-2 c =
     let s = c .before .before .before .before .before .before .before .before .args .s .now in
-    let e = c .before .before .before .before .before .before .until .result in
-    let run = c .before .before .before .before .before .before .until .ensures in
+    let until = c .before .before .before .before .before .before .until in
+    let e = until .result in
+    let run = until .ensures in
     let more : e < length s = omega (arith, run-le tab s e run) in
     let named = c .before .before .before .name-of .ensures in
     let n = c .before .before .before .name-of .result in
-    c .no-line2 .ensures ∙ part-unnamed s e run more n named (sym (c .before .before .well-formed .ensures) ∙ not-true (c .before .before .well-formed .result) (c .before .if2 .taken))
+    let well-formed = c .before .before .well-formed in
+    c .no-line2 .ensures ∙ part-unnamed s e run more n named (sym (well-formed .ensures) ∙ not-true (well-formed .result) (c .before .if2 .taken))
 
 add-numbers-of : tie.Need-add-numbers-of
-add-numbers-of c = omega (arith, run-le tab (c .before .before .before .before .before .before .before .args .s .now) (c .before .before .before .before .before .until .result) (c .before .before .before .before .before .until .ensures))
+add-numbers-of c =
+    let until = c .before .before .before .before .before .until in
+    let start = c .before .before .before .before .before .before .before .args in
+    omega (arith, run-le tab (start .s .now) (until .result) (until .ensures))
 
 sub-numbers-of : tie.Need-sub-numbers-of
-sub-numbers-of c = omega (arith, run-le tab (c .before .before .before .before .before .before .before .args .s .now) (c .before .before .before .before .before .until .result) (c .before .before .before .before .before .until .ensures))
+sub-numbers-of c =
+    let until = c .before .before .before .before .before .until in
+    let start = c .before .before .before .before .before .before .before .args in
+    omega (arith, run-le tab (start .s .now) (until .result) (until .ensures))
 
 part-numbers-of-start : tie.Need-part-numbers-of-start
-part-numbers-of-start c = omega (arith, run-le tab (c .before .before .before .before .before .before .before .args .s .now) (c .before .before .before .before .before .until .result) (c .before .before .before .before .before .until .ensures))
+part-numbers-of-start c =
+    let until = c .before .before .before .before .before .until in
+    let start = c .before .before .before .before .before .before .before .args in
+    omega (arith, run-le tab (start .s .now) (until .result) (until .ensures))
 
 part-numbers-of-end : tie.Need-part-numbers-of-end
 part-numbers-of-end c = search needs
@@ -64,13 +81,17 @@ no-line-requires-3 c κs = search needs
 
 returns-3 : tie.Need-returns-3
 returns-3 c =
-    let s = c .before .before .before .before .before .before .before .before .before .before .before .before .args .s .now in
-    let e = c .before .before .before .before .before .before .before .before .before .before .until .result in
-    let run = c .before .before .before .before .before .before .before .before .before .before .until .ensures in
+    let at-until = c .before .before .before .before .before .before .before .before .before .before in
+    let s = at-until .before .before .args .s .now in
+    let until = at-until .until in
+    let e = until .result in
+    let run = until .ensures in
     let more : e < length s = omega (arith, run-le tab s e run) in
-    let named = c .before .before .before .before .before .before .before .name-of .ensures in
-    let n = c .before .before .before .before .before .before .before .name-of .result in
-    c .no-line3 .ensures ∙ part-unnumbered s e run more n named (c .before .before .before .numbers-of .result) (c .before .before .before .numbers-of .ensures) (c .before .if3 .taken)
+    let name-of = c .before .before .before .before .before .before .before .name-of in
+    let named = name-of .ensures in
+    let n = name-of .result in
+    let numbers-of = c .before .before .before .numbers-of in
+    c .no-line3 .ensures ∙ part-unnumbered s e run more n named (numbers-of .result) (numbers-of .ensures) (c .before .if3 .taken)
 
 array-read-t17 : tie.Need-array-read-t17
 array-read-t17 c = search needs
@@ -95,13 +116,21 @@ part-line-requires c κs = search needs
 
 returns-4 : tie.Need-returns-4
 returns-4 c =
-    let s = c .before .before .before .before .before .before .before .before .before .before .before .before .before .args .s .now in
-    let e = c .before .before .before .before .before .before .before .before .before .before .before .until .result in
-    let run = c .before .before .before .before .before .before .before .before .before .before .before .until .ensures in
+    let at-name-of = c .before .before .before .before .before .before .before .before in
+    let s = at-name-of .before .before .before .before .before .args .s .now in
+    let until = at-name-of .before .before .before .until in
+    let e = until .result in
+    let run = until .ensures in
     let more : e < length s = omega (arith, run-le tab s e run) in
-    let named = c .before .before .before .before .before .before .before .before .name-of .ensures in
-    let n = c .before .before .before .before .before .before .before .before .name-of .result in
-    c .part-line .ensures ∙ part-some s e run more n named (c .before .before .before .before .numbers-of .result) (c .before .before .before .before .numbers-of .ensures) (sym (c .before .before .before .before .before .before .before .well-formed .ensures) ∙ not-false (c .before .before .before .before .before .before .before .well-formed .result) (c .before .before .before .before .before .before .if2 .left)) (c .before .before .if3 .left)
+    let name-of = at-name-of .name-of in
+    let named = name-of .ensures in
+    let n = name-of .result in
+    let numbers-of = c .before .before .before .before .numbers-of in
+    let if2 = c .before .before .before .before .before .before .if2 in
+    let well-formed = c .before .before .before .before .before .before .before .well-formed in
+    c .part-line .ensures
+    ∙ part-some s e run more n named (numbers-of .result)
+    (numbers-of .ensures) (sym (well-formed .ensures) ∙ not-false (well-formed .result) (if2 .left)) (c .before .before .if3 .left)
 
 pub part-form-spec : {M : Type 1} → statement M
 part-form-spec =

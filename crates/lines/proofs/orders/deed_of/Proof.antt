@@ -26,7 +26,8 @@ same-run-requires-2 c κs = search needs
 returns-2 : tie.Need-returns-2
 unfolding deedOf
 returns-2 c =
-    rw (sym (c .before .before .before .before .same-run .ensures) ∙ c .before .before .before .if1 .left, sym (c .before .same-run2 .ensures) ∙ c .if2 .taken)
+    let same-run = c .before .before .before .before .same-run in
+    rw (sym (same-run .ensures) ∙ c .before .before .before .if1 .left, sym (c .before .same-run2 .ensures) ∙ c .if2 .taken)
 
 slice-aggregate-same-run-3 : tie.Need-slice-aggregate-same-run-3
 slice-aggregate-same-run-3 c = search needs
@@ -37,7 +38,14 @@ same-run-requires-3 c κs = search needs
 returns-3 : tie.Need-returns-3
 unfolding deedOf
 returns-3 c =
-    rw (sym (c .before .before .before .before .before .before .before .same-run .ensures) ∙ c .before .before .before .before .before .before .if1 .left, sym (c .before .before .before .before .same-run2 .ensures) ∙ c .before .before .before .if2 .left, sym (c .before .same-run3 .ensures) ∙ c .if3 .taken)
+    let same-run2 = c .before .before .before .before .same-run2 in
+    let if1 = c .before .before .before .before .before .before .if1 in
+    let same-run = c .before .before .before .before .before .before .before .same-run in
+    rw (
+      sym (same-run .ensures) ∙ if1 .left,
+      sym (same-run2 .ensures) ∙ c .before .before .before .if2 .left,
+      sym (c .before .same-run3 .ensures) ∙ c .if3 .taken,
+    )
 
 slice-aggregate-same-run-4 : tie.Need-slice-aggregate-same-run-4
 slice-aggregate-same-run-4 c = search needs
@@ -48,12 +56,32 @@ same-run-requires-4 c κs = search needs
 returns-4 : tie.Need-returns-4
 unfolding deedOf
 returns-4 c =
-    rw (sym (c .before .before .before .before .before .before .before .before .before .before .same-run .ensures) ∙ c .before .before .before .before .before .before .before .before .before .if1 .left, sym (c .before .before .before .before .before .before .before .same-run2 .ensures) ∙ c .before .before .before .before .before .before .if2 .left, sym (c .before .before .before .before .same-run3 .ensures) ∙ c .before .before .before .if3 .left, sym (c .before .same-run4 .ensures) ∙ c .if4 .taken)
+    let same-run3 = c .before .before .before .before .same-run3 in
+    let if2 = c .before .before .before .before .before .before .if2 in
+    let same-run2 = c .before .before .before .before .before .before .before .same-run2 in
+    let if1 = c .before .before .before .before .before .before .before .before .before .if1 in
+    let same-run = c .before .before .before .before .before .before .before .before .before .before .same-run in
+    rw (
+      sym (same-run .ensures) ∙ if1 .left,
+      sym (same-run2 .ensures) ∙ if2 .left,
+      sym (same-run3 .ensures) ∙ c .before .before .before .if3 .left,
+      sym (c .before .same-run4 .ensures) ∙ c .if4 .taken,
+    )
 
 returns-5 : tie.Need-returns-5
 unfolding deedOf
 returns-5 c =
-    rw (sym (c .before .before .before .before .before .before .before .before .before .before .same-run .ensures) ∙ c .before .before .before .before .before .before .before .before .before .if1 .left, sym (c .before .before .before .before .before .before .before .same-run2 .ensures) ∙ c .before .before .before .before .before .before .if2 .left, sym (c .before .before .before .before .same-run3 .ensures) ∙ c .before .before .before .if3 .left, sym (c .before .same-run4 .ensures) ∙ c .if4 .left)
+    let same-run3 = c .before .before .before .before .same-run3 in
+    let if2 = c .before .before .before .before .before .before .if2 in
+    let same-run2 = c .before .before .before .before .before .before .before .same-run2 in
+    let if1 = c .before .before .before .before .before .before .before .before .before .if1 in
+    let same-run = c .before .before .before .before .before .before .before .before .before .before .same-run in
+    rw (
+      sym (same-run .ensures) ∙ if1 .left,
+      sym (same-run2 .ensures) ∙ if2 .left,
+      sym (same-run3 .ensures) ∙ c .before .before .before .if3 .left,
+      sym (c .before .same-run4 .ensures) ∙ c .if4 .left,
+    )
 
 pub deed-of-spec : {M : Type 1} → statement M
 deed-of-spec =

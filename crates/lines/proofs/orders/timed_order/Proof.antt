@@ -40,23 +40,38 @@ no-order-requires-4 c κs = search needs
 
 returns : tie.Need-returns
 returns c =
-    c .no-order .ensures ∙ timed-by-word (c .before .before .before .before .before .before .args .deed) (fields (c .before .before .before .before .before .before .args .s .now)) (c .before .before .before .before .part-form .result) (c .before .before .before .before .part-form .ensures) Word.Machine (c .before .enum-told .given .1)
+    let part-form = c .before .before .before .before .part-form in
+    let start = c .before .before .before .before .before .before .args in
+    c .no-order .ensures
+    ∙ timed-by-word (start .deed) (fields (start .s .now))
+    (part-form .result) (part-form .ensures) Word.Machine (c .before .enum-told .given .1)
 
 returns-2 : tie.Need-returns-2
 returns-2 c =
-    c .no-order2 .ensures ∙ timed-by-word (c .before .before .before .before .before .before .args .deed) (fields (c .before .before .before .before .before .before .args .s .now)) (c .before .before .before .before .part-form .result) (c .before .before .before .before .part-form .ensures) Word.Cost (c .before .enum-told2 .given .1)
+    let part-form = c .before .before .before .before .part-form in
+    let start = c .before .before .before .before .before .before .args in
+    c .no-order2 .ensures
+    ∙ timed-by-word (start .deed) (fields (start .s .now)) (part-form .result) (part-form .ensures) Word.Cost (c .before .enum-told2 .given .1)
 
 returns-3 : tie.Need-returns-3
 returns-3 c =
-    timed-by-word (c .before .before .before .before .before .args .deed) (fields (c .before .before .before .before .before .args .s .now)) (c .before .before .before .part-form .result) (c .before .before .before .part-form .ensures) Word.Part (c .enum-told3 .given .1)
+    let part-form = c .before .before .before .part-form in
+    let start = c .before .before .before .before .before .args in
+    timed-by-word (start .deed) (fields (start .s .now)) (part-form .result) (part-form .ensures) Word.Part (c .enum-told3 .given .1)
 
 returns-4 : tie.Need-returns-4
 returns-4 c =
-    c .no-order3 .ensures ∙ timed-by-word (c .before .before .before .before .before .before .args .deed) (fields (c .before .before .before .before .before .before .args .s .now)) (c .before .before .before .before .part-form .result) (c .before .before .before .before .part-form .ensures) Word.Fit (c .before .enum-told4 .given .1)
+    let part-form = c .before .before .before .before .part-form in
+    let start = c .before .before .before .before .before .before .args in
+    c .no-order3 .ensures
+    ∙ timed-by-word (start .deed) (fields (start .s .now)) (part-form .result) (part-form .ensures) Word.Fit (c .before .enum-told4 .given .1)
 
 returns-5 : tie.Need-returns-5
 returns-5 c =
-    c .no-order4 .ensures ∙ timed-by-word (c .before .before .before .before .before .before .args .deed) (fields (c .before .before .before .before .before .before .args .s .now)) (c .before .before .before .before .part-form .result) (c .before .before .before .before .part-form .ensures) Word.Other (c .before .enum-told5 .given .1)
+    let part-form = c .before .before .before .before .part-form in
+    let start = c .before .before .before .before .before .before .args in
+    c .no-order4 .ensures
+    ∙ timed-by-word (start .deed) (fields (start .s .now)) (part-form .result) (part-form .ensures) Word.Other (c .before .enum-told5 .given .1)
 
 pub timed-order-spec : {M : Type 1} → statement M
 timed-order-spec =

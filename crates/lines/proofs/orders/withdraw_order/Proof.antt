@@ -15,7 +15,9 @@ no-order-requires c κs = search needs
 
 returns : tie.Need-returns
 returns c =
-    c .no-order .ensures ∙ withdraw-many (c .before .before .before .before .args .s .now) (c .before .before .until .result) (c .before .before .until .ensures) (c .before .if1 .taken)
+    let until = c .before .before .until in
+    let start = c .before .before .before .before .args in
+    c .no-order .ensures ∙ withdraw-many (start .s .now) (until .result) (until .ensures) (c .before .if1 .taken)
 
 name-of-requires : tie.Need-name-of-requires
 name-of-requires c κs = search needs
@@ -28,14 +30,28 @@ no-order-requires-2 c κs = search needs
 
 returns-2 : tie.Need-returns-2
 returns-2 c =
-    c .no-order2 .ensures ∙ withdraw-unnamed (c .before .before .before .before .before .before .before .args .s .now) (c .before .before .before .before .before .until .result) (c .before .before .before .before .before .until .ensures) (c .before .before .before .before .if1 .left) (c .before .before .before .name-of .result) (c .before .before .before .name-of .ensures) (sym (c .before .before .well-formed .ensures) ∙ not-true (c .before .before .well-formed .result) (c .before .if2 .taken))
+    let well-formed = c .before .before .well-formed in
+    let name-of = c .before .before .before .name-of in
+    let if1 = c .before .before .before .before .if1 in
+    let until = c .before .before .before .before .before .until in
+    let start = c .before .before .before .before .before .before .before .args in
+    c .no-order2 .ensures
+    ∙ withdraw-unnamed (start .s .now) (until .result) (until .ensures)
+    (if1 .left) (name-of .result) (name-of .ensures) (sym (well-formed .ensures) ∙ not-true (well-formed .result) (c .before .if2 .taken))
 
 untimed-requires : tie.Need-untimed-requires
 untimed-requires c κs = search needs
 
 returns-3 : tie.Need-returns-3
 returns-3 c =
-    let some = withdraw-some (c .before .before .before .before .before .before .before .args .s .now) (c .before .before .before .before .before .until .result) (c .before .before .before .before .before .until .ensures) (c .before .before .before .before .if1 .left) (c .before .before .before .name-of .result) (c .before .before .before .name-of .ensures) (sym (c .before .before .well-formed .ensures) ∙ not-false (c .before .before .well-formed .result) (c .before .if2 .left)) in
+    let well-formed = c .before .before .well-formed in
+    let name-of = c .before .before .before .name-of in
+    let if1 = c .before .before .before .before .if1 in
+    let until = c .before .before .before .before .before .until in
+    let start = c .before .before .before .before .before .before .before .args in
+    let some =
+    withdraw-some (start .s .now) (until .result) (until .ensures) (if1 .left)
+    (name-of .result) (name-of .ensures) (sym (well-formed .ensures) ∙ not-false (well-formed .result) (c .before .if2 .left)) in
     rw (c .untimed .ensures) some
 
 pub withdraw-order-spec : {M : Type 1} → statement M

@@ -63,7 +63,8 @@ put-byte-requires-2 c κs =
 
 same-length : tie.Need-same-length Inv-loop μ-loop
 same-length c =
-    wrote-length _ _ _ _ _ (wrote-both (c .before .before .before .before .before .loop .inv .1) (c .before .before .put-byte2 .ensures))
+    let loop = c .before .before .before .before .before .loop in
+    wrote-length _ _ _ _ _ (wrote-both (loop .inv .1) (c .before .before .put-byte2 .ensures))
 
 returns : tie.Need-returns Inv-loop μ-loop
 returns c =

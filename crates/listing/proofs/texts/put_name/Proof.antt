@@ -40,7 +40,8 @@ put-bytes-requires c κs =
     let z : length (n .bytes) ≡ 24 = search needs in
     let k = c .before .before .before .capped in
     let t : length (take (k .result) (n .bytes)) ≡ k .result = length-take-le (k .result) (n .bytes) (omega (arith, k .ensures .1)) in
-    omega (arith, c .before .before .before .before .before .pre, k .ensures .1)
+    let pre = c .before .before .before .before .before .pre in
+    omega (arith, pre, k .ensures .1)
 
 same-length : tie.Need-same-length
 same-length c =
@@ -55,8 +56,10 @@ returns c =
     let p = c .before .before .put-bytes in
     let t : length (take (k .result) (n .bytes)) ≡ k .result = length-take-le (k .result) (n .bytes) (omega (arith, k .ensures .1)) in
     let w = p .ensures in
-    let e : take (k .result) (n .bytes) ≡ spelling n = spelling-capped n (k .result) (k .ensures .0) (k .ensures .2) z in
-    (subst (λ (s : List ℕ). Wrote (a .buf .now) (a .at) (ended (a .end) s) (p .result) (p .last .0)) e w, omega (arith, w .place, k .ensures .1, ended-length (a .end) (take (k .result) (n .bytes))))
+    let e : take (k .result) (n .bytes) ≡ spelling n = spelling-capped n (k .result) (k .ensures .0) (k .ensures .2) z in (
+      subst (λ (s : List ℕ). Wrote (a .buf .now) (a .at) (ended (a .end) s) (p .result) (p .last .0)) e w,
+      omega (arith, w .place, k .ensures .1, ended-length (a .end) (take (k .result) (n .bytes))),
+    )
 
 pub put-name-spec : {M : Type 1} → statement M
 put-name-spec =

@@ -45,7 +45,8 @@ loop-less c =
 loop-again : tie.Need-loop-again Inv-loop μ-loop
 loop-again c =
     let l = c .before .before .loop in
-    rw (c .digit .ensures) (left-step (c .before .before .before .before .args .n) (l .d) (l .i) (l .m) (l .inv) (omega arith))
+    let start = c .before .before .before .before .args in
+    rw (c .digit .ensures) (left-step (start .n) (l .d) (l .i) (l .m) (l .inv) (omega arith))
 
 sub-i-2 : tie.Need-sub-i-2 Inv-loop μ-loop
 sub-i-2 c =
@@ -70,7 +71,8 @@ part-put-bytes-start c =
 part-put-bytes-end : tie.Need-part-put-bytes-end Inv-loop μ-loop
 part-put-bytes-end c =
     let l = c .before .before .before .before .loop in
-    let h : length (set (l .d) (l .i - 1) (c .before .before .digit2 .result)) ≡ 20 = length-set (l .d) (l .i - 1) (c .before .before .digit2 .result) ∙ l .inv .twenty in
+    let digit2 = c .before .before .digit2 in
+    let h : length (set (l .d) (l .i - 1) (digit2 .result)) ≡ 20 = length-set (l .d) (l .i - 1) (digit2 .result) ∙ l .inv .twenty in
     search needs
 
 put-bytes-requires : tie.Need-put-bytes-requires Inv-loop μ-loop
@@ -86,8 +88,10 @@ returns c =
     let l = c .before .before .before .before .before .before .before .before .loop in
     let a = c .before .before .before .before .before .before .before .before .before .before .args in
     let p = c .before .before .put-bytes in
-    let e = digits-whole (a .n) (l .d) (l .i) (l .m) (l .inv) (omega arith) (c .before .before .before .before .before .before .digit2 .result) (c .before .before .before .before .before .before .digit2 .ensures) in
-    let w : Wrote (a .buf .now) (a .at) (ended (a .end) (decimal (a .n))) (p .result) (p .last .0) = subst (λ (ds : List ℕ). Wrote (a .buf .now) (a .at) (ended (a .end) ds) (p .result) (p .last .0)) e (p .ensures) in
+    let digit2 = c .before .before .before .before .before .before .digit2 in
+    let e = digits-whole (a .n) (l .d) (l .i) (l .m) (l .inv) (omega arith) (digit2 .result) (digit2 .ensures) in
+    let w : Wrote (a .buf .now) (a .at) (ended (a .end) (decimal (a .n))) (p .result) (p .last .0) =
+    subst (λ (ds : List ℕ). Wrote (a .buf .now) (a .at) (ended (a .end) ds) (p .result) (p .last .0)) e (p .ensures) in
     (w, omega (arith, w .place, decimal-few (a .n), ended-length (a .end) (decimal (a .n))))
 
 pub put-number-spec : {M : Type 1} → statement M

@@ -16,11 +16,19 @@ costs-within-requires c κs = search needs
 
 returns-2 : tie.Need-returns-2
 unfolding costFault
-returns-2 c = rw (eq-eqb (c .before .before .before .args .stage) 1 (c .before .before .if1 .left), sym (c .before .costs-within .ensures) ∙ not-true (c .before .costs-within .result) (c .if2 .taken))
+returns-2 c =
+    rw (
+      eq-eqb (c .before .before .before .args .stage) 1 (c .before .before .if1 .left),
+      sym (c .before .costs-within .ensures) ∙ not-true (c .before .costs-within .result) (c .if2 .taken),
+    )
 
 returns-3 : tie.Need-returns-3
 unfolding costFault
-returns-3 c = rw (eq-eqb (c .before .before .before .args .stage) 1 (c .before .before .if1 .left), sym (c .before .costs-within .ensures) ∙ not-false (c .before .costs-within .result) (c .if2 .left))
+returns-3 c =
+    rw (
+      eq-eqb (c .before .before .before .args .stage) 1 (c .before .before .if1 .left),
+      sym (c .before .costs-within .ensures) ∙ not-false (c .before .costs-within .result) (c .if2 .left),
+    )
 
 pub cost-fault-spec : {M : Type 1} → statement M
 cost-fault-spec = tie.close (tie.spec returns costs-within-requires returns-2 returns-3)

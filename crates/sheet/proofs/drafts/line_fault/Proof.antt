@@ -49,10 +49,14 @@ unfolding lineFault
 returns-2 c a stage found = rw (c .before .before .enum-told2 .given .1, stage) (c .cost-fault .ensures)
 
 returns-3 : tie.Need-returns-3
-returns-3 c a stage found = c .part-fault .ensures ∙ rw (← stage) (found-part a (c .before .before .before .before .before .args .line) _ _ _ _ found (c .before .before .enum-told3 .given .1))
+returns-3 c a stage found =
+    let start = c .before .before .before .before .before .args in
+    c .part-fault .ensures ∙ rw (← stage) (found-part a (start .line) _ _ _ _ found (c .before .before .enum-told3 .given .1))
 
 returns-4 : tie.Need-returns-4
-returns-4 c a stage found = c .fit-fault .ensures ∙ rw (← stage) (found-fit a (c .before .before .before .before .args .line) _ _ _ _ found (c .before .enum-told4 .given .1))
+returns-4 c a stage found =
+    let start = c .before .before .before .before .args in
+    c .fit-fault .ensures ∙ rw (← stage) (found-fit a (start .line) _ _ _ _ found (c .before .enum-told4 .given .1))
 
 returns-5 : tie.Need-returns-5
 unfolding lineFault
