@@ -2,6 +2,7 @@
 pub mod Division
 pub mod Sums
 pub mod ArrayLaws
+pub mod PaddedLaws
 pub mod DemandLaws
 pub mod SizeLaws
 pub mod ChargeLaws

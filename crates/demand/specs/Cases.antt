@@ -12,7 +12,7 @@ use Rattle.demand.specs.declared.Found.{Found}
 use Rattle.demand.specs.declared.Found.the-variants.{At, Nothing}
 use Rattle.demand.specs.declared.Verdict.{Verdict}
 use Rattle.demand.specs.declared.Verdict.the-variants.{Passes, Overloaded, Undecided}
-use Rattle.demand.specs.Charge.{charged, coreOf, stall}
+use Rattle.demand.specs.Charge.{noCosts, charged, coreOf, stall}
 use Rattle.demand.specs.Demand.{demand}
 use Rattle.demand.specs.Busy.{busyLength, tightWindow}
 use Rattle.demand.specs.declared.Answer.the-variants.{Judged}
@@ -29,9 +29,6 @@ whole x d t = piece Whole x d t 0
 unfoldable pub costs : ℕ → ℕ → ℕ → ℕ → ℕ → ℕ → Costs
 costs relo schedo tseto ipb beto migro =
     record { relo = relo; schedo = schedo; tseto = tseto; ipb = ipb; beto = beto; migro = migro; ipio = 0; ipij = 0; precision = 0 }
-
-unfoldable pub free : Costs
-free = costs 0 0 0 0 0 0
 
 -- a question of the table with its answer; the number is the example's
 pub data Row : Type 0 where
@@ -59,17 +56,17 @@ holds (r ∷ rs) = elim (right r) [ true ↦ holds rs | false ↦ false ]
 
 unfoldable pub rows : List Row
 rows =
-    says 1 free [] Passes
-    ∷ says 2 free (whole 1 1 1 ∷ []) Passes
-    ∷ says 3 free (whole 5 5 10 ∷ whole 5 5 10 ∷ []) (Overloaded 9)
-    ∷ says 4 free (whole 6 10 10 ∷ whole 6 10 10 ∷ []) Undecided
-    ∷ says 5 free (whole 2 10 10 ∷ whole 2 10 10 ∷ whole 2 10 10 ∷ whole 2 10 10 ∷ whole 2 2 10 ∷ []) Passes
-    ∷ says 6 free (whole 2 10 10 ∷ whole 2 10 10 ∷ whole 2 10 10 ∷ whole 2 10 10 ∷ whole 3 3 10 ∷ []) Undecided
+    says 1 noCosts [] Passes
+    ∷ says 2 noCosts (whole 1 1 1 ∷ []) Passes
+    ∷ says 3 noCosts (whole 5 5 10 ∷ whole 5 5 10 ∷ []) (Overloaded 9)
+    ∷ says 4 noCosts (whole 6 10 10 ∷ whole 6 10 10 ∷ []) Undecided
+    ∷ says 5 noCosts (whole 2 10 10 ∷ whole 2 10 10 ∷ whole 2 10 10 ∷ whole 2 10 10 ∷ whole 2 2 10 ∷ []) Passes
+    ∷ says 6 noCosts (whole 2 10 10 ∷ whole 2 10 10 ∷ whole 2 10 10 ∷ whole 2 10 10 ∷ whole 3 3 10 ∷ []) Undecided
     ∷ says 7 (costs 0 0 0 4 0 0) (whole 8 10 50 ∷ whole 1 12 50 ∷ []) (Overloaded 11)
     ∷ busy 8 (costs 2 3 1 4 0 0) (whole 5 100 100 ∷ []) 15
     ∷ asks 8 (costs 2 3 1 4 0 0) (whole 5 100 100 ∷ []) 100 15
     ∷ says 8 (costs 2 3 1 4 0 0) (whole 5 100 100 ∷ []) Passes
     ∷ tight 9 (costs 2 3 1 4 2 1) (piece First 5 100 100 0) 26
     ∷ tight 10 (costs 2 3 1 4 2 1) (piece First 5 100 100 5) 31
-    ∷ says 11 free (piece Whole 1 5 10 5 ∷ []) (Overloaded 0)
+    ∷ says 11 noCosts (piece Whole 1 5 10 5 ∷ []) (Overloaded 0)
     ∷ []

@@ -1,5 +1,6 @@
 -- A piece and its charge: document 01, "A piece and its charge".
 --
+--   noCosts              all nine are 0
 --   charge c p           C', the charged time                      000, equations 7 and 9 and the one for the last subtask
 --   ipiCost c p          what each IPI costs p: IpiO for a piece that came from elsewhere, else 0
 --   charged c p          all that is looked at from here on: no later definition asks for a kind
@@ -11,6 +12,9 @@ use Rattle.demand.specs.declared.Piece.{Piece}
 use Rattle.demand.specs.declared.Costs.{Costs}
 use Rattle.demand.specs.declared.Charged.{Charged}
 use Rattle.demand.specs.Kinds.{departs, arrives}
+
+abbrev pub noCosts : Costs
+noCosts = record { relo = 0; schedo = 0; tseto = 0; ipb = 0; beto = 0; migro = 0; ipio = 0; ipij = 0; precision = 0 }
 
 unfoldable pub charge : Costs → Piece → ℕ
 charge c p =

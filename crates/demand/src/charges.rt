@@ -10,7 +10,7 @@ use crate::sizes::sized_piece;
 ghost use mathlib.Core.Path.{_≡_};
 ghost use Prim.Native.Nat.{_≤_};
 ghost use Rattle.demand.specs.Answer.{chargedTime};
-ghost use Rattle.demand.specs.Charge.{charge, charged, stall};
+ghost use Rattle.demand.specs.Charge.{noCosts, charge, charged, stall};
 ghost use Rattle.demand.specs.Sizes.{SizedCosts};
 ghost use Rattle.demand.specs.ways.Ranges.{Countable, chargedWithin, noCharge, stallWithin, chargeMost};
 
@@ -94,6 +94,23 @@ fn stall_within(costs: Costs) -> u64
         switch
     } else {
         costs.ipb
+    }
+}
+
+/// Costs of which all nine are 0.
+pub fn no_costs() -> Costs
+    ensures exact { λ r. ⌜ r ≡ noCosts ⌝ }
+{
+    Costs {
+        relo: 0,
+        schedo: 0,
+        tseto: 0,
+        ipb: 0,
+        beto: 0,
+        migro: 0,
+        ipio: 0,
+        ipij: 0,
+        precision: 0,
     }
 }
 

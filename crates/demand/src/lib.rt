@@ -11,6 +11,7 @@ mod sizes;
 
 pub use charges::charged_piece;
 pub use charges::charged_time;
+pub use charges::no_costs;
 pub use charges::stall_of;
 pub use kinds::kind_number;
 pub use kinds::kind_of;

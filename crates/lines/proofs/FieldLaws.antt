@@ -19,9 +19,11 @@ use lib.Dec.{leb, eqb, lit<}
 use lib.ListN.{length, take, drop, getD, set, drop-of-length-le}
 use lib.Seq.{drop-cons, take-suc, take-all, length-take-le}
 use Rattle.lines.specs.declared.Number.{Number}
-use Rattle.lines.specs.Lines.{isDigit, every, unled, isNumber, valueFrom, valueOf, padded, nameMost, nameOf}
+use Rattle.lines.specs.Lines.{isDigit, every, unled, isNumber, valueFrom, valueOf, nameOf}
+use Rattle.demand.specs.Lists.{padded}
+use Rattle.task.specs.Names.{nameMost}
 use Rattle.lines.specs.Answers.{noNumber, numberOf}
-use Rattle.lines.proofs.LineLaws.{padded-put, padded-cut}
+use Rattle.demand.proofs.PaddedLaws.{padded-put, padded-cut}
 
 pub both-left : (a b : Bool) → (a && b) ≡ true → a ≡ true
 both-left true b e = refl

@@ -17,55 +17,56 @@ use Rattle.task.specs.declared.Name.{Name}
 use Rattle.task.specs.Names.{formed}
 use Rattle.lines.specs.declared.Word.{Word}
 use Rattle.lines.specs.declared.Numbers.{Numbers}
-use Rattle.lines.specs.Lines.{tab, upTo, beyond, fields, every, isNumber, padded, nameOf, isName}
-use Rattle.lines.specs.Forms.{noLine, machineLine, costLine, partLine, fitLine, machineOf, costsOf, timesOf, numbered}
-use Rattle.lines.specs.Forms.{values, machineForm, costForm, partForm, fitForm, wordOf, formOf, lineOf}
-use Rattle.lines.specs.Answers.{runMost, noNumbers, numbersOf}
-use Rattle.lines.proofs.LineLaws.{padded-at, rest, run-take, run-whole, run-last, run-more}
+use Rattle.lines.specs.Lines.{tab, upTo, beyond, fields, every, isNumber, nameOf, isName}
+use Rattle.demand.specs.Lists.{padded}
+use Rattle.lines.specs.Forms.{noLine, machineLine, costLine, partLine, fitLine, machineOf, costsOf, timesOf, numbered, values, machineForm, costForm, partForm, fitForm, wordOf, formOf, lineOf}
+use Rattle.lines.specs.Answers.{numbersMost, noNumbers, numbersIn}
+use Rattle.demand.proofs.PaddedLaws.{padded-at}
+use Rattle.lines.proofs.LineLaws.{rest, run-take, run-whole, run-last, run-more}
 use Rattle.lines.proofs.FieldLaws.{both-left, both-right}
 
 -- ---- numbers
 
-module _ (fs : List (List ℕ)) (g : Numbers) (answer : g ≡ numbersOf fs) where
-  pub numbers-count : (n : ℕ) → 1 ≤ n → n ≤ runMost → numbered n fs ≡ eqb (g .count) n
-  unfolding numbersOf
-  numbers-count n some few = rw answer (by-form (leb (length fs) runMost) (every isNumber fs) refl)
+module _ (fs : List (List ℕ)) (g : Numbers) (answer : g ≡ numbersIn fs) where
+  pub numbers-count : (n : ℕ) → 1 ≤ n → n ≤ numbersMost → numbered n fs ≡ eqb (g .count) n
+  unfolding numbersIn
+  numbers-count n some few = rw answer (by-form (leb (length fs) numbersMost) (every isNumber fs) refl)
     where
       none : eqb 0 n ≡ false
       none = ne-eqb 0 n (λ e. omega arith)
 
-      by-form : (t u : Bool) → leb (length fs) runMost ≡ t
+      by-form : (t u : Bool) → leb (length fs) numbersMost ≡ t
           → (eqb (length fs) n && u)
-          ≡ eqb ((cond {A = Numbers} (t && u) (record { count = length fs; values = padded runMost 0 (values fs) }) noNumbers) .count) n
+          ≡ eqb ((cond {A = Numbers} (t && u) (record { count = length fs; values = padded numbersMost 0 (values fs) }) noNumbers) .count) n
       by-form true true e = and-true (eqb (length fs) n)
       by-form true false e = and-false (eqb (length fs) n) ∙ sym none
-      by-form false true e = rw (ne-eqb (length fs) n (λ same. omega (arith, leb-false (length fs) runMost e))) (sym none)
+      by-form false true e = rw (ne-eqb (length fs) n (λ same. omega (arith, leb-false (length fs) numbersMost e))) (sym none)
       by-form false false e = and-false (eqb (length fs) n) ∙ sym none
 
-  pub numbers-held : (n : ℕ) → n ≤ runMost → numbered n fs ≡ true → g .values ≡ padded runMost 0 (values fs)
-  unfolding numbersOf
+  pub numbers-held : (n : ℕ) → n ≤ numbersMost → numbered n fs ≡ true → g .values ≡ padded numbersMost 0 (values fs)
+  unfolding numbersIn
   numbers-held n few good =
       let long = eqb-true (length fs) n (both-left (eqb (length fs) n) (every isNumber fs) good) in
       let all = both-right (eqb (length fs) n) (every isNumber fs) good in
-      rw (answer, le-leb (length fs) runMost (omega arith), all)
+      rw (answer, le-leb (length fs) numbersMost (omega arith), all)
 
 -- the values in their order, as the array has them
-machine-padded : (vs : List ℕ) → machineOf (padded runMost 0 vs) ≡ machineOf vs
-machine-padded vs = simp (padded-at 0 runMost vs 0 (lit< tt), padded-at 0 runMost vs 1 (lit< tt))
+machine-padded : (vs : List ℕ) → machineOf (padded numbersMost 0 vs) ≡ machineOf vs
+machine-padded vs = simp (padded-at 0 numbersMost vs 0 (lit< tt), padded-at 0 numbersMost vs 1 (lit< tt))
 
-costs-padded : (vs : List ℕ) → costsOf (padded runMost 0 vs) ≡ costsOf vs
+costs-padded : (vs : List ℕ) → costsOf (padded numbersMost 0 vs) ≡ costsOf vs
 costs-padded vs =
-    let at : (k : ℕ) → k < runMost → getD (padded runMost 0 vs) k 0 ≡ getD vs k 0 = padded-at 0 runMost vs in
+    let at : (k : ℕ) → k < numbersMost → getD (padded numbersMost 0 vs) k 0 ≡ getD vs k 0 = padded-at 0 numbersMost vs in
     simp (at 0 (lit< tt), at 1 (lit< tt), at 2 (lit< tt), at 3 (lit< tt), at 4 (lit< tt), at 5 (lit< tt), at 6 (lit< tt), at 7 (lit< tt), at 8 (lit< tt))
 
-times-padded : (vs : List ℕ) → timesOf (padded runMost 0 vs) ≡ timesOf vs
+times-padded : (vs : List ℕ) → timesOf (padded numbersMost 0 vs) ≡ timesOf vs
 times-padded vs =
-    let at : (k : ℕ) → k < runMost → getD (padded runMost 0 vs) k 0 ≡ getD vs k 0 = padded-at 0 runMost vs in
+    let at : (k : ℕ) → k < numbersMost → getD (padded numbersMost 0 vs) k 0 ≡ getD vs k 0 = padded-at 0 numbersMost vs in
     simp (at 0 (lit< tt), at 1 (lit< tt), at 2 (lit< tt), at 3 (lit< tt), at 4 (lit< tt), at 5 (lit< tt))
 
 -- ---- `machine` and `cost`
 
-module _ (fs : List (List ℕ)) (g : Numbers) (answer : g ≡ numbersOf fs) where
+module _ (fs : List (List ℕ)) (g : Numbers) (answer : g ≡ numbersIn fs) where
   pub machine-none : (g .count ≡ 2 → ⊥) → noLine ≡ machineForm fs
   unfolding machineForm
   machine-none bad = let z = numbers-count fs g answer 2 (lit< tt) (lit< tt) ∙ ne-eqb (g .count) 2 bad in rw z
@@ -119,7 +120,7 @@ module _ (s : List ℕ) (e : ℕ) (run : e ≡ length (upTo tab s)) where
         by-rest (f ∷ g ∷ fs) = refl
 
     -- the numbers of a part
-    module _ (g : Numbers) (answer : g ≡ numbersOf (fields (rest s (e + 1)))) where
+    module _ (g : Numbers) (answer : g ≡ numbersIn (fields (rest s (e + 1)))) where
       pub part-unnumbered : (g .count ≡ 6 → ⊥) → noLine ≡ partForm (fields s)
       unfolding partForm
       part-unnumbered bad =

@@ -1,10 +1,9 @@
--- Laws of runs, of what is padded, and of equal bytes.
+-- Laws of runs and of equal bytes.
 -- Assumes nothing.
 --
 --   run-other, run-here, run-end        a run, one byte on
 --   rest, rest-drop, -length, -rest            what a slice from a place on holds
 --   run-le, -take, -whole, -last, -more the same of a run whose end is known
---   padded-*                            a list in so many places
 use mathlib.Core.Path.{_≡_, refl, sym, ap, _∙_}
 use mathlib.Core.Bool.{Bool, true, false, cond, and-false}
 use mathlib.Core.List.{List, [], _∷_, _++_}
@@ -16,7 +15,7 @@ use lib.Dec.{eqb}
 use lib.ListN.{length, take, drop, getD, set, replicate, length-drop, drop-of-length-le}
 use lib.Seq.{drop-cons, drop-drop, take-all}
 use Rattle.task.specs.Names.{sameBytes}
-use Rattle.lines.specs.Lines.{upTo, beyond, padded}
+use Rattle.lines.specs.Lines.{upTo, beyond}
 
 -- ---- runs
 
@@ -117,49 +116,6 @@ module _ (b : ℕ) (s : List ℕ) (e : ℕ) (run : e ≡ length (upTo b s)) wher
   -- one with others beyond it
   pub run-more : e < length s → beyond b s ≡ upTo b (rest s (e + 1)) ∷ beyond b (rest s (e + 1))
   run-more more = rw (rest-drop s (e + 1), run) (beyond-some b s (omega arith))
-
--- ---- padded lists
-
-module _ {A : Type 0} (z : A) where
-  pub padded-none : (n : ℕ) → padded n z [] ≡ replicate n z
-  unfolding padded
-  padded-none zero = refl
-  padded-none (suc n) = ap (λ (l : List A). z ∷ l) (padded-none n)
-
-  pub padded-length : (n : ℕ) (xs : List A) → length (padded n z xs) ≡ n
-  unfolding padded
-  padded-length zero xs = refl
-  padded-length (suc n) [] = ap suc (padded-length n [])
-  padded-length (suc n) (x ∷ xs) = ap suc (padded-length n xs)
-
-  pub padded-at : (n : ℕ) (xs : List A) (i : ℕ) → i < n → getD (padded n z xs) i z ≡ getD xs i z
-  unfolding padded
-  padded-at zero xs i low = absurd (omega arith)
-  padded-at (suc n) [] zero low = refl
-  padded-at (suc n) [] (suc i) low = padded-at n [] i (omega arith)
-  padded-at (suc n) (x ∷ xs) zero low = refl
-  padded-at (suc n) (x ∷ xs) (suc i) low = padded-at n xs i (omega arith)
-
-  pub padded-take : (n : ℕ) (xs : List A) → length xs ≤ n → take (length xs) (padded n z xs) ≡ xs
-  unfolding padded
-  padded-take zero [] fits = refl
-  padded-take zero (x ∷ xs) fits = absurd (omega arith)
-  padded-take (suc n) [] fits = refl
-  padded-take (suc n) (x ∷ xs) fits = ap (λ (l : List A). x ∷ l) (padded-take n xs (omega arith))
-
-  -- what stands past the places is left out
-  pub padded-cut : (n : ℕ) (xs : List A) → padded n z (take n xs) ≡ padded n z xs
-  unfolding padded
-  padded-cut zero xs = refl
-  padded-cut (suc n) [] = refl
-  padded-cut (suc n) (x ∷ xs) = ap (λ (l : List A). x ∷ l) (padded-cut n xs)
-
-  -- one more in the first free place
-  pub padded-put : (n : ℕ) (xs : List A) (y : A) → length xs < n → set (padded n z xs) (length xs) y ≡ padded n z (xs ++ (y ∷ []))
-  unfolding padded
-  padded-put zero xs y low = absurd (omega arith)
-  padded-put (suc n) [] y low = refl
-  padded-put (suc n) (x ∷ xs) y low = ap (λ (l : List A). x ∷ l) (padded-put n xs y (omega arith))
 
 -- ---- equal bytes
 

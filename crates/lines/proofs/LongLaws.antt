@@ -16,6 +16,7 @@ use Rattle.task.proofs.NameLaws.{bytes-exact}
 use Rattle.lines.specs.declared.Line.{Line}
 use Rattle.lines.specs.declared.Deed.{Deed}
 use Rattle.lines.specs.Lines.{bytesOf, tab, upTo, beyond, isDigit, every, unled, isNumber, digitsMost, nameOf, isName}
+use Rattle.task.specs.Tasks.{taskOf}
 use Rattle.lines.specs.Forms.{untimed, noLine, partLine, timesOf, numbered, values, partForm}
 use Rattle.lines.specs.declared.Order.{Order}
 use Rattle.lines.specs.Orders.{noOrder, forPart, timedForm, withdrawForm, listForm, deedOf, orderForm, orderOf}
@@ -67,7 +68,7 @@ timed-long d (f ∷ fs) long = by-test (isName f && numbered 6 fs) refl
     line : Bool → Line
     line t = cond t (partLine (record { name = nameOf f; times = timesOf (values fs) })) noLine
 
-    by-test : (t : Bool) → (isName f && numbered 6 fs) ≡ t → forPart d (line t .word) (line t .task) ≡ noOrder
+    by-test : (t : Bool) → (isName f && numbered 6 fs) ≡ t → forPart d (line t .word) (line t .part) ≡ noOrder
     by-test true e =
         let six = both-right (isName f) (numbered 6 fs) e in
         let many : length fs ≡ 6 = eqb-true (length fs) 6 (both-left (eqb (length fs) 6) (every isNumber fs) six) in
@@ -84,7 +85,7 @@ unfolding withdrawForm
 withdraw-long [] long = refl
 withdraw-long (f ∷ []) long = by-test (isName f) refl
   where
-    by-test : (t : Bool) → isName f ≡ t → cond {A = Order} t (record { deed = Deed.Withdraw; task = untimed (nameOf f) }) noOrder ≡ noOrder
+    by-test : (t : Bool) → isName f ≡ t → cond {A = Order} t (record { deed = Deed.Withdraw; task = taskOf (nameOf f) (untimed (nameOf f)) }) noOrder ≡ noOrder
     by-test true e = absurd (omega (arith, name-short f e))
     by-test false e = refl
 withdraw-long (f ∷ g ∷ fs) long = refl

@@ -17,13 +17,14 @@ use Rattle.lines.specs.declared.Word.{Word}
 use Rattle.lines.specs.declared.Line.{Line}
 use Rattle.lines.specs.declared.Deed.{Deed}
 use Rattle.lines.specs.Lines.{tab, upTo, fields, nameOf, isName}
+use Rattle.task.specs.Tasks.{taskOf}
 use Rattle.lines.specs.Forms.{untimed, partForm}
 use Rattle.lines.specs.Orders.{noOrder, forPart, timedForm, withdrawForm, listForm, deedOf, orderForm, orderOf}
 use Rattle.lines.proofs.LineLaws.{rest, run-take, run-whole, run-last, run-more}
 
 -- ---- the forms
 
-pub timed-by-word : (d : Deed) (fs : List (List ℕ)) (l : Line) → l ≡ partForm fs → (w : Word) → l .word ≡ w → forPart d w (l .task) ≡ timedForm d fs
+pub timed-by-word : (d : Deed) (fs : List (List ℕ)) (l : Line) → l ≡ partForm fs → (w : Word) → l .word ≡ w → forPart d w (l .part) ≡ timedForm d fs
 unfolding timedForm
 timed-by-word d fs l answer w word = rw (← answer, word)
 
@@ -45,7 +46,7 @@ module _ (s : List ℕ) (e : ℕ) (run : e ≡ length (upTo tab s)) where
     unfolding withdrawForm
     withdraw-unnamed bad = rw (run-last tab s e run whole, run-whole tab s e run whole, is-name false bad)
 
-    pub withdraw-some : formed n ≡ true → record { deed = Deed.Withdraw; task = untimed n } ≡ withdrawForm (fields s)
+    pub withdraw-some : formed n ≡ true → record { deed = Deed.Withdraw; task = taskOf n (untimed n) } ≡ withdrawForm (fields s)
     unfolding withdrawForm
     withdraw-some good = rw (run-last tab s e run whole, run-whole tab s e run whole, is-name true good, named)
 

@@ -11,52 +11,40 @@ use mathlib.Core.Bool.{Bool, cond, _&&_}
 use mathlib.Core.List.{List, [], _∷_, map}
 use Prim.Native.Nat.{ℕ}
 use lib.Dec.{eqb}
-use lib.ListN.{length, getD, replicate}
+use lib.ListN.{length, getD}
 use Rattle.demand.specs.declared.Costs.{Costs}
 use Rattle.task.specs.declared.Name.{Name}
 use Rattle.task.specs.declared.Times.{Times}
-use Rattle.task.specs.declared.Task.{Task}
+use Rattle.task.specs.declared.Part.{Part}
 use Rattle.task.specs.declared.Machine.{Machine}
-use Rattle.task.specs.Names.{sameBytes}
+use Rattle.demand.specs.Charge.{noCosts}
+use Rattle.task.specs.Names.{noName, sameBytes}
+use Rattle.task.specs.Tasks.{noTimes, noPart, noMachine}
 use Rattle.lines.specs.declared.Word.{Word}
 use Rattle.lines.specs.declared.Line.{Line}
-use Rattle.lines.specs.Lines.{bytesOf, tab, upTo, beyond, every, isNumber, valueOf, nameMost, isName, nameOf}
+use Rattle.lines.specs.Lines.{bytesOf, tab, upTo, beyond, every, isNumber, valueOf, isName, nameOf}
 
 -- ---- what a line says; what it does not say is zero
 
-abbrev pub noMachine : Machine
-noMachine = record { cores = 0; grain = 0 }
-
-abbrev pub noCosts : Costs
-noCosts = record { relo = 0; schedo = 0; tseto = 0; ipb = 0; beto = 0; migro = 0; ipio = 0; ipij = 0; precision = 0 }
-
-abbrev pub noName : Name
-noName = record { len = 0; bytes = replicate nameMost 0 }
-
-abbrev pub noTimes : Times
-noTimes = record { worst = 0; deadline = 0; period = 0; jitter = 0; preempt = 0; migrate = 0 }
-
-abbrev pub untimed : Name → Task
+-- a part that is named and no more
+abbrev pub untimed : Name → Part
 untimed n = record { name = n; times = noTimes }
 
-abbrev pub noTask : Task
-noTask = untimed noName
-
 abbrev pub noLine : Line
-noLine = record { word = Word.Other; machine = noMachine; costs = noCosts; task = noTask; part = noName }
+noLine = record { word = Word.Other; machine = noMachine; costs = noCosts; part = noPart; task = noName }
 
 abbrev pub machineLine : Machine → Line
-machineLine m = record { word = Word.Machine; machine = m; costs = noCosts; task = noTask; part = noName }
+machineLine m = record { word = Word.Machine; machine = m; costs = noCosts; part = noPart; task = noName }
 
 abbrev pub costLine : Costs → Line
-costLine c = record { word = Word.Cost; machine = noMachine; costs = c; task = noTask; part = noName }
+costLine c = record { word = Word.Cost; machine = noMachine; costs = c; part = noPart; task = noName }
 
-abbrev pub partLine : Task → Line
-partLine t = record { word = Word.Part; machine = noMachine; costs = noCosts; task = t; part = noName }
+abbrev pub partLine : Part → Line
+partLine p = record { word = Word.Part; machine = noMachine; costs = noCosts; part = p; task = noName }
 
--- a task's times are its part's, so the line has none
+-- the part stands above, so the line only names it
 abbrev pub fitLine : (task part : Name) → Line
-fitLine n p = record { word = Word.Fit; machine = noMachine; costs = noCosts; task = untimed n; part = p }
+fitLine n p = record { word = Word.Fit; machine = noMachine; costs = noCosts; part = untimed p; task = n }
 
 -- ---- numbers in their order
 

@@ -7,16 +7,16 @@
 --   valueOf f               the number that they stand for
 --   nameOf f                the name with the bytes f: their number, the bytes, and zeros to 24
 --   isName f                the rule of names, crate `task`'s `formed`, holds of it
---   padded n z xs           xs in n places, with z in those that are left
 use mathlib.Core.Bool.{Bool, true, cond, not, _&&_}
 use mathlib.Core.List.{List, [], _∷_}
-use Prim.Native.Nat.{ℕ, zero, suc, _+_, _-_, _*_}
+use Prim.Native.Nat.{ℕ, _+_, _-_, _*_}
 use Prim.Native.Char.{code}
 use Prim.Native.String.{String, [] as done, _∷_ as _then_}
 use lib.Dec.{eqb}
 use lib.ListN.{length}
 use Rattle.task.specs.declared.Name.{Name}
-use Rattle.task.specs.Names.{between, formed}
+use Rattle.demand.specs.Lists.{padded}
+use Rattle.task.specs.Names.{nameMost, between, formed}
 
 -- ---- lines and fields
 
@@ -72,14 +72,6 @@ abbrev pub valueOf : List ℕ → ℕ
 valueOf f = valueFrom 0 f
 
 -- ---- names
-
-unfoldable pub padded : {A : Type 0} → ℕ → A → List A → List A
-padded zero z xs = []
-padded (suc n) z [] = z ∷ padded n z []
-padded (suc n) z (x ∷ xs) = x ∷ padded n z xs
-
-abbrev pub nameMost : ℕ
-nameMost = 24
 
 -- more than 24 bytes give a length that `formed` refuses
 unfoldable pub nameOf : List ℕ → Name

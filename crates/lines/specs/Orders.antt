@@ -8,13 +8,14 @@
 use mathlib.Core.Bool.{cond}
 use mathlib.Core.List.{List, [], _∷_}
 use Prim.Native.Nat.{ℕ}
-use Rattle.task.specs.declared.Task.{Task}
+use Rattle.task.specs.declared.Part.{Part}
 use Rattle.task.specs.Names.{sameBytes}
+use Rattle.task.specs.Tasks.{noTask, taskOf}
 use Rattle.lines.specs.declared.Word.{Word}
 use Rattle.lines.specs.declared.Deed.{Deed}
 use Rattle.lines.specs.declared.Order.{Order}
 use Rattle.lines.specs.Lines.{bytesOf, tab, upTo, beyond, isName, nameOf}
-use Rattle.lines.specs.Forms.{untimed, noTask, partForm}
+use Rattle.lines.specs.Forms.{untimed, partForm}
 
 -- ---- what a line says; what it does not say is zero
 
@@ -26,20 +27,20 @@ listOrder = record { deed = Deed.List; task = noTask }
 
 -- ---- the forms
 
--- the order for the task of a `part` line, and none for any other line
-abbrev pub forPart : Deed → Word → Task → Order
-forPart d Word.Machine t = noOrder
-forPart d Word.Cost t = noOrder
-forPart d Word.Part t = record { deed = d; task = t }
-forPart d Word.Fit t = noOrder
-forPart d Word.Other t = noOrder
+-- the order for the task that is fitted with the part of a `part` line, and named as it; none for any other line
+abbrev pub forPart : Deed → Word → Part → Order
+forPart d Word.Machine p = noOrder
+forPart d Word.Cost p = noOrder
+forPart d Word.Part p = record { deed = d; task = taskOf (p .name) p }
+forPart d Word.Fit p = noOrder
+forPart d Word.Other p = noOrder
 
 unfoldable pub timedForm : Deed → List (List ℕ) → Order
-timedForm d fs = forPart d (partForm fs .word) (partForm fs .task)
+timedForm d fs = forPart d (partForm fs .word) (partForm fs .part)
 
 unfoldable pub withdrawForm : List (List ℕ) → Order
 withdrawForm [] = noOrder
-withdrawForm (f ∷ []) = cond (isName f) (record { deed = Deed.Withdraw; task = untimed (nameOf f) }) noOrder
+withdrawForm (f ∷ []) = cond (isName f) (record { deed = Deed.Withdraw; task = taskOf (nameOf f) (untimed (nameOf f)) }) noOrder
 withdrawForm (f ∷ g ∷ fs) = noOrder
 
 unfoldable pub listForm : List (List ℕ) → Order

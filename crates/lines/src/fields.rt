@@ -1,13 +1,15 @@
 // Runs, numbers and names in the bytes of a line.
+use crate::NUMBERS_MOST;
 use crate::Number;
 use crate::Numbers;
 use crate::until;
+use task::NAME_MOST;
 use task::Name;
 ghost use mathlib.Core.Path.{_≡_};
 ghost use Prim.Native.Nat.{_<_};
 ghost use Rattle.task.specs.Names.{sameBytes};
 ghost use Rattle.lines.specs.Lines.{fields, isDigit, unled, nameOf};
-ghost use Rattle.lines.specs.Answers.{noNumber, numberOf, noNumbers, numbersOf};
+ghost use Rattle.lines.specs.Answers.{noNumber, numberOf, noNumbers, numbersIn};
 
 // Whether two runs of bytes are equal: their lengths and all their bytes are.
 pub fn same_run<'a>(a: &'a [u8], b: &'a [u8]) -> bool
@@ -30,11 +32,11 @@ pub fn same_run<'a>(a: &'a [u8], b: &'a [u8]) -> bool
 pub fn name_of(f: &[u8]) -> Name
     ensures { λ r. ⌜ r ≡ nameOf (now (f .entry)) ⌝ }
 {
-    let mut bytes = [0u8; 24];
+    let mut bytes = [0u8; NAME_MOST];
     let len = f.len();
     let mut i = 0;
     while i < len {
-        if 24 <= i {
+        if NAME_MOST <= i {
             return Name { len, bytes };
         }
         bytes[i] = f[i];
@@ -113,18 +115,18 @@ pub fn no_numbers() -> Numbers
 {
     Numbers {
         count: 0,
-        values: [0u64; 9],
+        values: [0u64; NUMBERS_MOST],
     }
 }
 
 // The numbers that the fields of s are.
 pub fn numbers_of(s: &[u8]) -> Numbers
-    ensures { λ r. ⌜ r ≡ numbersOf (fields (now (s .entry))) ⌝ }
+    ensures { λ r. ⌜ r ≡ numbersIn (fields (now (s .entry))) ⌝ }
 {
-    let mut values = [0u64; 9];
+    let mut values = [0u64; NUMBERS_MOST];
     let mut at = 0;
     let mut i = 0;
-    while i < 9 {
+    while i < NUMBERS_MOST {
         let rest = &s[at..];
         let e = until(rest, 9);
         let x = number_of(&rest[..e]);

@@ -7,61 +7,25 @@ use crate::fields::same_run;
 use crate::no_line;
 use crate::until;
 use demand::Costs;
+use demand::no_costs;
 use task::Machine;
 use task::Name;
-use task::Task;
+use task::Part;
 use task::Times;
+use task::no_machine;
+use task::no_name;
+use task::no_times;
 use task::well_formed;
 ghost use mathlib.Core.Path.{_≡_};
 ghost use Rattle.lines.specs.Lines.{fields};
-ghost use Rattle.lines.specs.Forms.{noMachine, noCosts, noName, untimed, machineLine, costLine, partLine, fitLine, machineForm, costForm, partForm, fitForm, wordOf};
+ghost use Rattle.lines.specs.Forms.{untimed, machineLine, costLine, partLine, fitLine, machineForm, costForm, partForm, fitForm, wordOf};
 
-pub fn no_machine() -> Machine
-    ensures { λ r. ⌜ r ≡ noMachine ⌝ }
-{
-    Machine { cores: 0, grain: 0 }
-}
-
-pub fn no_costs() -> Costs
-    ensures { λ r. ⌜ r ≡ noCosts ⌝ }
-{
-    Costs {
-        relo: 0,
-        schedo: 0,
-        tseto: 0,
-        ipb: 0,
-        beto: 0,
-        migro: 0,
-        ipio: 0,
-        ipij: 0,
-        precision: 0,
-    }
-}
-
-pub fn no_name() -> Name
-    ensures { λ r. ⌜ r ≡ noName ⌝ }
-{
-    Name {
-        len: 0,
-        bytes: [0u8; 24],
-    }
-}
-
-// A task of that name with no times.
-pub fn untimed(name: Name) -> Task
+// A part that is named and no more.
+pub fn untimed(name: Name) -> Part
     ensures { λ r. ⌜ r ≡ untimed name ⌝ }
 {
-    Task {
-        name,
-        times: Times {
-            worst: 0,
-            deadline: 0,
-            period: 0,
-            jitter: 0,
-            preempt: 0,
-            migrate: 0,
-        },
-    }
+    let times = no_times();
+    Part { name, times }
 }
 
 // A `machine` line that says this.
@@ -69,14 +33,14 @@ pub fn machine_line(machine: Machine) -> Line
     ensures { λ r. ⌜ r ≡ machineLine machine ⌝ }
 {
     let costs = no_costs();
-    let part = no_name();
-    let task = untimed(part);
+    let task = no_name();
+    let part = untimed(task);
     Line {
         word: Word::Machine,
         machine,
         costs,
-        task,
         part,
+        task,
     }
 }
 
@@ -85,46 +49,46 @@ pub fn cost_line(costs: Costs) -> Line
     ensures { λ r. ⌜ r ≡ costLine costs ⌝ }
 {
     let machine = no_machine();
-    let part = no_name();
-    let task = untimed(part);
+    let task = no_name();
+    let part = untimed(task);
     Line {
         word: Word::Cost,
         machine,
         costs,
-        task,
         part,
+        task,
     }
 }
 
 // A `part` line that says this.
-pub fn part_line(task: Task) -> Line
-    ensures { λ r. ⌜ r ≡ partLine task ⌝ }
+pub fn part_line(part: Part) -> Line
+    ensures { λ r. ⌜ r ≡ partLine part ⌝ }
 {
     let machine = no_machine();
     let costs = no_costs();
-    let part = no_name();
+    let task = no_name();
     Line {
         word: Word::Part,
         machine,
         costs,
-        task,
         part,
+        task,
     }
 }
 
 // A `fit` line that says this.
-pub fn fit_line(name: Name, part: Name) -> Line
-    ensures { λ r. ⌜ r ≡ fitLine name part ⌝ }
+pub fn fit_line(task: Name, name: Name) -> Line
+    ensures { λ r. ⌜ r ≡ fitLine task name ⌝ }
 {
     let machine = no_machine();
     let costs = no_costs();
-    let task = untimed(name);
+    let part = untimed(name);
     Line {
         word: Word::Fit,
         machine,
         costs,
-        task,
         part,
+        task,
     }
 }
 
@@ -182,7 +146,7 @@ pub fn part_form(s: &[u8]) -> Line
         return no_line();
     }
     let v = g.values;
-    part_line(Task {
+    part_line(Part {
         name,
         times: Times {
             worst: v[0],

@@ -4,12 +4,10 @@ mod forms;
 mod orders;
 
 use demand::Costs;
+use demand::no_costs;
 use forms::cost_form;
 use forms::fit_form;
 use forms::machine_form;
-use forms::no_costs;
-use forms::no_machine;
-use forms::no_name;
 use forms::part_form;
 use forms::untimed;
 use forms::word_of;
@@ -19,12 +17,19 @@ use orders::timed_order;
 use orders::withdraw_order;
 use task::Machine;
 use task::Name;
+use task::Part;
 use task::Task;
+use task::no_machine;
+use task::no_name;
+use task::no_task;
 ghost use mathlib.Core.Path.{_≡_};
 ghost use lib.ListN.{length};
 ghost use Rattle.lines.specs.Lines.{upTo};
 ghost use Rattle.lines.specs.Forms.{noLine, lineOf};
 ghost use Rattle.lines.specs.Orders.{noOrder, orderOf};
+
+/// The most numbers that stand in a line.
+pub const NUMBERS_MOST: usize = 9;
 
 /// The kind of a line, by its first field.
 pub enum Word {
@@ -35,13 +40,13 @@ pub enum Word {
     Other,
 }
 
-/// What a line says by its form alone: a machine, costs, a part, or a task's name with its part's. What it does not say is zero.
+/// What a line says by its form alone: a machine, costs, a part, or a task's name with its part's, whose times stand above. What it does not say is zero.
 pub struct Line {
     pub word: Word,
     pub machine: Machine,
     pub costs: Costs,
-    pub task: Task,
-    pub part: Name,
+    pub part: Part,
+    pub task: Name,
 }
 
 /// What a line of a script asks for, by its first field.
@@ -68,7 +73,7 @@ pub struct Number {
 /// The answer on fields that are to be numbers: how many, or 0 where they are not, or are more than nine.
 pub struct Numbers {
     pub count: usize,
-    pub values: [u64; 9],
+    pub values: [u64; NUMBERS_MOST],
 }
 
 /// How many bytes stand before the first b.
@@ -91,14 +96,14 @@ pub fn no_line() -> Line
 {
     let machine = no_machine();
     let costs = no_costs();
-    let part = no_name();
-    let task = untimed(part);
+    let task = no_name();
+    let part = untimed(task);
     Line {
         word: Word::Other,
         machine,
         costs,
-        task,
         part,
+        task,
     }
 }
 
@@ -125,8 +130,7 @@ pub fn line_of(line: &[u8]) -> Line
 pub fn no_order() -> Order
     ensures exact { λ r. ⌜ r ≡ noOrder ⌝ }
 {
-    let name = no_name();
-    let task = untimed(name);
+    let task = no_task();
     Order {
         deed: Deed::Other,
         task,

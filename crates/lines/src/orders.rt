@@ -4,11 +4,12 @@ use crate::Order;
 use crate::Word;
 use crate::fields::name_of;
 use crate::fields::same_run;
-use crate::forms::no_name;
 use crate::forms::part_form;
 use crate::forms::untimed;
 use crate::no_order;
 use crate::until;
+use task::no_task;
+use task::task_of;
 use task::well_formed;
 ghost use mathlib.Core.Path.{_≡_};
 ghost use mathlib.Core.List.{[]};
@@ -19,8 +20,7 @@ ghost use Rattle.lines.specs.Orders.{listOrder, deedOf, timedForm, withd
 pub fn list_order() -> Order
     ensures { λ r. ⌜ r ≡ listOrder ⌝ }
 {
-    let name = no_name();
-    let task = untimed(name);
+    let task = no_task();
     Order {
         deed: Deed::List,
         task,
@@ -65,11 +65,14 @@ pub fn timed_order(deed: Deed, s: &[u8]) -> Order
 {
     let line = part_form(s);
     let word = line.word;
-    let task = line.task;
+    let part = line.part;
     match word {
         Word::Machine => no_order(),
         Word::Cost => no_order(),
-        Word::Part => Order { deed, task },
+        Word::Part => {
+            let task = task_of(part.name, part);
+            Order { deed, task }
+        }
         Word::Fit => no_order(),
         Word::Other => no_order(),
     }
@@ -86,7 +89,7 @@ pub fn withdraw_order(s: &[u8]) -> Order
     if !well_formed(name) {
         return no_order();
     }
-    let task = untimed(name);
+    let task = task_of(name, untimed(name));
     Order {
         deed: Deed::Withdraw,
         task,

@@ -10,19 +10,20 @@ use mathlib.Core.List.{List, [], _∷_, _++_, append-assoc}
 use Prim.Native.Nat.{ℕ}
 use Rattle.demand.specs.Sizes.{Each}
 use Rattle.demand.proofs.Sums.{each-snoc}
+use Rattle.task.specs.declared.Part.{Part}
 use Rattle.task.specs.declared.Task.{Task}
+use Rattle.task.specs.Tasks.{taskOf, listOf}
 use Rattle.lines.specs.declared.Word.{Word}
 use Rattle.lines.specs.declared.Line.{Line}
 use Rattle.lines.specs.Lines.{bytesOf, fields, nameOf, isName}
 use Rattle.lines.specs.Forms.{timesOf, values, lineOf}
 use Rattle.lines.proofs.SaysLaws.{says-part, says-fit, name-exact}
-use Rattle.sheet.specs.Sheet.{Above, lineFault, taskOf, wordAfter, after, whole, outcomeOf, readOf}
-use Rattle.task.specs.Tasks.{listOf}
+use Rattle.sheet.specs.Sheet.{Above, lineFault, partNamed, wordAfter, after, whole, outcomeOf, readOf}
 use Rattle.sheet.specs.Fitted.{linesOf, Fitted}
 use Rattle.sheet.proofs.FaultLaws.{line-fit}
 use Rattle.sheet.proofs.WholeLaws.{read-keeps, read-whole, read-tasks, Found, found}
 
-record Stands (ls : List (List ℕ)) (p : Task) : Type 0 where
+record Stands (ls : List (List ℕ)) (p : Part) : Type 0 where
   above : List (List ℕ)
   below : List (List ℕ)
   line : List ℕ
@@ -37,7 +38,7 @@ record Stands (ls : List (List ℕ)) (p : Task) : Type 0 where
 -- ---- one line more
 
 module _ (ls : List (List ℕ)) (l : List ℕ) where
-  stands-on : (p : Task) → Stands ls p → Stands (ls ++ (l ∷ [])) p
+  stands-on : (p : Part) → Stands ls p → Stands (ls ++ (l ∷ [])) p
   stands-on p s =
       record {
         above = s .above;
@@ -85,7 +86,7 @@ record Arrows (ls : List (List ℕ)) (a : Above) : Type 0 where
   parts-stand : Each (Stands ls) (a .parts)
   tasks-fitted : Each (Fitted ls) (a .tasks)
 
-part-stands : (ls : List (List ℕ)) (l : List ℕ) → lineOf l .word ≡ Word.Part → Stands (ls ++ (l ∷ [])) (lineOf l .task)
+part-stands : (ls : List (List ℕ)) (l : List ℕ) → lineOf l .word ≡ Word.Part → Stands (ls ++ (l ∷ [])) (lineOf l .part)
 part-stands ls l word =
     let s = says-part l word in
     record {
@@ -97,17 +98,17 @@ part-stands ls l word =
       order = refl;
       reads = s .reads;
       good = s .named;
-      named = ap (λ (k : Line). k .task .name) (s .line);
-      timed = ap (λ (k : Line). k .task .times) (s .line);
+      named = ap (λ (k : Line). k .part .name) (s .line);
+      timed = ap (λ (k : Line). k .part .times) (s .line);
     }
 
 -- the part that a fit line names has its very bytes
-task-fitted : (ls : List (List ℕ)) (l : List ℕ) (parts : List Task) → lineOf l .word ≡ Word.Fit → Found (Stands ls) (lineOf l .part) parts
-    → Fitted (ls ++ (l ∷ [])) (taskOf (lineOf l .task .name) (lineOf l .part) parts)
+task-fitted : (ls : List (List ℕ)) (l : List ℕ) (parts : List Part) → lineOf l .word ≡ Word.Fit → Found (Stands ls) (lineOf l .part .name) parts
+    → Fitted (ls ++ (l ∷ [])) (taskOf (lineOf l .task) (partNamed (lineOf l .part .name) parts))
 task-fitted ls l parts word f =
     let s = says-fit l word in
     let p = f .holds in
-    let same : nameOf (s .name) ≡ nameOf (p .name) = sym (ap (λ (k : Line). k .part) (s .line)) ∙ f .same ∙ p .named in
+    let same : nameOf (s .name) ≡ nameOf (p .name) = sym (ap (λ (k : Line). k .part .name) (s .line)) ∙ f .same ∙ p .named in
     let bytes : s .name ≡ p .name = name-exact (s .name) (p .name) (s .named) (p .good) same in
     record {
       above = p .above;
@@ -121,8 +122,8 @@ task-fitted ls l parts word f =
       order = ap (λ (k : List (List ℕ)). k ++ (l ∷ [])) (p .order) ∙ append-assoc (p .above) (p .line ∷ p .below) (l ∷ []);
       part-reads = p .reads;
       fit-reads = s .reads ∙ rw bytes;
-      named = ap (λ (k : Line). k .task .name) (s .line);
-      timed = f .times ∙ p .timed;
+      named = ap (λ (k : Line). k .task) (s .line);
+      timed = ap (λ (k : Part). k .times) (f .is) ∙ p .timed;
     }
 
 arrows-step : (ls : List (List ℕ)) (a : Above) (l : List ℕ) → Arrows ls a → lineFault a (lineOf l) ≡ 0 → Arrows (ls ++ (l ∷ [])) (after a (lineOf l))
@@ -139,15 +140,15 @@ arrows-step ls a l so-far none = by-word (lineOf l .word) refl
     by-word Word.Machine word = record { parts-stand = parts; tasks-fitted = tasks }
     by-word Word.Cost word = record { parts-stand = parts; tasks-fitted = tasks }
     by-word Word.Part word = record {
-      parts-stand = each-snoc (Stands (ls ++ (l ∷ []))) (a .parts) (lineOf l .task) parts (part-stands ls l word);
+      parts-stand = each-snoc (Stands (ls ++ (l ∷ []))) (a .parts) (lineOf l .part) parts (part-stands ls l word);
       tasks-fitted = tasks;
     }
     by-word Word.Fit word =
         let known = line-fit a (lineOf l) none word .known in
-        let one = task-fitted ls l (a .parts) word (found (Stands ls) 1 (lineOf l .part) (a .parts) (so-far .parts-stand) known) in
+        let one = task-fitted ls l (a .parts) word (found (Stands ls) 1 (lineOf l .part .name) (a .parts) (so-far .parts-stand) known) in
         record {
           parts-stand = parts;
-          tasks-fitted = each-snoc (Fitted (ls ++ (l ∷ []))) (a .tasks) (taskOf (lineOf l .task .name) (lineOf l .part) (a .parts)) tasks one;
+          tasks-fitted = each-snoc (Fitted (ls ++ (l ∷ []))) (a .tasks) (taskOf (lineOf l .task) (partNamed (lineOf l .part .name) (a .parts))) tasks one;
         }
     by-word Word.Other word = record { parts-stand = parts; tasks-fitted = tasks }
 

@@ -8,8 +8,10 @@ use Rattle.demand.specs.Sizes.{sized, sizedCosts}
 use Rattle.task.specs.declared.Task.{Task}
 use Rattle.task.specs.Names.{nameByte, formed, sameName}
 use Rattle.task.specs.Tasks.{wholePiece, sizedMachine}
-use Rattle.lines.specs.Lines.{bytesOf, upTo, beyond, isNumber, padded, nameOf, isName}
-use Rattle.lines.specs.Forms.{noCosts, machineForm, costForm, partForm, fitForm, wordOf, lineOf}
+use Rattle.lines.specs.Lines.{bytesOf, upTo, beyond, isNumber, nameOf, isName}
+use Rattle.demand.specs.Lists.{padded}
+use Rattle.demand.specs.Charge.{noCosts}
+use Rattle.lines.specs.Forms.{machineForm, costForm, partForm, fitForm, wordOf, lineOf}
 use Rattle.sheet.specs.Sheet.{Outcome, refused, whole, amongFits, machineFault, costFault, partFault, fitFault, lineFault, after, readFrom, outcomeOf}
 
 -- a sheet, and what is to be made of it
@@ -30,7 +32,7 @@ rows =
             stage = amongFits;
             machine = record { cores = 2; grain = 1 };
             costs = noCosts;
-            parts = timed "drv-a" ∷ [];
+            parts = record { name = nameOf (bytesOf "drv-a"); times = timed "drv-a" .times } ∷ [];
             tasks = timed "press" ∷ timed "feed" ∷ timed "weld" ∷ [];
           });
     }

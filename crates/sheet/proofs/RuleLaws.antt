@@ -13,17 +13,18 @@ use borrow.Author.Tests.{le-leb}
 use lib.ListN.{length}
 use Rattle.demand.specs.Sizes.{Each, sized, sizedCosts}
 use Rattle.demand.proofs.Sums.{each-snoc}
+use Rattle.task.specs.declared.Part.{Part}
 use Rattle.task.specs.declared.Task.{Task}
+use Rattle.task.specs.Tasks.{taskOf, tasksMost, sizedMachine, wholePiece, orElse, faultOf, firstFault, stateFault, noTask}
 use Rattle.task.specs.Names.{formed}
-use Rattle.task.specs.Tasks.{tasksMost, sizedMachine, wholePiece, orElse, faultOf, firstFault, stateFault}
 use Rattle.task.proofs.TaskLaws.{fault-free}
 use Rattle.lines.specs.declared.Word.{Word}
 use Rattle.lines.specs.declared.Line.{Line}
 use Rattle.lines.specs.Lines.{isName}
-use Rattle.lines.specs.Forms.{noTask, lineOf}
-use Rattle.lines.proofs.LineLaws.{padded-take}
+use Rattle.lines.specs.Forms.{lineOf}
+use Rattle.demand.proofs.PaddedLaws.{padded-take}
 use Rattle.lines.proofs.SaysLaws.{says-fit}
-use Rattle.sheet.specs.Sheet.{Above, belowMachine, amongParts, lineFault, taskOf, partTimes, wordAfter, after, whole, outcomeOf, readOf}
+use Rattle.sheet.specs.Sheet.{Above, belowMachine, amongParts, lineFault, partNamed, wordAfter, after, whole, outcomeOf, readOf}
 use Rattle.sheet.proofs.FaultLaws.{line-machine, line-cost, line-part, line-fit}
 use Rattle.sheet.proofs.WholeLaws.{read-keeps, read-whole, read-fits, read-shown, found}
 
@@ -42,7 +43,7 @@ first-snoc (s ∷ ts) above t none good =
 
 -- ---- what stands above, line by line
 
-SizedPart : Task → Type 0
+SizedPart : Part → Type 0
 SizedPart p = sized (wholePiece (p .times)) ≡ true
 
 record Sound (a : Above) : Type 0 where
@@ -51,19 +52,19 @@ record Sound (a : Above) : Type 0 where
   parts-sized : Each SizedPart (a .parts)
   tasks-good : firstFault [] (a .tasks) ≡ 0
 
-formed-task : (l : List ℕ) → lineOf l .word ≡ Word.Fit → formed (lineOf l .task .name) ≡ true
+formed-task : (l : List ℕ) → lineOf l .word ≡ Word.Fit → formed (lineOf l .task) ≡ true
 unfolding isName
-formed-task l word = let s = says-fit l word in ap (λ (k : Line). formed (k .task .name)) (s .line) ∙ s .called
+formed-task l word = let s = says-fit l word in ap (λ (k : Line). formed (k .task)) (s .line) ∙ s .called
 
 module _ (a : Above) (l : List ℕ) (so-far : Sound a) (none : lineFault a (lineOf l) ≡ 0) where
-  task-good : lineOf l .word ≡ Word.Fit → firstFault [] (a .tasks ++ (taskOf (lineOf l .task .name) (lineOf l .part) (a .parts) ∷ [])) ≡ 0
+  task-good : lineOf l .word ≡ Word.Fit → firstFault [] (a .tasks ++ (taskOf (lineOf l .task) (partNamed (lineOf l .part .name) (a .parts)) ∷ [])) ≡ 0
   unfolding SizedPart
   task-good word =
       let kept = line-fit a (lineOf l) none word in
-      let part = found SizedPart 1 (lineOf l .part) (a .parts) (so-far .parts-sized) (kept .known) in
-      let fits : sized (wholePiece (partTimes (lineOf l .part) (a .parts))) ≡ true = rw (part .times) (part .holds) in
-      first-snoc (a .tasks) [] (taskOf (lineOf l .task .name) (lineOf l .part) (a .parts)) (so-far .tasks-good)
-      (fault-free (a .tasks) (taskOf (lineOf l .task .name) (lineOf l .part) (a .parts)) (formed-task l word) fits (kept .new))
+      let part = found SizedPart 1 (lineOf l .part .name) (a .parts) (so-far .parts-sized) (kept .known) in
+      let fits : sized (wholePiece (partNamed (lineOf l .part .name) (a .parts) .times)) ≡ true = rw (part .is) (part .holds) in
+      first-snoc (a .tasks) [] (taskOf (lineOf l .task) (partNamed (lineOf l .part .name) (a .parts))) (so-far .tasks-good)
+      (fault-free (a .tasks) (taskOf (lineOf l .task) (partNamed (lineOf l .part .name) (a .parts))) (formed-task l word) fits (kept .new))
 
   sound-step : Sound (after a (lineOf l))
   unfolding after SizedPart
@@ -90,7 +91,7 @@ module _ (a : Above) (l : List ℕ) (so-far : Sound a) (none : lineFault a (line
           record {
             machine-sized = λ s. so-far .machine-sized (omega (arith, kept .order));
             costs-sized = λ s. so-far .costs-sized (omega (arith, kept .order));
-            parts-sized = each-snoc SizedPart (a .parts) (lineOf l .task) (so-far .parts-sized) (kept .fits);
+            parts-sized = each-snoc SizedPart (a .parts) (lineOf l .part) (so-far .parts-sized) (kept .fits);
             tasks-good = so-far .tasks-good;
           }
       by-word Word.Fit word =

@@ -16,6 +16,7 @@ use lib.ListN.{length}
 use Rattle.demand.specs.declared.Costs.{Costs}
 use Rattle.demand.specs.Sizes.{sized, sizedCosts}
 use Rattle.task.specs.declared.Name.{Name}
+use Rattle.task.specs.declared.Part.{Part}
 use Rattle.task.specs.declared.Task.{Task}
 use Rattle.task.specs.declared.Machine.{Machine}
 use Rattle.task.specs.Tasks.{rule, sizedMachine, wholePiece}
@@ -23,9 +24,9 @@ use Rattle.lines.specs.declared.Word.{Word}
 use Rattle.lines.specs.declared.Line.{Line}
 use Rattle.lines.specs.Lines.{newline, upTo, beyond}
 use Rattle.lines.specs.Forms.{lineOf}
-use Rattle.sheet.specs.Sheet.{Above, atTop, belowMachine, amongParts, top, free, room, machineFault, costFault}
-use Rattle.sheet.specs.Sheet.{partFault, fitFault, wordFault, lineFault, after, Outcome, refused, whole, ending}
-use Rattle.sheet.specs.Sheet.{next, readFrom, sheetMost, outcomeOf, shown, readOf}
+use Rattle.sheet.specs.Sheet.{Above, atTop, belowMachine, amongParts, top, taskFree, partFree, room, machineFault}
+use Rattle.sheet.specs.Sheet.{costFault, partFault, fitFault, wordFault, lineFault, after, Outcome, refused, whole}
+use Rattle.sheet.specs.Sheet.{ending, next, readFrom, sheetMost, outcomeOf, shown, readOf}
 
 -- ---- one line
 
@@ -41,29 +42,30 @@ cost-small : (stage : ℕ) (c : Costs) → costFault stage c ≤ 8
 unfolding costFault
 cost-small stage c = rule-small (eqb stage belowMachine) 8 (rule (sizedCosts c) 2 0) (omega arith) (rule-small (sizedCosts c) 2 0 (omega arith) (omega arith))
 
-part-small : (stage : ℕ) (t : Task) (parts : List Task) → partFault stage t parts ≤ 8
+part-small : (stage : ℕ) (p : Part) (parts : List Part) → partFault stage p parts ≤ 8
 unfolding partFault
-part-small stage t parts =
-    let fits : Bool = sized (wholePiece (t .times)) in
+part-small stage p parts =
+    let fits : Bool = sized (wholePiece (p .times)) in
     let last : rule (room parts) 6 0 ≤ 8 = rule-small (room parts) 6 0 (omega arith) (omega arith) in
-    let new : rule (free (t .name) parts) 4 (rule (room parts) 6 0) ≤ 8 = rule-small (free (t .name) parts) 4 (rule (room parts) 6 0) (omega arith) last in
-    rule-small (eqb stage amongParts) 8 (rule fits 3 (rule (free (t .name) parts) 4 (rule (room parts) 6 0)))
-    (omega arith) (rule-small fits 3 (rule (free (t .name) parts) 4 (rule (room parts) 6 0)) (omega arith) new)
+    let new : rule (partFree (p .name) parts) 4 (rule (room parts) 6 0) ≤ 8 =
+    rule-small (partFree (p .name) parts) 4 (rule (room parts) 6 0) (omega arith) last in
+    rule-small (eqb stage amongParts) 8 (rule fits 3 (rule (partFree (p .name) parts) 4 (rule (room parts) 6 0)))
+    (omega arith) (rule-small fits 3 (rule (partFree (p .name) parts) 4 (rule (room parts) 6 0)) (omega arith) new)
 
-fit-small : (stage : ℕ) (n p : Name) (parts tasks : List Task) → fitFault stage n p parts tasks ≤ 8
+fit-small : (stage : ℕ) (n p : Name) (parts : List Part) (tasks : List Task) → fitFault stage n p parts tasks ≤ 8
 unfolding fitFault
 fit-small stage n p parts tasks =
-    let known : Bool = not (free p parts) in
+    let known : Bool = not (partFree p parts) in
     let last : rule (room tasks) 6 0 ≤ 8 = rule-small (room tasks) 6 0 (omega arith) (omega arith) in
     let five : rule known 5 (rule (room tasks) 6 0) ≤ 8 = rule-small known 5 (rule (room tasks) 6 0) (omega arith) last in
-    rule-small (leb amongParts stage) 8 (rule (free n tasks) 4 (rule known 5 (rule (room tasks) 6 0)))
-    (omega arith) (rule-small (free n tasks) 4 (rule known 5 (rule (room tasks) 6 0)) (omega arith) five)
+    rule-small (leb amongParts stage) 8 (rule (taskFree n tasks) 4 (rule known 5 (rule (room tasks) 6 0)))
+    (omega arith) (rule-small (taskFree n tasks) 4 (rule known 5 (rule (room tasks) 6 0)) (omega arith) five)
 
 word-small : (w : Word) (a : Above) (l : Line) → wordFault w a l ≤ 8
 word-small Word.Machine a l = machine-small (a .stage) (l .machine)
 word-small Word.Cost a l = cost-small (a .stage) (l .costs)
-word-small Word.Part a l = part-small (a .stage) (l .task) (a .parts)
-word-small Word.Fit a l = fit-small (a .stage) (l .task .name) (l .part) (a .parts) (a .tasks)
+word-small Word.Part a l = part-small (a .stage) (l .part) (a .parts)
+word-small Word.Fit a l = fit-small (a .stage) (l .task) (l .part .name) (a .parts) (a .tasks)
 word-small Word.Other a l = omega arith
 
 line-small : (a : Above) (l : Line) → lineFault a l ≤ 8

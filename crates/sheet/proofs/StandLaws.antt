@@ -16,47 +16,49 @@ use mathlib.Core.List.{List, []}
 use Prim.Native.Nat.{ℕ, _+_, _-_, _≤_, _<_}
 use native.Mathlib.Omega.{arith}
 use lib.ListN.{length, take, getD, set}
-use Rattle.task.specs.declared.Name.{Name}
 use Rattle.task.specs.declared.Task.{Task}
 use Rattle.task.specs.declared.Tasks.{Tasks}
-use Rattle.task.specs.Tasks.{tasksMost, listOf, placeOf}
+use Rattle.task.specs.Tasks.{tasksMost, taskOf, partPlace}
+use Rattle.task.specs.declared.Part.{Part}
+use Rattle.task.specs.declared.Parts.{Parts}
 use Rattle.lines.specs.declared.Word.{Word}
 use Rattle.lines.specs.declared.Line.{Line}
 use Rattle.lines.specs.Lines.{newline, upTo}
 use Rattle.lines.specs.Forms.{lineOf}
 use Rattle.lines.proofs.LineLaws.{rest}
 use Rattle.sheet.specs.declared.Head.{Head}
-use Rattle.sheet.specs.Sheet.{Above, top, amongParts, sheetMost, lineFault, wordAfter, after, partTimes, refused, shown, readOf, tasksOf}
-use Rattle.sheet.specs.Held.{headOf, Holds, sought, Found}
-use Rattle.sheet.proofs.FaultLaws.{line-part, line-fit, times-inside, times-there}
-use Rattle.sheet.proofs.DraftLaws.{count-is, list-is, list-long, holds-same, holds-part, holds-task, Seeking, seek-end}
+use Rattle.sheet.specs.Sheet.{Above, top, amongParts, sheetMost, lineFault, wordAfter, after, partNamed, refused, shown, readOf, tasksOf}
+use Rattle.sheet.specs.Held.{partsOf, headOf, Carries, Found}
+use Rattle.sheet.proofs.FaultLaws.{line-part, line-fit, part-inside, part-there}
+use Rattle.sheet.proofs.DraftLaws.{tasks-count, tasks-are, tasks-array, parts-count, parts-are, parts-array, holds-same}
+use Rattle.sheet.proofs.DraftLaws.{holds-part, holds-task, Seeking, seek-end, partName, taskName}
 use Rattle.sheet.proofs.ReadLaws.{Reached, reached-top, reached-bad, reached-line, reached-missing, reached-whole}
 
-pub record Standing (bytes : List ℕ) (h : Head) (ps ts : Tasks) (at n : ℕ) : Type 0 where
+pub record Standing (bytes : List ℕ) (h : Head) (ps : Parts) (ts : Tasks) (at n : ℕ) : Type 0 where
   pub above : Above
-  pub held : Holds above h ps ts
+  pub held : Carries above h ps ts
   pub reached : Reached bytes above at n
 
-pub stand-top : (bytes : List ℕ) (h : Head) (ps ts : Tasks)
-    → length bytes ≤ sheetMost → h ≡ headOf top → ps ≡ tasksOf [] → ts ≡ tasksOf [] → Standing bytes h ps ts 0 1
+pub stand-top : (bytes : List ℕ) (h : Head) (ps : Parts) (ts : Tasks)
+    → length bytes ≤ sheetMost → h ≡ headOf top → ps ≡ partsOf [] → ts ≡ tasksOf [] → Standing bytes h ps ts 0 1
 stand-top bytes h ps ts short head parts tasks = record {
   above = top;
   held = record { head-is = head; parts-are = parts; tasks-are = tasks };
   reached = reached-top bytes short;
 }
 
-module _ {bytes : List ℕ} {h : Head} {ps ts : Tasks} {at n : ℕ} (s : Standing bytes h ps ts at n) where
+module _ {bytes : List ℕ} {h : Head} {ps : Parts} {ts : Tasks} {at n : ℕ} (s : Standing bytes h ps ts at n) where
   pub parts-few : ps .count ≤ tasksMost
-  parts-few = omega (arith, count-is ps (s .above .parts) (s .held .parts-are), s .reached .fits .parts-fit)
+  parts-few = omega (arith, parts-count ps (s .above .parts) (s .held .parts-are), s .reached .fits .parts-fit)
 
   pub parts-long : length (ps .list) ≡ tasksMost
-  parts-long = list-long ps (s .above .parts) (s .held .parts-are)
+  parts-long = parts-array ps (s .above .parts) (s .held .parts-are)
 
   pub tasks-few : ts .count ≤ tasksMost
-  tasks-few = omega (arith, count-is ts (s .above .tasks) (s .held .tasks-are), s .reached .fits .tasks-fit)
+  tasks-few = omega (arith, tasks-count ts (s .above .tasks) (s .held .tasks-are), s .reached .fits .tasks-fit)
 
   pub tasks-long : length (ts .list) ≡ tasksMost
-  tasks-long = list-long ts (s .above .tasks) (s .held .tasks-are)
+  tasks-long = tasks-array ts (s .above .tasks) (s .held .tasks-are)
 
   pub stage-is : s .above .stage ≡ h .stage
   stage-is = ap (λ (g : Head). g .stage) (sym (s .held .head-is))
@@ -72,16 +74,16 @@ module _ {bytes : List ℕ} {h : Head} {ps ts : Tasks} {at n : ℕ} (s : Standin
     pub run : e ≡ length (upTo newline (rest bytes at))
     pub ended : e ≡ length (rest bytes at) → ⊥
     pub says : l ≡ lineOf (take e (rest bytes at))
-    pub place : source ≡ placeOf 1 (sought (l .word) l) (listOf ps)
+    pub place : source ≡ partPlace 1 (l .part .name) (take (ps .count) (ps .list))
     pub judged : fault ≡ lineFault (s .above) l
 
   module _ (e : ℕ) (run : e ≡ length (upTo newline (rest bytes at)))
       (ended : e ≡ length (rest bytes at) → ⊥) (l : Line) (says : l ≡ lineOf (take e (rest bytes at)))
-      (name : Name) (names : name ≡ sought (l .word) l) (i source : ℕ) (first : Seeking name ps i source)
-      (all : ps .count ≤ i) (j twin : ℕ) (second : Seeking (l .task .name) ts j twin) (over : ts .count ≤ j)
+      (i source : ℕ) (first : Seeking partName (l .part .name) (ps .count) (ps .list) i source)
+      (all : ps .count ≤ i) (j twin : ℕ) (second : Seeking taskName (l .task) (ts .count) (ts .list) j twin) (over : ts .count ≤ j)
       (fault : ℕ) (judged : (a : Above) → a .stage ≡ h .stage → Found a l source (ps .count) twin (ts .count) → fault ≡ lineFault a l) where
-    source-at : source ≡ placeOf 1 (sought (l .word) l) (listOf ps)
-    source-at = rw (← names) (seek-end name ps i source first all)
+    source-at : source ≡ partPlace 1 (l .part .name) (take (ps .count) (ps .list))
+    source-at = seek-end partName (l .part .name) (ps .count) (ps .list) i source first all
 
     pub line-read : LineRead e l source fault
     line-read = record {
@@ -90,10 +92,12 @@ module _ {bytes : List ℕ} {h : Head} {ps ts : Tasks} {at n : ℕ} (s : Standin
       says = says;
       place = source-at;
       judged = judged (s .above) stage-is (record {
-        source-is = rw (← list-is ps (s .above .parts) (s .held .parts-are) (s .reached .fits .parts-fit)) source-at;
-        parts-count = count-is ps (s .above .parts) (s .held .parts-are);
-        twin-is = rw (← list-is ts (s .above .tasks) (s .held .tasks-are) (s .reached .fits .tasks-fit)) (seek-end (l .task .name) ts j twin second over);
-        tasks-count = count-is ts (s .above .tasks) (s .held .tasks-are);
+        source-is = rw (← parts-are ps (s .above .parts) (s .held .parts-are) (s .reached .fits .parts-fit)) source-at;
+        parts-count = parts-count ps (s .above .parts) (s .held .parts-are);
+        twin-is =
+            rw (← tasks-are ts (s .above .tasks) (s .held .tasks-are) (s .reached .fits .tasks-fit))
+            (seek-end taskName (l .task) (ts .count) (ts .list) j twin second over);
+        tasks-count = tasks-count ts (s .above .tasks) (s .held .tasks-are);
       });
     }
 
@@ -106,26 +110,23 @@ module _ {bytes : List ℕ} {h : Head} {ps ts : Tasks} {at n : ℕ} (s : Standin
       none = sym (r .judged) ∙ good
 
       pub part-space : l .word ≡ Word.Part → ps .count < tasksMost
-      part-space word = omega (arith, count-is ps (s .above .parts) (s .held .parts-are), line-part (s .above) l none word .space)
+      part-space word = omega (arith, parts-count ps (s .above .parts) (s .held .parts-are), line-part (s .above) l none word .space)
 
       pub task-space : l .word ≡ Word.Fit → ts .count < tasksMost
-      task-space word = omega (arith, count-is ts (s .above .tasks) (s .held .tasks-are), line-fit (s .above) l none word .space)
+      task-space word = omega (arith, tasks-count ts (s .above .tasks) (s .held .tasks-are), line-fit (s .above) l none word .space)
 
       module _ (word : l .word ≡ Word.Fit) where
-        parts-is : listOf ps ≡ s .above .parts
-        parts-is = list-is ps (s .above .parts) (s .held .parts-are) (s .reached .fits .parts-fit)
-
-        place : source ≡ placeOf 1 (l .part) (listOf ps)
-        place = rw word at (r .place)
+        parts-is : take (ps .count) (ps .list) ≡ s .above .parts
+        parts-is = parts-are ps (s .above .parts) (s .held .parts-are) (s .reached .fits .parts-fit)
 
         pub source-some : source ≡ 0 → ⊥
-        source-some zero = line-fit (s .above) l none word .known (rw (← parts-is) (sym place ∙ zero))
+        source-some zero = line-fit (s .above) l none word .known (rw (← parts-is) (sym (r .place) ∙ zero))
 
         pub source-low : source - 1 < tasksMost
-        source-low = times-inside (l .part) (ps .count) (ps .list) parts-long source place source-some
+        source-low = part-inside (l .part .name) (ps .count) (ps .list) parts-long source (r .place) source-some
 
-        pub source-times : (d : Task) → getD (ps .list) (source - 1) d .times ≡ partTimes (l .part) (s .above .parts)
-        source-times d = rw (← parts-is) (sym (times-there (l .part) (ps .count) (ps .list) parts-long source place source-some d))
+        source-part : (d : Part) → getD (ps .list) (source - 1) d ≡ partNamed (l .part .name) (s .above .parts)
+        source-part d = rw (← parts-is) (sym (part-there (l .part .name) (ps .count) (ps .list) parts-long source (r .place) source-some d))
 
       module _ (next : Head) (head : (a : Above) → h ≡ headOf a → next ≡ headOf (after a l)) where
         there : Reached bytes (after (s .above) l) (at + e + 1) (n + 1)
@@ -143,22 +144,18 @@ module _ {bytes : List ℕ} {h : Head} {ps ts : Tasks} {at n : ℕ} (s : Standin
         }
 
         pub stand-part : l .word ≡ Word.Part
-            → Standing bytes next (record { count = ps .count + 1; list = set (ps .list) (ps .count) (l .task) }) ts (at + e + 1) (n + 1)
+            → Standing bytes next (record { count = ps .count + 1; list = set (ps .list) (ps .count) (l .part) }) ts (at + e + 1) (n + 1)
         stand-part word = record {
           above = after (s .above) l;
           held = holds-part (s .above) h ps ts (s .held) l next heads word (line-part (s .above) l none word .space);
           reached = there;
         }
 
-        pub stand-fit : l .word ≡ Word.Fit → (d : Task)
-            → Standing bytes next ps (record {
-              count = ts .count + 1;
-              list = set (ts .list) (ts .count) (record { name = l .task .name; times = getD (ps .list) (source - 1) d .times });
-            })
-            (at + e + 1) (n + 1)
-        stand-fit word d = record {
+        pub stand-fit : l .word ≡ Word.Fit → (d : Part) (t : Task) → t ≡ taskOf (l .task) (getD (ps .list) (source - 1) d)
+            → Standing bytes next ps (record { count = ts .count + 1; list = set (ts .list) (ts .count) t }) (at + e + 1) (n + 1)
+        stand-fit word d t made = record {
           above = after (s .above) l;
           held = holds-task (s .above) h ps ts (s .held) l next heads word
-              (line-fit (s .above) l none word .space) (getD (ps .list) (source - 1) d .times) (source-times word d);
+              (line-fit (s .above) l none word .space) t (made ∙ ap (taskOf (l .task)) (source-part word d));
           reached = there;
         }

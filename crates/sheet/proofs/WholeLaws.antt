@@ -17,16 +17,15 @@ use lib.Dec.{leb}
 use lib.ListN.{length}
 use Rattle.demand.specs.Sizes.{Each}
 use Rattle.task.specs.declared.Name.{Name}
-use Rattle.task.specs.declared.Task.{Task}
 use Rattle.task.specs.Names.{sameName}
-use Rattle.task.specs.Tasks.{tasksMost, placeOf}
+use Rattle.task.specs.Tasks.{tasksMost, noTask, partPlace, listOf}
+use Rattle.task.specs.declared.Part.{Part}
 use Rattle.task.proofs.NameLaws.{same-name-exact}
 use Rattle.lines.specs.Lines.{newline, upTo, beyond}
-use Rattle.lines.specs.Forms.{noTask, lineOf}
-use Rattle.lines.proofs.LineLaws.{padded-take}
-use Rattle.sheet.specs.Sheet.{Above, top, amongParts, lineFault, partTimes, after, Outcome, refused, whole}
+use Rattle.lines.specs.Forms.{lineOf}
+use Rattle.demand.proofs.PaddedLaws.{padded-take}
+use Rattle.sheet.specs.Sheet.{Above, top, amongParts, lineFault, partNamed, after, Outcome, refused, whole}
 use Rattle.sheet.specs.Sheet.{ending, next, readFrom, sheetMost, outcomeOf, shown, readOf}
-use Rattle.task.specs.Tasks.{listOf}
 use Rattle.sheet.specs.Fitted.{ended, linesOf}
 use Rattle.sheet.proofs.ReadLaws.{Fits, after-fits}
 
@@ -124,19 +123,19 @@ read-tasks bytes b e = rw (read-shown bytes b e) (padded-take noTask tasksMost (
 
 -- ---- a part that is known by its name
 
-pub record Found (Q : Task → Type 0) (n : Name) (ps : List Task) : Type 0 where
-  pub part : Task
+pub record Found (Q : Part → Type 0) (n : Name) (ps : List Part) : Type 0 where
+  pub part : Part
   pub holds : Q part
   pub same : n ≡ part .name
-  pub times : partTimes n ps ≡ part .times
+  pub is : partNamed n ps ≡ part
 
-pub found : (Q : Task → Type 0) (k : ℕ) (n : Name) (ps : List Task) → Each Q ps → (placeOf k n ps ≡ 0 → ⊥) → Found Q n ps
+pub found : (Q : Part → Type 0) (k : ℕ) (n : Name) (ps : List Part) → Each Q ps → (partPlace k n ps ≡ 0 → ⊥) → Found Q n ps
 found Q k n [] each some = absurd (some refl)
 found Q k n (p ∷ ps) each some = by-test (sameName n (p .name)) refl (λ h. found Q (k + 1) n ps (each .1) h) some
   where
     by-test : (t : Bool) → sameName n (p .name) ≡ t
-        → ((placeOf (k + 1) n ps ≡ 0 → ⊥) → Found Q n ps) → (cond t k (placeOf (k + 1) n ps) ≡ 0 → ⊥) → Found Q n (p ∷ ps)
-    by-test true e h some = record { part = p; holds = each .0; same = same-name-exact n (p .name) e; times = rw e }
+        → ((partPlace (k + 1) n ps ≡ 0 → ⊥) → Found Q n ps) → (cond t k (partPlace (k + 1) n ps) ≡ 0 → ⊥) → Found Q n (p ∷ ps)
+    by-test true e h some = record { part = p; holds = each .0; same = same-name-exact n (p .name) e; is = rw e }
     by-test false e h some =
         let f = h some in
-        record { part = f .part; holds = f .holds; same = f .same; times = rw e (f .times) }
+        record { part = f .part; holds = f .holds; same = f .same; is = rw e (f .is) }

@@ -14,25 +14,27 @@ use lib.ListN.{length}
 use Rattle.demand.specs.declared.Costs.{Costs}
 use Rattle.demand.specs.Sizes.{sized, sizedCosts}
 use Rattle.task.specs.declared.Name.{Name}
-use Rattle.task.specs.declared.Times.{Times}
+use Rattle.task.specs.declared.Part.{Part}
 use Rattle.task.specs.declared.Task.{Task}
 use Rattle.task.specs.declared.Tasks.{Tasks}
 use Rattle.task.specs.declared.Machine.{Machine}
 use Rattle.task.specs.Names.{sameName}
-use Rattle.task.specs.Tasks.{tasksMost, sizedMachine, wholePiece, placeOf, rule}
+use Rattle.task.specs.Tasks.{tasksMost, noPart, noTask, noMachine, taskOf, sizedMachine, wholePiece, placeOf, partPlace, rule}
 use Rattle.lines.specs.declared.Word.{Word}
 use Rattle.lines.specs.declared.Line.{Line}
 use Rattle.sheet.specs.declared.Sheet.{Sheet}
 use Rattle.sheet.specs.declared.Read.{Read}
-use Rattle.lines.specs.Lines.{newline, upTo, beyond, padded}
-use Rattle.lines.specs.Forms.{noMachine, noCosts, noTimes, noTask, lineOf}
+use Rattle.demand.specs.Lists.{padded}
+use Rattle.demand.specs.Charge.{noCosts}
+use Rattle.lines.specs.Lines.{newline, upTo, beyond}
+use Rattle.lines.specs.Forms.{lineOf}
 
 -- what is known where a line begins; the stage says which lines may stand there
 pub record Above : Type 0 where
   pub stage : ℕ
   pub machine : Machine
   pub costs : Costs
-  pub parts : List Task
+  pub parts : List Part
   pub tasks : List Task
 
 -- ---- the order of lines: `machine`, `cost`, any `part` lines, any `fit` lines
@@ -54,13 +56,16 @@ top = record { stage = atTop; machine = noMachine; costs = noCosts; parts = []; 
 
 -- ---- one line's judgement, each rule with the number of its refusal
 
--- none of them has that name
-abbrev pub free : Name → List Task → Bool
-free n ts = eqb (placeOf 1 n ts) 0
+-- no task, and no part, has that name
+abbrev pub taskFree : Name → List Task → Bool
+taskFree n ts = eqb (placeOf 1 n ts) 0
+
+abbrev pub partFree : Name → List Part → Bool
+partFree n ps = eqb (partPlace 1 n ps) 0
 
 -- a 65th has no room
-abbrev pub room : List Task → Bool
-room ts = ltb (length ts) tasksMost
+abbrev pub room : {A : Type 0} → List A → Bool
+room xs = ltb (length xs) tasksMost
 
 unfoldable pub machineFault : ℕ → Machine → ℕ
 machineFault stage m =
@@ -74,27 +79,27 @@ costFault stage c =
     (rule (sizedCosts c) 2
     0)
 
-unfoldable pub partFault : ℕ → Task → List Task → ℕ
-partFault stage t parts =
+unfoldable pub partFault : ℕ → Part → List Part → ℕ
+partFault stage p parts =
     rule (eqb stage amongParts) 8
-    (rule (sized (wholePiece (t .times))) 3
-    (rule (free (t .name) parts) 4
+    (rule (sized (wholePiece (p .times))) 3
+    (rule (partFree (p .name) parts) 4
     (rule (room parts) 6
     0)))
 
-unfoldable pub fitFault : ℕ → (task part : Name) → (parts tasks : List Task) → ℕ
+unfoldable pub fitFault : ℕ → (task part : Name) → List Part → List Task → ℕ
 fitFault stage n p parts tasks =
     rule (leb amongParts stage) 8
-    (rule (free n tasks) 4
-    (rule (not (free p parts)) 5
+    (rule (taskFree n tasks) 4
+    (rule (not (partFree p parts)) 5
     (rule (room tasks) 6
     0)))
 
 abbrev pub wordFault : Word → Above → Line → ℕ
 wordFault Word.Machine a l = machineFault (a .stage) (l .machine)
 wordFault Word.Cost a l = costFault (a .stage) (l .costs)
-wordFault Word.Part a l = partFault (a .stage) (l .task) (a .parts)
-wordFault Word.Fit a l = fitFault (a .stage) (l .task .name) (l .part) (a .parts) (a .tasks)
+wordFault Word.Part a l = partFault (a .stage) (l .part) (a .parts)
+wordFault Word.Fit a l = fitFault (a .stage) (l .task) (l .part .name) (a .parts) (a .tasks)
 wordFault Word.Other a l = 8
 
 unfoldable pub lineFault : Above → Line → ℕ
@@ -102,14 +107,10 @@ lineFault a l = wordFault (l .word) a l
 
 -- ---- what stands after a good line
 
--- the times of the part of that name
-abbrev pub partTimes : Name → List Task → Times
-partTimes n [] = noTimes
-partTimes n (t ∷ ts) = cond (sameName n (t .name)) (t .times) (partTimes n ts)
-
--- the task n with the times of the part p
-abbrev pub taskOf : (task part : Name) → List Task → Task
-taskOf n p parts = record { name = n; times = partTimes p parts }
+-- the part of that name
+abbrev pub partNamed : Name → List Part → Part
+partNamed n [] = noPart
+partNamed n (p ∷ ps) = cond (sameName n (p .name)) p (partNamed n ps)
 
 abbrev pub withMachine : Above → Machine → Above
 withMachine a m = record { stage = belowMachine; machine = m; costs = a .costs; parts = a .parts; tasks = a .tasks }
@@ -117,8 +118,8 @@ withMachine a m = record { stage = belowMachine; machine = m; costs = a .costs; 
 abbrev pub withCosts : Above → Costs → Above
 withCosts a c = record { stage = amongParts; machine = a .machine; costs = c; parts = a .parts; tasks = a .tasks }
 
-abbrev pub withPart : Above → Task → Above
-withPart a t = record { stage = amongParts; machine = a .machine; costs = a .costs; parts = a .parts ++ (t ∷ []); tasks = a .tasks }
+abbrev pub withPart : Above → Part → Above
+withPart a p = record { stage = amongParts; machine = a .machine; costs = a .costs; parts = a .parts ++ (p ∷ []); tasks = a .tasks }
 
 abbrev pub withTask : Above → Task → Above
 withTask a t = record { stage = amongFits; machine = a .machine; costs = a .costs; parts = a .parts; tasks = a .tasks ++ (t ∷ []) }
@@ -126,8 +127,8 @@ withTask a t = record { stage = amongFits; machine = a .machine; costs = a .cost
 abbrev pub wordAfter : Word → Above → Line → Above
 wordAfter Word.Machine a l = withMachine a (l .machine)
 wordAfter Word.Cost a l = withCosts a (l .costs)
-wordAfter Word.Part a l = withPart a (l .task)
-wordAfter Word.Fit a l = withTask a (taskOf (l .task .name) (l .part) (a .parts))
+wordAfter Word.Part a l = withPart a (l .part)
+wordAfter Word.Fit a l = withTask a (taskOf (l .task) (partNamed (l .part .name) (a .parts)))
 wordAfter Word.Other a l = a
 
 unfoldable pub after : Above → Line → Above

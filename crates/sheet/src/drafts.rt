@@ -5,28 +5,41 @@ use lines::Line;
 use lines::Word;
 use lines::no_line;
 use task::Machine;
-use task::Name;
+use task::Parts;
+use task::TASKS_MOST;
 use task::Tasks;
 use task::Times;
+use task::no_task;
 use task::whole_piece;
 ghost use mathlib.Core.Bool.{not};
 ghost use mathlib.Core.Path.{_≡_};
 ghost use mathlib.Core.List.{[]};
 ghost use lib.Dec.{leb, ltb, eqb};
 ghost use Rattle.demand.specs.Sizes.{sized};
-ghost use Rattle.task.specs.Tasks.{wholePiece, rule};
+ghost use Rattle.task.specs.Tasks.{tasksMost, wholePiece, rule};
 ghost use Rattle.sheet.specs.Sheet.{Above, machineFault, costFault, lineFault, after, tasksOf};
-ghost use Rattle.sheet.specs.Held.{headOf, sought, Found};
+ghost use Rattle.sheet.specs.Held.{partsOf, headOf, Found};
 
 // No task.
 pub fn no_tasks() -> Tasks
     ensures { λ r. ⌜ r ≡ tasksOf [] ⌝ }
 {
-    let line = no_line();
-    let none = line.task;
+    let none = no_task();
     Tasks {
         count: 0,
-        list: [none; 64],
+        list: [none; TASKS_MOST],
+    }
+}
+
+// No part.
+pub fn no_parts() -> Parts
+    ensures { λ r. ⌜ r ≡ partsOf [] ⌝ }
+{
+    let line = no_line();
+    let none = line.part;
+    Parts {
+        count: 0,
+        list: [none; TASKS_MOST],
     }
 }
 
@@ -58,7 +71,7 @@ pub fn cost_fault(stage: u64, costs: Costs) -> u64
 
 // What is wrong with a `part` line with these times, where its name has that place among so many parts.
 pub fn part_fault(stage: u64, times: Times, twin: usize, parts: usize) -> u64
-    ensures { λ r. ⌜ r ≡ rule (eqb stage 2) 8 (rule (sized (wholePiece times)) 3 (rule (eqb twin 0) 4 (rule (ltb parts 64) 6 0))) ⌝ }
+    ensures { λ r. ⌜ r ≡ rule (eqb stage 2) 8 (rule (sized (wholePiece times)) 3 (rule (eqb twin 0) 4 (rule (ltb parts tasksMost) 6 0))) ⌝ }
 {
     if stage != 2 {
         return 8;
@@ -69,7 +82,7 @@ pub fn part_fault(stage: u64, times: Times, twin: usize, parts: usize) -> u64
     if twin != 0 {
         return 4;
     }
-    if 64 <= parts {
+    if TASKS_MOST <= parts {
         return 6;
     }
     0
@@ -77,7 +90,7 @@ pub fn part_fault(stage: u64, times: Times, twin: usize, parts: usize) -> u64
 
 // What is wrong with a `fit` line, where its part has that place, and its task that place among so many tasks.
 pub fn fit_fault(stage: u64, source: usize, twin: usize, tasks: usize) -> u64
-    ensures { λ r. ⌜ r ≡ rule (leb 2 stage) 8 (rule (eqb twin 0) 4 (rule (not (eqb source 0)) 5 (rule (ltb tasks 64) 6 0))) ⌝ }
+    ensures { λ r. ⌜ r ≡ rule (leb 2 stage) 8 (rule (eqb twin 0) 4 (rule (not (eqb source 0)) 5 (rule (ltb tasks tasksMost) 6 0))) ⌝ }
 {
     if stage < 2 {
         return 8;
@@ -88,25 +101,10 @@ pub fn fit_fault(stage: u64, source: usize, twin: usize, tasks: usize) -> u64
     if source == 0 {
         return 5;
     }
-    if 64 <= tasks {
+    if TASKS_MOST <= tasks {
         return 6;
     }
     0
-}
-
-// The name that a line looks for among the parts: a part's own, and that of a task's part.
-pub fn part_sought(line: Line) -> Name
-    ensures { λ r. ⌜ r ≡ sought (line .word) line ⌝ }
-{
-    let word = line.word;
-    let task = line.task;
-    match word {
-        Word::Machine => line.part,
-        Word::Cost => line.part,
-        Word::Part => task.name,
-        Word::Fit => line.part,
-        Word::Other => line.part,
-    }
 }
 
 // What is wrong with a line, or 0: its part has the place `source` among so many parts, and its task the place `twin` among so many tasks.
@@ -121,7 +119,7 @@ pub fn line_fault(
     ensures { λ r. ⌜ ((a : Above) → a .stage ≡ stage → Found a line source parts twin tasks → r ≡ lineFault a line) ⌝ }
 {
     let word = line.word;
-    let task = line.task;
+    let part = line.part;
     match word {
         Word::Machine => {
             let machine = line.machine;
@@ -132,7 +130,7 @@ pub fn line_fault(
             cost_fault(stage, costs)
         }
         Word::Part => {
-            let times = task.times;
+            let times = part.times;
             part_fault(stage, times, source, parts)
         }
         Word::Fit => fit_fault(stage, source, twin, tasks),

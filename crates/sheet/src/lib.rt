@@ -4,18 +4,21 @@ mod drafts;
 use demand::Costs;
 use drafts::head_after;
 use drafts::line_fault;
+use drafts::no_parts;
 use drafts::no_tasks;
-use drafts::part_sought;
 use lines::Word;
 use lines::line_of;
 use lines::no_line;
 use lines::until;
 use task::Machine;
-use task::Task;
 use task::Tasks;
 use task::same_name;
+use task::task_of;
 ghost use mathlib.Core.Path.{_≡_};
 ghost use Rattle.sheet.specs.Sheet.{refused, shown, readOf};
+
+/// The most bytes that a sheet has.
+pub const SHEET_MOST: usize = 16384;
 
 /// What a sheet says: the machine, the nine cost constants, and the tasks with their parts' times.
 pub struct Sheet {
@@ -43,7 +46,7 @@ pub struct Head {
 pub fn read_sheet(bytes: &[u8]) -> Read
     ensures exact { λ r. ⌜ r ≡ readOf (now (bytes .entry)) ⌝ }
 {
-    if 16384 < bytes.len() {
+    if SHEET_MOST < bytes.len() {
         return refuse(9, 0);
     }
     let top = no_line();
@@ -54,7 +57,7 @@ pub fn read_sheet(bytes: &[u8]) -> Read
         machine,
         costs,
     };
-    let mut parts = no_tasks();
+    let mut parts = no_parts();
     let mut tasks = no_tasks();
     let mut at = 0;
     let mut number: u64 = 1;
@@ -66,16 +69,16 @@ pub fn read_sheet(bytes: &[u8]) -> Read
         }
         let line = line_of(&rest[..e]);
         let word = line.word;
-        let task = line.task;
-        let name = task.name;
+        let part = line.part;
+        let sought = part.name;
+        let name = line.task;
         // the part that the line names, by its place from 1, or 0
-        let sought = part_sought(line);
         let mut source: usize = 0;
         let mut i: usize = 0;
         while i < parts.count {
-            let part = parts.list[i];
+            let other = parts.list[i];
             i += 1;
-            if same_name(sought, part.name) {
+            if same_name(sought, other.name) {
                 source = i;
                 i = parts.count;
             }
@@ -103,15 +106,14 @@ pub fn read_sheet(bytes: &[u8]) -> Read
             Word::Cost => {}
             Word::Part => {
                 let n = parts.count;
-                parts.list[n] = task;
+                parts.list[n] = part;
                 parts.count = n + 1;
             }
             Word::Fit => {
                 let k = source - 1;
-                let part = parts.list[k];
-                let times = part.times;
+                let fitted = parts.list[k];
                 let n = tasks.count;
-                tasks.list[n] = Task { name, times };
+                tasks.list[n] = task_of(name, fitted);
                 tasks.count = n + 1;
             }
             Word::Other => {}

@@ -1,9 +1,9 @@
 -- Laws of lists of tasks: the search for a name and for a fault, one task on.
 -- Assumes nothing.
 --
---   place-other, place-here, place-end
+--   by-other, by-here, by-end             the place of a name among the first m of things that have one
 --   fault-none, fault-here, fault-end
---   run-other, run-here, run-end          the place of a name among the first m
+--   run-other, run-here, run-end          the same of tasks
 --   run-twin, run-fault, run-good, run-fault-end     the first fault among them: at a task with a twin above it, at one without, none there, none at all
 --   fault-form, fault-free      a task with a bad name; a good one
 --   rule-fine, or-else-fine     a rule that gives no number is kept
@@ -26,28 +26,39 @@ use Rattle.demand.specs.declared.Costs.{Costs}
 use Rattle.demand.specs.Sizes.{sized, sizedCosts, Sized, SizedCosts, Each, timeMost}
 use Rattle.demand.proofs.SizeLaws.{sized-true, sized-costs-true}
 use Rattle.task.specs.Names.{formed, sameName}
-use Rattle.task.specs.Tasks.{wholePiece, placeOf, faultOf, firstFault, orElse, past, taskAt, rule, stateFault, sizedMachine, coresMost, tasksMost}
+use Rattle.task.specs.Tasks.{wholePiece, placeBy, placeOf, faultOf, firstFault, orElse, past, taskAt, rule, stateFault, sizedMachine, coresMost, tasksMost}
 
-module _ (n : Name) (ts : List Task) (i : ℕ) (d : Task) (room : i < length ts) where
-  pub place-other : sameName n (getD ts i d .name) ≡ false → placeOf (i + 1) n (drop i ts) ≡ placeOf (i + 1 + 1) n (drop (i + 1) ts)
-  place-other e = rw (add-one, drop-cons ts i d, e)
+-- ---- the place of a name, among things that have one
 
-  pub place-here : sameName n (getD ts i d .name) ≡ true → placeOf (i + 1) n (drop i ts) ≡ i + 1
-  place-here e = rw (drop-cons ts i d, e)
+module _ {A : Type 0} (key : A → Name) where
+  module _ (n : Name) (xs : List A) (i : ℕ) (d : A) (room : i < length xs) where
+    place-other : sameName n (key (getD xs i d)) ≡ false → placeBy key (i + 1) n (drop i xs) ≡ placeBy key (i + 1 + 1) n (drop (i + 1) xs)
+    place-other e = rw (add-one, drop-cons xs i d, e)
 
-pub place-end : (k : ℕ) (n : Name) (ts : List Task) (i : ℕ) → length ts ≤ i → placeOf k n (drop i ts) ≡ 0
-place-end k n ts i short = rw (drop-of-length-le ts {i = i} short)
+    place-here : sameName n (key (getD xs i d)) ≡ true → placeBy key (i + 1) n (drop i xs) ≡ i + 1
+    place-here e = rw (drop-cons xs i d, e)
 
--- the same among the first m of a list
+  -- among the first m of a list
+  module _ (n : Name) (m : ℕ) (xs : List A) (i : ℕ) (d : A) (low : i < m) (room : i < length xs) where
+    pub by-other : sameName n (key (getD xs i d)) ≡ false → placeBy key (i + 1) n (drop i (take m xs)) ≡ placeBy key (i + 1 + 1) n (drop (i + 1) (take m xs))
+    by-other e = place-other n (take m xs) i d (omega (arith, length-take m xs)) (rw (getD-take m xs i d low) e)
+
+    pub by-here : sameName n (key (getD xs i d)) ≡ true → placeBy key (i + 1) n (drop i (take m xs)) ≡ i + 1
+    by-here e = place-here n (take m xs) i d (omega (arith, length-take m xs)) (rw (getD-take m xs i d low) e)
+
+  pub by-end : (k : ℕ) (n : Name) (m : ℕ) (xs : List A) (i : ℕ) → length (take m xs) ≤ i → placeBy key k n (drop i (take m xs)) ≡ 0
+  by-end k n m xs i short = rw (drop-of-length-le (take m xs) {i = i} short)
+
+-- the same of tasks
 module _ (n : Name) (m : ℕ) (ts : List Task) (i : ℕ) (d : Task) (low : i < m) (room : i < length ts) where
   pub run-other : sameName n (getD ts i d .name) ≡ false → placeOf (i + 1) n (drop i (take m ts)) ≡ placeOf (i + 1 + 1) n (drop (i + 1) (take m ts))
-  run-other e = place-other n (take m ts) i d (omega (arith, length-take m ts)) (rw (getD-take m ts i d low) e)
+  run-other e = by-other (λ (t : Task). t .name) n m ts i d low room e
 
   pub run-here : sameName n (getD ts i d .name) ≡ true → placeOf (i + 1) n (drop i (take m ts)) ≡ i + 1
-  run-here e = place-here n (take m ts) i d (omega (arith, length-take m ts)) (rw (getD-take m ts i d low) e)
+  run-here e = by-here (λ (t : Task). t .name) n m ts i d low room e
 
 pub run-end : (k : ℕ) (n : Name) (m : ℕ) (ts : List Task) (i : ℕ) → length (take m ts) ≤ i → placeOf k n (drop i (take m ts)) ≡ 0
-run-end k n m ts i short = place-end k n (take m ts) i short
+run-end k n m ts i short = by-end (λ (t : Task). t .name) k n m ts i short
 
 module _ (ts : List Task) (i : ℕ) (d : Task) (room : i < length ts) where
   pub fault-none : faultOf (take i ts) (getD ts i d) ≡ 0 → firstFault (take i ts) (drop i ts) ≡ firstFault (take (i + 1) ts) (drop (i + 1) ts)

@@ -1,6 +1,7 @@
 -- Names: document 01, "Sizes". A name has 1..24 bytes from ASCII letters, digits, hyphen and full stop. Names are equal when their lengths and
 -- all their bytes are equal; case counts. In a struct a name is its length, its bytes, and zeros to 24.
 --
+--   noName             no byte: what a struct has where nothing is named
 --   nameByte b         b may stand in a name
 --   spelt n bs         n name bytes, and zeros behind them
 --   formed n           the name n has its form
@@ -9,7 +10,14 @@ use mathlib.Core.Bool.{Bool, true, false, cond, _&&_, _||_}
 use mathlib.Core.List.{List, [], _∷_}
 use Prim.Native.Nat.{ℕ, _+_}
 use lib.Dec.{leb, ltb, eqb}
+use lib.ListN.{replicate}
 use Rattle.task.specs.declared.Name.{Name}
+
+abbrev pub nameMost : ℕ
+nameMost = 24
+
+abbrev pub noName : Name
+noName = record { len = 0; bytes = replicate nameMost 0 }
 
 abbrev pub between : ℕ → ℕ → ℕ → Bool
 between low high b = leb low b && leb b high

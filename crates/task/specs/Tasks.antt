@@ -1,8 +1,12 @@
--- Tasks and the machine, and what breaks a rule for them: document 01, "Sizes", "Refusal numbers", "Edits on a held plan".
+-- Parts, tasks and the machine, and what breaks a rule for them: document 01, "Sizes", "Refusal numbers", "Edits on a held plan".
 --
 --   wholePiece t       the whole piece of a task with the times t
 --   sizedMachine m     m and grain are within their sizes
---   placeOf k n ts     the place of the first task named n, counted from k, or 0
+--   noTimes, noPart, noTask, noMachine   what a struct has where nothing is said: zeros
+--   taskOf n p         the task n fitted with the part p: every task is made so
+--   placeBy key k n xs the place of the first of xs with the name n, counted from k, or 0
+--   placeOf k n ts     of the first task named n
+--   partPlace k n ps   of the first part named n
 --   listOf q           the tasks that q holds: the first `count`, whatever stands past them
 --   taskAt ts i        the task at place i, from 0
 --   faultOf above t    what is wrong with the task t below others: 8, then 3, then 4, or 0
@@ -19,16 +23,32 @@ use Rattle.demand.specs.declared.Costs.{Costs}
 use Rattle.demand.specs.Sizes.{sized, sizedCosts, timeMost}
 use Rattle.task.specs.declared.Name.{Name}
 use Rattle.task.specs.declared.Times.{Times}
+use Rattle.task.specs.declared.Part.{Part}
 use Rattle.task.specs.declared.Task.{Task}
 use Rattle.task.specs.declared.Tasks.{Tasks}
 use Rattle.task.specs.declared.Machine.{Machine}
-use Rattle.task.specs.Names.{formed, sameName}
+use Rattle.task.specs.Names.{noName, formed, sameName}
 
 abbrev pub coresMost : ℕ
 coresMost = 16
 
 abbrev pub tasksMost : ℕ
 tasksMost = 64
+
+abbrev pub noTimes : Times
+noTimes = record { worst = 0; deadline = 0; period = 0; jitter = 0; preempt = 0; migrate = 0 }
+
+abbrev pub noPart : Part
+noPart = record { name = noName; times = noTimes }
+
+abbrev pub noTask : Task
+noTask = record { name = noName; times = noTimes }
+
+abbrev pub noMachine : Machine
+noMachine = record { cores = 0; grain = 0 }
+
+abbrev pub taskOf : Name → Part → Task
+taskOf n p = record { name = n; times = p .times }
 
 unfoldable pub wholePiece : Times → Piece
 wholePiece t = record { kind = Whole; budget = t .worst; window = t .deadline; period = t .period; jitter = t .jitter; preempt = t .preempt; migrate = t .migrate }
@@ -39,18 +59,27 @@ sizedMachine m = leb 1 (m .cores) && leb (m .cores) coresMost && leb 1 (m .grain
 abbrev pub listOf : Tasks → List Task
 listOf q = take (q .count) (q .list)
 
+abbrev pub placeBy : {A : Type 0} → (A → Name) → ℕ → Name → List A → ℕ
+placeBy key k n [] = 0
+placeBy key k n (x ∷ xs) = cond (sameName n (key x)) k (placeBy key (k + 1) n xs)
+
 abbrev pub placeOf : ℕ → Name → List Task → ℕ
-placeOf k n [] = 0
-placeOf k n (t ∷ ts) = cond (sameName n (t .name)) k (placeOf (k + 1) n ts)
+placeOf k n ts = placeBy (λ t. t .name) k n ts
+
+abbrev pub partPlace : ℕ → Name → List Part → ℕ
+partPlace k n ps = placeBy (λ p. p .name) k n ps
 
 -- the first rule that is broken, by its number
 abbrev pub rule : Bool → ℕ → ℕ → ℕ
 rule true n rest = rest
 rule false n rest = n
 
--- what a list is said to hold past its end, and the task at a place, from 0
+-- what a list of tasks, and one of parts, is said to hold past its end, and the task at a place, from 0
 abbrev pub past : Task
-past = record { name = record { len = 0; bytes = [] }; times = record { worst = 0; deadline = 0; period = 0; jitter = 0; preempt = 0; migrate = 0 } }
+past = record { name = record { len = 0; bytes = [] }; times = noTimes }
+
+abbrev pub pastPart : Part
+pastPart = record { name = record { len = 0; bytes = [] }; times = noTimes }
 
 abbrev pub taskAt : List Task → ℕ → Task
 taskAt ts i = getD ts i past

@@ -6,13 +6,22 @@ use demand::Kind;
 use demand::Piece;
 ghost use mathlib.Core.Path.{_≡_};
 ghost use lib.ListN.{take};
-ghost use Rattle.task.specs.Names.{formed, sameName};
-ghost use Rattle.task.specs.Tasks.{wholePiece, sizedMachine, placeOf, stateFault};
+ghost use Rattle.task.specs.Names.{noName, formed, sameName};
+ghost use Rattle.task.specs.Tasks.{noTimes, noTask, noMachine, taskOf, wholePiece, sizedMachine, placeOf, stateFault};
+
+/// The most bytes that a name has.
+pub const NAME_MOST: usize = 24;
+
+/// The most tasks of a list, and the most parts of a sheet.
+pub const TASKS_MOST: usize = 64;
+
+/// The most cores of a machine.
+pub const CORES_MOST: usize = 16;
 
 /// A name: its length, its bytes, and zeros to 24.
 pub struct Name {
     pub len: usize,
-    pub bytes: [u8; 24],
+    pub bytes: [u8; NAME_MOST],
 }
 
 /// The times of a part or a task: C, D, T, J, P and M.
@@ -25,7 +34,19 @@ pub struct Times {
     pub migrate: u64,
 }
 
-/// A task, or a part: a name with its times.
+/// A part: a name, and the times that a task fitted with it has.
+pub struct Part {
+    pub name: Name,
+    pub times: Times,
+}
+
+/// A list of parts: the first `count` of `list`.
+pub struct Parts {
+    pub count: usize,
+    pub list: [Part; TASKS_MOST],
+}
+
+/// A task: a name with its times.
 pub struct Task {
     pub name: Name,
     pub times: Times,
@@ -34,13 +55,61 @@ pub struct Task {
 /// A list of tasks: the first `count` of `list`.
 pub struct Tasks {
     pub count: usize,
-    pub list: [Task; 64],
+    pub list: [Task; TASKS_MOST],
 }
 
 /// m cores, and the grain of splits.
 pub struct Machine {
     pub cores: usize,
     pub grain: u64,
+}
+
+/// No name: no byte, and 24 zeros.
+pub fn no_name() -> Name
+    ensures exact { λ r. ⌜ r ≡ noName ⌝ }
+{
+    Name {
+        len: 0,
+        bytes: [0u8; NAME_MOST],
+    }
+}
+
+/// No times: zeros.
+pub fn no_times() -> Times
+    ensures exact { λ r. ⌜ r ≡ noTimes ⌝ }
+{
+    Times {
+        worst: 0,
+        deadline: 0,
+        period: 0,
+        jitter: 0,
+        preempt: 0,
+        migrate: 0,
+    }
+}
+
+/// No task: no name and no times.
+pub fn no_task() -> Task
+    ensures exact { λ r. ⌜ r ≡ noTask ⌝ }
+{
+    let name = no_name();
+    let times = no_times();
+    Task { name, times }
+}
+
+/// No machine: no core, and a grain of 0.
+pub fn no_machine() -> Machine
+    ensures exact { λ r. ⌜ r ≡ noMachine ⌝ }
+{
+    Machine { cores: 0, grain: 0 }
+}
+
+/// The task of that name fitted with a part.
+pub fn task_of(name: Name, part: Part) -> Task
+    ensures exact { λ r. ⌜ r ≡ taskOf name part ⌝ }
+{
+    let times = part.times;
+    Task { name, times }
 }
 
 /// Whether a name has its form: 1 to 24 letters, digits, hyphens and full stops, and zeros behind them.
@@ -88,7 +157,7 @@ pub fn place_of(name: Name, tasks: Tasks) -> usize
 {
     let mut i: usize = 0;
     while i < tasks.count {
-        if 64 <= i {
+        if TASKS_MOST <= i {
             return 0;
         }
         let task = tasks.list[i];
@@ -110,7 +179,7 @@ pub fn state_fault(machine: Machine, costs: Costs, tasks: Tasks) -> u64
     if !demand::costs_within(costs) {
         return 2;
     }
-    if 64 < tasks.count {
+    if TASKS_MOST < tasks.count {
         return 6;
     }
     names::first_fault(tasks)
@@ -123,13 +192,13 @@ pub fn machine_within(machine: Machine) -> bool
     if machine.cores < 1 {
         return false;
     }
-    if 16 < machine.cores {
+    if CORES_MOST < machine.cores {
         return false;
     }
     if machine.grain < 1 {
         return false;
     }
-    if 1000000 < machine.grain {
+    if demand::TIME_MOST < machine.grain {
         return false;
     }
     true

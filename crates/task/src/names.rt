@@ -1,4 +1,5 @@
 // Loops over names and lists of tasks.
+use crate::NAME_MOST;
 use crate::Task;
 use crate::Tasks;
 use crate::same_name;
@@ -52,14 +53,14 @@ pub fn fits_at(b: u8, i: usize, len: usize) -> bool
 }
 
 // Whether `len` name bytes stand there, and zeros behind them.
-pub fn spelt(bytes: [u8; 24], len: usize) -> bool
+pub fn spelt(bytes: [u8; NAME_MOST], len: usize) -> bool
     ensures { λ r. ⌜ r ≡ spelt len bytes ⌝ }
 {
-    if 24 < len {
+    if NAME_MOST < len {
         return false;
     }
     let mut i: usize = 0;
-    while i < 24 {
+    while i < NAME_MOST {
         let b = bytes[i];
         if !fits_at(b, i, len) {
             return false;
@@ -70,11 +71,11 @@ pub fn spelt(bytes: [u8; 24], len: usize) -> bool
 }
 
 // Whether all bytes are equal.
-pub fn same_bytes(a: [u8; 24], b: [u8; 24]) -> bool
+pub fn same_bytes(a: [u8; NAME_MOST], b: [u8; NAME_MOST]) -> bool
     ensures { λ r. ⌜ r ≡ sameBytes a b ⌝ }
 {
     let mut i: usize = 0;
-    while i < 24 {
+    while i < NAME_MOST {
         if a[i] != b[i] {
             return false;
         }

@@ -7,11 +7,11 @@ use Prim.Native.Nat.{_-_, _≤_, _<_}
 use native.Mathlib.Omega.{arith}
 use lib.ListN.{length}
 use lib.Seq.{length-take-le}
-use Rattle.task.specs.Tasks.{past}
+use Rattle.task.specs.Tasks.{past, pastPart}
 use Rattle.lines.specs.declared.Word.{Word}
 use Rattle.lines.specs.Lines.{newline}
 use Rattle.lines.proofs.LineLaws.{rest, rest-length, run-le}
-use Rattle.sheet.proofs.DraftLaws.{Seeking, seek-start, seek-other, seek-here}
+use Rattle.sheet.proofs.DraftLaws.{Seeking, seek-start, seek-other, seek-here, partName, taskName}
 use Rattle.sheet.proofs.ReadLaws.{read-long, reached-cut}
 use Rattle.sheet.proofs.StandLaws.{Standing, stand-top, parts-few, parts-long, tasks-few, tasks-long, stand-missing}
 use Rattle.sheet.proofs.StandLaws.{stand-whole, LineRead, line-read, line-bad, part-space, task-space, source-some}
@@ -25,21 +25,22 @@ use Rattle.lines.proofs.until.Reads as until-reads
 use Rattle.sheet.proofs.drafts.head_after.Reads as head-after-reads
 use Rattle.sheet.proofs.drafts.line_fault.Reads as line-fault-reads
 use Rattle.sheet.proofs.drafts.no_tasks.Reads as no-tasks-reads
-use Rattle.sheet.proofs.drafts.part_sought.Reads as part-sought-reads
+use Rattle.sheet.proofs.drafts.no_parts.Reads as no-parts-reads
 use Rattle.sheet.proofs.refuse.Reads as refuse-reads
 use Rattle.task.proofs.same_name.Reads as same-name-reads
+use Rattle.task.proofs.task_of.Reads as task-of-reads
 
 abbrev Inv-loop2 : tie.InvT-loop2
-Inv-loop2 bytes head parts tasks at number e line word task name sought source₀ i₀ source i = Seeking sought parts i source
+Inv-loop2 bytes head parts tasks at number e line word part sought name source₀ i₀ source i = Seeking partName sought (parts .count) (parts .list) i source
 
 abbrev μ-loop2 : tie.MeasureT-loop2
-μ-loop2 bytes head parts tasks at number e line word task name sought source₀ i₀ source i = parts .count - i
+μ-loop2 bytes head parts tasks at number e line word part sought name source₀ i₀ source i = parts .count - i
 
 abbrev Inv-loop3 : tie.InvT-loop3
-Inv-loop3 bytes head parts tasks at number e line word task name source i twin₀ j₀ twin j = Seeking name tasks j twin
+Inv-loop3 bytes head parts tasks at number e line word part name source i twin₀ j₀ twin j = Seeking taskName name (tasks .count) (tasks .list) j twin
 
 abbrev μ-loop3 : tie.MeasureT-loop3
-μ-loop3 bytes head parts tasks at number e line word task name source i twin₀ j₀ twin j = tasks .count - j
+μ-loop3 bytes head parts tasks at number e line word part name source i twin₀ j₀ twin j = tasks .count - j
 
 abbrev Inv-loop : tie.InvT-loop
 Inv-loop bytes head₀ parts₀ tasks₀ at₀ number₀ head parts tasks at number = (length bytes ≤ 16384) × Standing bytes head parts tasks at number
@@ -57,13 +58,12 @@ judged : (c : tie.After-line-fault Inv-loop2 μ-loop2 Inv-loop3 μ-loop3 Inv-loo
 judged c =
     let loop3 = c .before .before .loop3 in
     let loop2 = c .before .before .before .before .loop2 in
-    let part-sought = c .before .before .before .before .before .part-sought in
     let line-of = c .before .before .before .before .before .before .before .before .line-of in
     let at-if2 = c .before .before .before .before .before .before .before .before .before .before in
     let until = at-if2 .before .until in
     let loop = at-if2 .before .before .before .before .loop in
     line-read (loop .inv .1) (until .result) (until .ensures) (at-if2 .if2 .left) (line-of .result) (line-of .ensures)
-    (part-sought .result) (part-sought .ensures) (loop2 .i) (loop2 .source) (loop2 .inv) (c .before .before .before .loop2-test .left)
+    (loop2 .i) (loop2 .source) (loop2 .inv) (c .before .before .before .loop2-test .left)
     (loop3 .j) (loop3 .twin) (loop3 .inv) (c .before .loop3-test .left) (c .line-fault .result) (c .line-fault .ensures)
 
 refuse-requires : tie.Need-refuse-requires Inv-loop2 μ-loop2 Inv-loop3 μ-loop3 Inv-loop μ-loop
@@ -75,17 +75,17 @@ returns c = c .refuse .ensures ∙ read-long (c .before .before .before .args .b
 no-line-requires : tie.Need-no-line-requires Inv-loop2 μ-loop2 Inv-loop3 μ-loop3 Inv-loop μ-loop
 no-line-requires c κs = search needs
 
+no-parts-requires : tie.Need-no-parts-requires Inv-loop2 μ-loop2 Inv-loop3 μ-loop3 Inv-loop μ-loop
+no-parts-requires c κs = search needs
+
 no-tasks-requires : tie.Need-no-tasks-requires Inv-loop2 μ-loop2 Inv-loop3 μ-loop3 Inv-loop μ-loop
 no-tasks-requires c κs = search needs
-
-no-tasks-requires-2 : tie.Need-no-tasks-requires-2 Inv-loop2 μ-loop2 Inv-loop3 μ-loop3 Inv-loop μ-loop
-no-tasks-requires-2 c κs = search needs
 
 loop-holds : tie.Need-loop-holds Inv-loop2 μ-loop2 Inv-loop3 μ-loop3 Inv-loop μ-loop
 loop-holds c =
     let no-line = c .before .before .before .before .no-line in
     let if1 = c .before .before .before .before .before .if1 in
-    (if1 .left, stand-top _ _ _ _ (if1 .left) (rw (no-line .ensures)) (c .before .no-tasks .ensures) (c .no-tasks2 .ensures))
+    (if1 .left, stand-top _ _ _ _ (if1 .left) (rw (no-line .ensures)) (c .before .no-parts .ensures) (c .no-tasks .ensures))
 
 sub-rest : tie.Need-sub-rest Inv-loop2 μ-loop2 Inv-loop3 μ-loop3 Inv-loop μ-loop
 sub-rest c = omega (arith, c .before .loop .inv .1 .reached .on)
@@ -104,15 +104,14 @@ refuse-requires-2 c κs = search needs
 
 returns-2 : tie.Need-returns-2 Inv-loop2 μ-loop2 Inv-loop3 μ-loop3 Inv-loop μ-loop
 returns-2 c =
-    let at-loop = c .before .before .before .before .before in
-    let loop = at-loop .loop in
-    let s = loop .inv .1 in
     let until = c .before .before .until in
     let loop-test = c .before .before .before .before .loop-test in
+    let at-loop = c .before .before .before .before .before in
+    let loop = at-loop .loop in
     let start = at-loop .before .before .before .before .before .before .before .before .args in
     c .refuse2 .ensures
     ∙ reached-cut (start .bytes .now)
-    (s .above) (loop .at) (loop .number) (s .reached) (until .result) (until .ensures) (loop-test .taken) (c .before .if2 .taken)
+    (loop .inv .1 .above) (loop .at) (loop .number) (loop .inv .1 .reached) (until .result) (until .ensures) (loop-test .taken) (c .before .if2 .taken)
 
 slice-aggregate-line-of : tie.Need-slice-aggregate-line-of Inv-loop2 μ-loop2 Inv-loop3 μ-loop3 Inv-loop μ-loop
 slice-aggregate-line-of c =
@@ -125,20 +124,17 @@ slice-aggregate-line-of c =
 line-of-requires : tie.Need-line-of-requires Inv-loop2 μ-loop2 Inv-loop3 μ-loop3 Inv-loop μ-loop
 line-of-requires c κs = search needs
 
-part-sought-requires : tie.Need-part-sought-requires Inv-loop2 μ-loop2 Inv-loop3 μ-loop3 Inv-loop μ-loop
-part-sought-requires c κs = search needs
-
 loop2-holds : tie.Need-loop2-holds Inv-loop2 μ-loop2 Inv-loop3 μ-loop3 Inv-loop μ-loop
-loop2-holds c = seek-start _ _
+loop2-holds c = seek-start _ _ _ _
 
-mul-part : tie.Need-mul-part Inv-loop2 μ-loop2 Inv-loop3 μ-loop3 Inv-loop μ-loop
-mul-part c =
+mul-other : tie.Need-mul-other Inv-loop2 μ-loop2 Inv-loop3 μ-loop3 Inv-loop μ-loop
+mul-other c =
     let at-line-of = c .before .before .before .before .before in
     let loop = at-line-of .before .before .before .before .before .before .loop in
     omega (arith, c .loop2-test .taken, parts-few (loop .inv .1))
 
-element-copy-out-part : tie.Need-element-copy-out-part Inv-loop2 μ-loop2 Inv-loop3 μ-loop3 Inv-loop μ-loop
-element-copy-out-part c =
+element-copy-out-other : tie.Need-element-copy-out-other Inv-loop2 μ-loop2 Inv-loop3 μ-loop3 Inv-loop μ-loop
+element-copy-out-other c =
     let at-line-of = c .before .before .before .before .before in
     let loop = at-line-of .before .before .before .before .before .before .loop in
     omega (arith, c .loop2-test .taken, parts-few (loop .inv .1))
@@ -157,36 +153,36 @@ loop2-less c = omega (arith, c .before .before .before .loop2-test .taken)
 
 loop2-again : tie.Need-loop2-again Inv-loop2 μ-loop2 Inv-loop3 μ-loop3 Inv-loop μ-loop
 loop2-again c =
-    let at-loop2 = c .before .before .before .before in
-    let s = at-loop2 .before .before .before .before .before .before .before .before .before .before .loop .inv .1 in
     let loop2-test = c .before .before .before .loop2-test in
+    let at-loop2 = c .before .before .before .before in
     let loop2 = at-loop2 .loop2 in
-    seek-here _ _ (loop2 .i) (loop2 .source) (loop2 .inv) (loop2-test .taken)
-    (omega (arith, loop2-test .taken, parts-few s, parts-long s)) past (sym (c .before .same-name .ensures) ∙ c .if3 .taken)
+    let loop = at-loop2 .before .before .before .before .before .before .before .before .before .before .loop in
+    seek-here _ _ _ _ (loop2 .i) (loop2 .source) (loop2 .inv) (loop2-test .taken)
+    (omega (arith, loop2-test .taken, parts-few (loop .inv .1), parts-long (loop .inv .1))) pastPart (sym (c .before .same-name .ensures) ∙ c .if3 .taken)
 
 loop2-less-2 : tie.Need-loop2-less-2 Inv-loop2 μ-loop2 Inv-loop3 μ-loop3 Inv-loop μ-loop
 loop2-less-2 c = omega (arith, c .before .before .before .loop2-test .taken)
 
 loop2-again-2 : tie.Need-loop2-again-2 Inv-loop2 μ-loop2 Inv-loop3 μ-loop3 Inv-loop μ-loop
 loop2-again-2 c =
-    let at-loop2 = c .before .before .before .before in
-    let s = at-loop2 .before .before .before .before .before .before .before .before .before .before .loop .inv .1 in
     let loop2-test = c .before .before .before .loop2-test in
+    let at-loop2 = c .before .before .before .before in
     let loop2 = at-loop2 .loop2 in
-    seek-other _ _ (loop2 .i) (loop2 .source) (loop2 .inv) (loop2-test .taken)
-    (omega (arith, loop2-test .taken, parts-few s, parts-long s)) past (sym (c .before .same-name .ensures) ∙ c .if3 .left)
+    let loop = at-loop2 .before .before .before .before .before .before .before .before .before .before .loop in
+    seek-other _ _ _ _ (loop2 .i) (loop2 .source) (loop2 .inv) (loop2-test .taken)
+    (omega (arith, loop2-test .taken, parts-few (loop .inv .1), parts-long (loop .inv .1))) pastPart (sym (c .before .same-name .ensures) ∙ c .if3 .left)
 
 loop3-holds : tie.Need-loop3-holds Inv-loop2 μ-loop2 Inv-loop3 μ-loop3 Inv-loop μ-loop
-loop3-holds c = seek-start _ _
+loop3-holds c = seek-start _ _ _ _
 
-mul-other : tie.Need-mul-other Inv-loop2 μ-loop2 Inv-loop3 μ-loop3 Inv-loop μ-loop
-mul-other c =
+mul-other-2 : tie.Need-mul-other-2 Inv-loop2 μ-loop2 Inv-loop3 μ-loop3 Inv-loop μ-loop
+mul-other-2 c =
     let at-line-of = c .before .before .before .before .before .before .before in
     let loop = at-line-of .before .before .before .before .before .before .loop in
     omega (arith, c .loop3-test .taken, tasks-few (loop .inv .1))
 
-element-copy-out-other : tie.Need-element-copy-out-other Inv-loop2 μ-loop2 Inv-loop3 μ-loop3 Inv-loop μ-loop
-element-copy-out-other c =
+element-copy-out-other-2 : tie.Need-element-copy-out-other-2 Inv-loop2 μ-loop2 Inv-loop3 μ-loop3 Inv-loop μ-loop
+element-copy-out-other-2 c =
     let at-line-of = c .before .before .before .before .before .before .before in
     let loop = at-line-of .before .before .before .before .before .before .loop in
     omega (arith, c .loop3-test .taken, tasks-few (loop .inv .1))
@@ -205,26 +201,26 @@ loop3-less c = omega (arith, c .before .before .before .loop3-test .taken)
 
 loop3-again : tie.Need-loop3-again Inv-loop2 μ-loop2 Inv-loop3 μ-loop3 Inv-loop μ-loop
 loop3-again c =
-    let at-loop3 = c .before .before .before .before in
-    let at-line-of = at-loop3 .before .before .before .before .before .before in
-    let s = at-line-of .before .before .before .before .before .before .loop .inv .1 in
     let loop3-test = c .before .before .before .loop3-test in
+    let at-loop3 = c .before .before .before .before in
     let loop3 = at-loop3 .loop3 in
-    seek-here _ _ (loop3 .j) (loop3 .twin) (loop3 .inv) (loop3-test .taken)
-    (omega (arith, loop3-test .taken, tasks-few s, tasks-long s)) past (sym (c .before .same-name2 .ensures) ∙ c .if4 .taken)
+    let at-line-of = at-loop3 .before .before .before .before .before .before in
+    let loop = at-line-of .before .before .before .before .before .before .loop in
+    seek-here _ _ _ _ (loop3 .j) (loop3 .twin) (loop3 .inv) (loop3-test .taken)
+    (omega (arith, loop3-test .taken, tasks-few (loop .inv .1), tasks-long (loop .inv .1))) past (sym (c .before .same-name2 .ensures) ∙ c .if4 .taken)
 
 loop3-less-2 : tie.Need-loop3-less-2 Inv-loop2 μ-loop2 Inv-loop3 μ-loop3 Inv-loop μ-loop
 loop3-less-2 c = omega (arith, c .before .before .before .loop3-test .taken)
 
 loop3-again-2 : tie.Need-loop3-again-2 Inv-loop2 μ-loop2 Inv-loop3 μ-loop3 Inv-loop μ-loop
 loop3-again-2 c =
-    let at-loop3 = c .before .before .before .before in
-    let at-line-of = at-loop3 .before .before .before .before .before .before in
-    let s = at-line-of .before .before .before .before .before .before .loop .inv .1 in
     let loop3-test = c .before .before .before .loop3-test in
+    let at-loop3 = c .before .before .before .before in
     let loop3 = at-loop3 .loop3 in
-    seek-other _ _ (loop3 .j) (loop3 .twin) (loop3 .inv) (loop3-test .taken)
-    (omega (arith, loop3-test .taken, tasks-few s, tasks-long s)) past (sym (c .before .same-name2 .ensures) ∙ c .if4 .left)
+    let at-line-of = at-loop3 .before .before .before .before .before .before in
+    let loop = at-line-of .before .before .before .before .before .before .loop in
+    seek-other _ _ _ _ (loop3 .j) (loop3 .twin) (loop3 .inv) (loop3-test .taken)
+    (omega (arith, loop3-test .taken, tasks-few (loop .inv .1), tasks-long (loop .inv .1))) past (sym (c .before .same-name2 .ensures) ∙ c .if4 .left)
 
 line-fault-requires : tie.Need-line-fault-requires Inv-loop2 μ-loop2 Inv-loop3 μ-loop3 Inv-loop μ-loop
 line-fault-requires c κs = search needs
@@ -234,8 +230,8 @@ refuse-requires-3 c κs = search needs
 
 returns-3 : tie.Need-returns-3 Inv-loop2 μ-loop2 Inv-loop3 μ-loop3 Inv-loop μ-loop
 returns-3 c =
-    let at-part-sought = c .before .before .before .before .before .before .before in
-    let loop = at-part-sought .before .before .before .before .before .before .before .before .before .loop in
+    let at-line-of = c .before .before .before .before .before .before .before .before .before .before in
+    let loop = at-line-of .before .before .before .before .before .before .loop in
     c .refuse3 .ensures ∙ line-bad (loop .inv .1) (judged (c .before .before)) (c .before .if5 .taken)
 
 head-after-requires : tie.Need-head-after-requires Inv-loop2 μ-loop2 Inv-loop3 μ-loop3 Inv-loop μ-loop
@@ -243,9 +239,9 @@ head-after-requires c κs = search needs
 
 add-at : tie.Need-add-at Inv-loop2 μ-loop2 Inv-loop3 μ-loop3 Inv-loop μ-loop
 add-at c =
-    let at-part-sought = c .before .before .before .before .before .before .before in
-    let until = at-part-sought .before .before .before .before .before .before .until in
-    let at-loop = at-part-sought .before .before .before .before .before .before .before .before .before in
+    let at-loop2 = c .before .before .before .before .before .before in
+    let until = at-loop2 .before .before .before .before .before .before .before .until in
+    let at-loop = at-loop2 .before .before .before .before .before .before .before .before .before .before in
     let loop = at-loop .loop in
     let start = at-loop .before .before .before .before .before .before .before .before .args in
     omega (
@@ -257,9 +253,9 @@ add-at c =
 
 add-at-2 : tie.Need-add-at-2 Inv-loop2 μ-loop2 Inv-loop3 μ-loop3 Inv-loop μ-loop
 add-at-2 c =
-    let at-part-sought = c .before .before .before .before .before .before .before in
-    let until = at-part-sought .before .before .before .before .before .before .until in
-    let at-loop = at-part-sought .before .before .before .before .before .before .before .before .before in
+    let at-loop2 = c .before .before .before .before .before .before in
+    let until = at-loop2 .before .before .before .before .before .before .before .until in
+    let at-loop = at-loop2 .before .before .before .before .before .before .before .before .before .before in
     let loop = at-loop .loop in
     let start = at-loop .before .before .before .before .before .before .before .before .args in
     omega (
@@ -271,8 +267,8 @@ add-at-2 c =
 
 add-number : tie.Need-add-number Inv-loop2 μ-loop2 Inv-loop3 μ-loop3 Inv-loop μ-loop
 add-number c =
-    let at-part-sought = c .before .before .before .before .before .before .before in
-    let loop = at-part-sought .before .before .before .before .before .before .before .before .before .loop in
+    let at-line-of = c .before .before .before .before .before .before .before .before .before .before in
+    let loop = at-line-of .before .before .before .before .before .before .loop in
     omega (arith, loop .inv .1 .reached .near, loop .inv .1 .reached .on, loop .inv .0)
 
 enum-told : tie.Need-enum-told Inv-loop2 μ-loop2 Inv-loop3 μ-loop3 Inv-loop μ-loop
@@ -280,8 +276,8 @@ enum-told c = search needs
 
 loop-less : tie.Need-loop-less Inv-loop2 μ-loop2 Inv-loop3 μ-loop3 Inv-loop μ-loop
 loop-less c =
-    let at-part-sought = c .before .before .before .before .before .before .before .before .before in
-    let loop-test = at-part-sought .before .before .before .before .before .before .before .before .loop-test in
+    let at-loop2 = c .before .before .before .before .before .before .before .before in
+    let loop-test = at-loop2 .before .before .before .before .before .before .before .before .before .loop-test in
     omega (arith, loop-test .taken)
 
 loop-again : tie.Need-loop-again Inv-loop2 μ-loop2 Inv-loop3 μ-loop3 Inv-loop μ-loop
@@ -300,8 +296,8 @@ enum-told-2 c = search needs
 
 loop-less-2 : tie.Need-loop-less-2 Inv-loop2 μ-loop2 Inv-loop3 μ-loop3 Inv-loop μ-loop
 loop-less-2 c =
-    let at-part-sought = c .before .before .before .before .before .before .before .before .before in
-    let loop-test = at-part-sought .before .before .before .before .before .before .before .before .loop-test in
+    let at-loop2 = c .before .before .before .before .before .before .before .before in
+    let loop-test = at-loop2 .before .before .before .before .before .before .before .before .before .loop-test in
     omega (arith, loop-test .taken)
 
 loop-again-2 : tie.Need-loop-again-2 Inv-loop2 μ-loop2 Inv-loop3 μ-loop3 Inv-loop μ-loop
@@ -318,15 +314,15 @@ loop-again-2 c =
 enum-told-3 : tie.Need-enum-told-3 Inv-loop2 μ-loop2 Inv-loop3 μ-loop3 Inv-loop μ-loop
 enum-told-3 c = search needs
 
-mul-task : tie.Need-mul-task Inv-loop2 μ-loop2 Inv-loop3 μ-loop3 Inv-loop μ-loop
-mul-task c =
+mul-part : tie.Need-mul-part Inv-loop2 μ-loop2 Inv-loop3 μ-loop3 Inv-loop μ-loop
+mul-part c =
     let at-line-fault = c .before .before .before .before in
     let at-line-of = at-line-fault .before .before .before .before .before .before .before .before in
     let loop = at-line-of .before .before .before .before .before .before .loop in
     omega (arith, part-space (loop .inv .1) (judged at-line-fault) (c .before .before .before .if5 .left) (c .enum-told3 .given .1))
 
-element-set-from-task : tie.Need-element-set-from-task Inv-loop2 μ-loop2 Inv-loop3 μ-loop3 Inv-loop μ-loop
-element-set-from-task c =
+element-set-from-part : tie.Need-element-set-from-part Inv-loop2 μ-loop2 Inv-loop3 μ-loop3 Inv-loop μ-loop
+element-set-from-part c =
     let at-line-fault = c .before .before .before .before in
     let at-line-of = at-line-fault .before .before .before .before .before .before .before .before in
     let loop = at-line-of .before .before .before .before .before .before .loop in
@@ -341,8 +337,8 @@ add-parts c =
 
 loop-less-3 : tie.Need-loop-less-3 Inv-loop2 μ-loop2 Inv-loop3 μ-loop3 Inv-loop μ-loop
 loop-less-3 c =
-    let at-part-sought = c .before .before .before .before .before .before .before .before .before in
-    let loop-test = at-part-sought .before .before .before .before .before .before .before .before .loop-test in
+    let at-loop2 = c .before .before .before .before .before .before .before .before in
+    let loop-test = at-loop2 .before .before .before .before .before .before .before .before .before .loop-test in
     omega (arith, loop-test .taken)
 
 loop-again-3 : tie.Need-loop-again-3 Inv-loop2 μ-loop2 Inv-loop3 μ-loop3 Inv-loop μ-loop
@@ -366,19 +362,22 @@ sub-k c =
     let loop = at-line-of .before .before .before .before .before .before .loop in
     omega (arith, source-some (loop .inv .1) (judged at-line-fault) (c .before .before .before .if5 .left) (c .enum-told4 .given .1))
 
-mul-part-2 : tie.Need-mul-part-2 Inv-loop2 μ-loop2 Inv-loop3 μ-loop3 Inv-loop μ-loop
-mul-part-2 c =
+mul-fitted : tie.Need-mul-fitted Inv-loop2 μ-loop2 Inv-loop3 μ-loop3 Inv-loop μ-loop
+mul-fitted c =
     let at-line-fault = c .before .before .before .before in
     let at-line-of = at-line-fault .before .before .before .before .before .before .before .before in
     let loop = at-line-of .before .before .before .before .before .before .loop in
     omega (arith, source-low (loop .inv .1) (judged at-line-fault) (c .before .before .before .if5 .left) (c .enum-told4 .given .1))
 
-element-copy-out-part-2 : tie.Need-element-copy-out-part-2 Inv-loop2 μ-loop2 Inv-loop3 μ-loop3 Inv-loop μ-loop
-element-copy-out-part-2 c =
+element-copy-out-fitted : tie.Need-element-copy-out-fitted Inv-loop2 μ-loop2 Inv-loop3 μ-loop3 Inv-loop μ-loop
+element-copy-out-fitted c =
     let at-line-fault = c .before .before .before .before in
     let at-line-of = at-line-fault .before .before .before .before .before .before .before .before in
     let loop = at-line-of .before .before .before .before .before .before .loop in
     omega (arith, source-low (loop .inv .1) (judged at-line-fault) (c .before .before .before .if5 .left) (c .enum-told4 .given .1))
+
+task-of-requires : tie.Need-task-of-requires Inv-loop2 μ-loop2 Inv-loop3 μ-loop3 Inv-loop μ-loop
+task-of-requires c κs = search needs
 
 mul-t56 : tie.Need-mul-t56 Inv-loop2 μ-loop2 Inv-loop3 μ-loop3 Inv-loop μ-loop
 mul-t56 c =
@@ -419,7 +418,7 @@ loop-again-4 c =
     let loop = at-line-of .before .before .before .before .before .before .loop in (
       loop .inv .0,
       stand-fit (loop .inv .1) (judged at-line-fault)
-          (if5 .left) (head-after .result) (head-after .ensures) (c .before .before .enum-told4 .given .1) past,
+          (if5 .left) (head-after .result) (head-after .ensures) (c .before .before .enum-told4 .given .1) pastPart (c .task-of .result) (c .task-of .ensures),
     )
 
 enum-told-5 : tie.Need-enum-told-5 Inv-loop2 μ-loop2 Inv-loop3 μ-loop3 Inv-loop μ-loop
@@ -427,8 +426,8 @@ enum-told-5 c = search needs
 
 loop-less-5 : tie.Need-loop-less-5 Inv-loop2 μ-loop2 Inv-loop3 μ-loop3 Inv-loop μ-loop
 loop-less-5 c =
-    let at-part-sought = c .before .before .before .before .before .before .before .before .before in
-    let loop-test = at-part-sought .before .before .before .before .before .before .before .before .loop-test in
+    let at-loop2 = c .before .before .before .before .before .before .before .before in
+    let loop-test = at-loop2 .before .before .before .before .before .before .before .before .before .loop-test in
     omega (arith, loop-test .taken)
 
 loop-again-5 : tie.Need-loop-again-5 Inv-loop2 μ-loop2 Inv-loop3 μ-loop3 Inv-loop μ-loop
@@ -469,8 +468,8 @@ read-sheet-spec =
     refuse-requires
     returns
     no-line-requires
+    no-parts-requires
     no-tasks-requires
-    no-tasks-requires-2
     loop-holds
     sub-rest
     part-rest-start
@@ -480,10 +479,9 @@ read-sheet-spec =
     returns-2
     slice-aggregate-line-of
     line-of-requires
-    part-sought-requires
     loop2-holds
-    mul-part
-    element-copy-out-part
+    mul-other
+    element-copy-out-other
     add-i
     same-name-requires
     loop2-less
@@ -491,8 +489,8 @@ read-sheet-spec =
     loop2-less-2
     loop2-again-2
     loop3-holds
-    mul-other
-    element-copy-out-other
+    mul-other-2
+    element-copy-out-other-2
     add-j
     same-name-requires-2
     loop3-less
@@ -513,15 +511,16 @@ read-sheet-spec =
     loop-less-2
     loop-again-2
     enum-told-3
-    mul-task
-    element-set-from-task
+    mul-part
+    element-set-from-part
     add-parts
     loop-less-3
     loop-again-3
     enum-told-4
     sub-k
-    mul-part-2
-    element-copy-out-part-2
+    mul-fitted
+    element-copy-out-fitted
+    task-of-requires
     mul-t56
     element-set-from-tasks
     add-tasks

@@ -5,7 +5,8 @@ use mathlib.Core.Path.{_≡_}
 use Prim.Native.Nat.{_-_, _≤_}
 use native.Mathlib.Omega.{arith}
 use lib.ListN.{take}
-use Rattle.lines.specs.Lines.{padded, nameMost}
+use Rattle.demand.specs.Lists.{padded}
+use Rattle.task.specs.Names.{nameMost}
 use Rattle.lines.proofs.FieldLaws.{name-more, name-all, name-cut}
 use Rattle.lines.proofs.fields.name_of.Statement.{statement}
 use Rattle.lines.proofs.fields.name_of.Tie as tie

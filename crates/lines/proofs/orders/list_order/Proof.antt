@@ -4,15 +4,11 @@ use borrow.Author.Needs.{needs}
 use Rattle.lines.proofs.orders.list_order.Statement.{statement}
 use Rattle.lines.proofs.orders.list_order.Tie as tie
 
-no-name-requires : tie.Need-no-name-requires
-no-name-requires c κs = search needs
-
-untimed-requires : tie.Need-untimed-requires
-untimed-requires c κs = search needs
+no-task-requires : tie.Need-no-task-requires
+no-task-requires c κs = search needs
 
 returns : tie.Need-returns
-returns c =
-    cc
+returns c = cc
 
 pub list-order-spec : {M : Type 1} → statement M
-list-order-spec = tie.close (tie.spec no-name-requires untimed-requires returns)
+list-order-spec = tie.close (tie.spec no-task-requires returns)

@@ -26,6 +26,9 @@ no-order-requires-2 c κs = search needs
 enum-told-3 : tie.Need-enum-told-3
 enum-told-3 c = search needs
 
+task-of-requires : tie.Need-task-of-requires
+task-of-requires c κs = search needs
+
 enum-told-4 : tie.Need-enum-told-4
 enum-told-4 c = search needs
 
@@ -55,9 +58,9 @@ returns-2 c =
 
 returns-3 : tie.Need-returns-3
 returns-3 c =
-    let part-form = c .before .before .before .part-form in
-    let start = c .before .before .before .before .before .args in
-    timed-by-word (start .deed) (fields (start .s .now)) (part-form .result) (part-form .ensures) Word.Part (c .enum-told3 .given .1)
+    let part-form = c .before .before .before .before .part-form in
+    let start = c .before .before .before .before .before .before .args in
+    rw (c .task-of .ensures) (timed-by-word (start .deed) (fields (start .s .now)) (part-form .result) (part-form .ensures) Word.Part (c .before .enum-told3 .given .1))
 
 returns-4 : tie.Need-returns-4
 returns-4 c =
@@ -83,6 +86,7 @@ timed-order-spec =
     enum-told-2
     no-order-requires-2
     enum-told-3
+    task-of-requires
     enum-told-4
     no-order-requires-3
     enum-told-5

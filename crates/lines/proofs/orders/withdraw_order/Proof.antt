@@ -42,17 +42,20 @@ returns-2 c =
 untimed-requires : tie.Need-untimed-requires
 untimed-requires c κs = search needs
 
+task-of-requires : tie.Need-task-of-requires
+task-of-requires c κs = search needs
+
 returns-3 : tie.Need-returns-3
 returns-3 c =
-    let well-formed = c .before .before .well-formed in
-    let name-of = c .before .before .before .name-of in
-    let if1 = c .before .before .before .before .if1 in
-    let until = c .before .before .before .before .before .until in
-    let start = c .before .before .before .before .before .before .before .args in
+    let well-formed = c .before .before .before .well-formed in
+    let name-of = c .before .before .before .before .name-of in
+    let if1 = c .before .before .before .before .before .if1 in
+    let until = c .before .before .before .before .before .before .until in
+    let start = c .before .before .before .before .before .before .before .before .args in
     let some =
     withdraw-some (start .s .now) (until .result) (until .ensures) (if1 .left)
-    (name-of .result) (name-of .ensures) (sym (well-formed .ensures) ∙ not-false (well-formed .result) (c .before .if2 .left)) in
-    rw (c .untimed .ensures) some
+    (name-of .result) (name-of .ensures) (sym (well-formed .ensures) ∙ not-false (well-formed .result) (c .before .before .if2 .left)) in
+    rw (c .task-of .ensures, c .before .untimed .ensures) some
 
 pub withdraw-order-spec : {M : Type 1} → statement M
 withdraw-order-spec =
@@ -66,4 +69,5 @@ withdraw-order-spec =
     no-order-requires-2
     returns-2
     untimed-requires
+    task-of-requires
     returns-3)
