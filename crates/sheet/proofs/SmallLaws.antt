@@ -47,8 +47,8 @@ part-small stage t parts =
     let fits : Bool = sized (wholePiece (t .times)) in
     let last : rule (room parts) 6 0 ≤ 8 = rule-small (room parts) 6 0 (omega arith) (omega arith) in
     let new : rule (free (t .name) parts) 4 (rule (room parts) 6 0) ≤ 8 = rule-small (free (t .name) parts) 4 (rule (room parts) 6 0) (omega arith) last in
-    rule-small (eqb stage amongParts) 8 (rule fits 3 (rule (free (t .name) parts) 4 (rule (room parts) 6 0)))
-    (omega arith) (rule-small fits 3 (rule (free (t .name) parts) 4 (rule (room parts) 6 0)) (omega arith) new)
+    rule-small (eqb stage amongParts) 8 (rule fits 3 (rule (free (t .name) parts) 4 (rule (room parts) 6 0))) (omega arith)
+    (rule-small fits 3 (rule (free (t .name) parts) 4 (rule (room parts) 6 0)) (omega arith) new)
 
 fit-small : (stage : ℕ) (n p : Name) (parts tasks : List Task) → fitFault stage n p parts tasks ≤ 8
 unfolding fitFault
@@ -56,8 +56,8 @@ fit-small stage n p parts tasks =
     let known : Bool = not (free p parts) in
     let last : rule (room tasks) 6 0 ≤ 8 = rule-small (room tasks) 6 0 (omega arith) (omega arith) in
     let five : rule known 5 (rule (room tasks) 6 0) ≤ 8 = rule-small known 5 (rule (room tasks) 6 0) (omega arith) last in
-    rule-small (leb amongParts stage) 8 (rule (free n tasks) 4 (rule known 5 (rule (room tasks) 6 0)))
-    (omega arith) (rule-small (free n tasks) 4 (rule known 5 (rule (room tasks) 6 0)) (omega arith) five)
+    rule-small (leb amongParts stage) 8 (rule (free n tasks) 4 (rule known 5 (rule (room tasks) 6 0))) (omega arith)
+    (rule-small (free n tasks) 4 (rule known 5 (rule (room tasks) 6 0)) (omega arith) five)
 
 word-small : (w : Word) (a : Above) (l : Line) → wordFault w a l ≤ 8
 word-small Word.Machine a l = machine-small (a .stage) (l .machine)
@@ -93,8 +93,8 @@ from-small : (most : ℕ) (a : Above) (n : ℕ) (l : List ℕ) (ls : List (List 
 unfolding readFrom
 from-small most a n l [] low = ending-small most a n l (omega arith)
 from-small most a n l (m ∷ ls) low =
-    next-small most (lineFault a (lineOf l)) n (readFrom (after a (lineOf l)) (n + 1) m ls)
-    (line-small a (lineOf l)) (omega arith) (from-small most (after a (lineOf l)) (n + 1) m ls (omega arith))
+    next-small most (lineFault a (lineOf l)) n (readFrom (after a (lineOf l)) (n + 1) m ls) (line-small a (lineOf l)) (omega arith)
+    (from-small most (after a (lineOf l)) (n + 1) m ls (omega arith))
 
 beyond-few : (b : ℕ) (s : List ℕ) → length (beyond b s) ≤ length s
 unfolding beyond

@@ -37,13 +37,10 @@ pub record Standing (bytes : List ℕ) (h : Head) (ps ts : Tasks) (at n : ℕ) :
   pub held : Holds above h ps ts
   pub reached : Reached bytes above at n
 
-pub stand-top : (bytes : List ℕ) (h : Head) (ps ts : Tasks)
-    → length bytes ≤ sheetMost → h ≡ headOf top → ps ≡ tasksOf [] → ts ≡ tasksOf [] → Standing bytes h ps ts 0 1
-stand-top bytes h ps ts short head parts tasks = record {
-  above = top;
-  held = record { head-is = head; parts-are = parts; tasks-are = tasks };
-  reached = reached-top bytes short;
-}
+pub stand-top : (bytes : List ℕ) (h : Head) (ps ts : Tasks) → length bytes ≤ sheetMost → h ≡ headOf top → ps ≡ tasksOf [] → ts ≡ tasksOf []
+    → Standing bytes h ps ts 0 1
+stand-top bytes h ps ts short head parts
+    tasks = record { above = top; held = record { head-is = head; parts-are = parts; tasks-are = tasks }; reached = reached-top bytes short }
 
 module _ {bytes : List ℕ} {h : Head} {ps ts : Tasks} {at n : ℕ} (s : Standing bytes h ps ts at n) where
   pub parts-few : ps .count ≤ tasksMost
@@ -75,10 +72,10 @@ module _ {bytes : List ℕ} {h : Head} {ps ts : Tasks} {at n : ℕ} (s : Standin
     pub place : source ≡ placeOf 1 (sought (l .word) l) (listOf ps)
     pub judged : fault ≡ lineFault (s .above) l
 
-  module _ (e : ℕ) (run : e ≡ length (upTo newline (rest bytes at)))
-      (ended : e ≡ length (rest bytes at) → ⊥) (l : Line) (says : l ≡ lineOf (take e (rest bytes at)))
-      (name : Name) (names : name ≡ sought (l .word) l) (i source : ℕ) (first : Seeking name ps i source)
-      (all : ps .count ≤ i) (j twin : ℕ) (second : Seeking (l .task .name) ts j twin) (over : ts .count ≤ j)
+  module _ (e : ℕ) (run : e ≡ length (upTo newline (rest bytes at))) (ended : e ≡ length (rest bytes at) → ⊥) (l : Line)
+      (says : l ≡ lineOf (take e (rest bytes at)))
+      (name : Name) (names : name ≡ sought (l .word) l) (i source : ℕ) (first : Seeking name ps i source) (all : ps .count ≤ i) (j twin : ℕ)
+      (second : Seeking (l .task .name) ts j twin) (over : ts .count ≤ j)
       (fault : ℕ) (judged : (a : Above) → a .stage ≡ h .stage → Found a l source (ps .count) twin (ts .count) → fault ≡ lineFault a l) where
     source-at : source ≡ placeOf 1 (sought (l .word) l) (listOf ps)
     source-at = rw (← names) (seek-end name ps i source first all)
@@ -153,9 +150,11 @@ module _ {bytes : List ℕ} {h : Head} {ps ts : Tasks} {at n : ℕ} (s : Standin
         pub stand-fit : l .word ≡ Word.Fit → (d : Task)
             → Standing bytes next ps (record {
               count = ts .count + 1;
-              list = set (ts .list) (ts .count) (record { name = l .task .name; times = getD (ps .list) (source - 1) d .times });
-            })
-            (at + e + 1) (n + 1)
+              list = set (ts .list) (ts .count) (record {
+                name = l .task .name;
+                times = getD (ps .list) (source - 1) d .times;
+              });
+            }) (at + e + 1) (n + 1)
         stand-fit word d = record {
           above = after (s .above) l;
           held = holds-task (s .above) h ps ts (s .held) l next heads word

@@ -134,8 +134,8 @@ pub found : (Q : Task → Type 0) (k : ℕ) (n : Name) (ps : List Task) → Each
 found Q k n [] each some = absurd (some refl)
 found Q k n (p ∷ ps) each some = by-test (sameName n (p .name)) refl (λ h. found Q (k + 1) n ps (each .1) h) some
   where
-    by-test : (t : Bool) → sameName n (p .name) ≡ t
-        → ((placeOf (k + 1) n ps ≡ 0 → ⊥) → Found Q n ps) → (cond t k (placeOf (k + 1) n ps) ≡ 0 → ⊥) → Found Q n (p ∷ ps)
+    by-test : (t : Bool) → sameName n (p .name) ≡ t → ((placeOf (k + 1) n ps ≡ 0 → ⊥) → Found Q n ps)
+        → (cond t k (placeOf (k + 1) n ps) ≡ 0 → ⊥) → Found Q n (p ∷ ps)
     by-test true e h some = record { part = p; holds = each .0; same = same-name-exact n (p .name) e; times = rw e }
     by-test false e h some =
         let f = h some in

@@ -62,9 +62,9 @@ judged c =
     let at-if2 = c .before .before .before .before .before .before .before .before .before .before in
     let until = at-if2 .before .until in
     let loop = at-if2 .before .before .before .before .loop in
-    line-read (loop .inv .1) (until .result) (until .ensures) (at-if2 .if2 .left) (line-of .result) (line-of .ensures)
-    (part-sought .result) (part-sought .ensures) (loop2 .i) (loop2 .source) (loop2 .inv) (c .before .before .before .loop2-test .left)
-    (loop3 .j) (loop3 .twin) (loop3 .inv) (c .before .loop3-test .left) (c .line-fault .result) (c .line-fault .ensures)
+    line-read (loop .inv .1) (until .result) (until .ensures) (at-if2 .if2 .left) (line-of .result) (line-of .ensures) (part-sought .result)
+    (part-sought .ensures) (loop2 .i) (loop2 .source) (loop2 .inv) (c .before .before .before .loop2-test .left) (loop3 .j) (loop3 .twin)
+    (loop3 .inv) (c .before .loop3-test .left) (c .line-fault .result) (c .line-fault .ensures)
 
 refuse-requires : tie.Need-refuse-requires Inv-loop2 μ-loop2 Inv-loop3 μ-loop3 Inv-loop μ-loop
 refuse-requires c κs = search needs
@@ -111,8 +111,8 @@ returns-2 c =
     let loop-test = c .before .before .before .before .loop-test in
     let start = at-loop .before .before .before .before .before .before .before .before .args in
     c .refuse2 .ensures
-    ∙ reached-cut (start .bytes .now)
-    (s .above) (loop .at) (loop .number) (s .reached) (until .result) (until .ensures) (loop-test .taken) (c .before .if2 .taken)
+    ∙ reached-cut (start .bytes .now) (s .above) (loop .at) (loop .number) (s .reached) (until .result) (until .ensures) (loop-test .taken)
+    (c .before .if2 .taken)
 
 slice-aggregate-line-of : tie.Need-slice-aggregate-line-of Inv-loop2 μ-loop2 Inv-loop3 μ-loop3 Inv-loop μ-loop
 slice-aggregate-line-of c =
@@ -291,8 +291,8 @@ loop-again c =
     let at-line-of = at-line-fault .before .before .before .before .before .before .before .before in
     let loop = at-line-of .before .before .before .before .before .before .loop in (
       loop .inv .0,
-      stand-same (loop .inv .1) (judged at-line-fault)
-          (c .before .before .before .if5 .left) (head-after .result) (head-after .ensures) Word.Machine (c .enum-told .given .1) refl refl,
+      stand-same (loop .inv .1) (judged at-line-fault) (c .before .before .before .if5 .left) (head-after .result)
+          (head-after .ensures) Word.Machine (c .enum-told .given .1) refl refl,
     )
 
 enum-told-2 : tie.Need-enum-told-2 Inv-loop2 μ-loop2 Inv-loop3 μ-loop3 Inv-loop μ-loop
@@ -311,8 +311,8 @@ loop-again-2 c =
     let at-line-of = at-line-fault .before .before .before .before .before .before .before .before in
     let loop = at-line-of .before .before .before .before .before .before .loop in (
       loop .inv .0,
-      stand-same (loop .inv .1) (judged at-line-fault)
-          (c .before .before .before .if5 .left) (head-after .result) (head-after .ensures) Word.Cost (c .enum-told2 .given .1) refl refl,
+      stand-same (loop .inv .1) (judged at-line-fault) (c .before .before .before .if5 .left) (head-after .result)
+          (head-after .ensures) Word.Cost (c .enum-told2 .given .1) refl refl,
     )
 
 enum-told-3 : tie.Need-enum-told-3 Inv-loop2 μ-loop2 Inv-loop3 μ-loop3 Inv-loop μ-loop
@@ -352,8 +352,8 @@ loop-again-3 c =
     let at-line-of = at-line-fault .before .before .before .before .before .before .before .before in
     let loop = at-line-of .before .before .before .before .before .before .loop in (
       loop .inv .0,
-      stand-part (loop .inv .1) (judged at-line-fault)
-          (c .before .before .before .if5 .left) (head-after .result) (head-after .ensures) (c .enum-told3 .given .1),
+      stand-part (loop .inv .1) (judged at-line-fault) (c .before .before .before .if5 .left) (head-after .result)
+          (head-after .ensures) (c .enum-told3 .given .1),
     )
 
 enum-told-4 : tie.Need-enum-told-4 Inv-loop2 μ-loop2 Inv-loop3 μ-loop3 Inv-loop μ-loop
@@ -418,8 +418,8 @@ loop-again-4 c =
     let at-line-of = at-line-fault .before .before .before .before .before .before .before .before in
     let loop = at-line-of .before .before .before .before .before .before .loop in (
       loop .inv .0,
-      stand-fit (loop .inv .1) (judged at-line-fault)
-          (if5 .left) (head-after .result) (head-after .ensures) (c .before .before .enum-told4 .given .1) past,
+      stand-fit (loop .inv .1) (judged at-line-fault) (if5 .left) (head-after .result) (head-after .ensures)
+          (c .before .before .enum-told4 .given .1) past,
     )
 
 enum-told-5 : tie.Need-enum-told-5 Inv-loop2 μ-loop2 Inv-loop3 μ-loop3 Inv-loop μ-loop
@@ -438,8 +438,8 @@ loop-again-5 c =
     let at-line-of = at-line-fault .before .before .before .before .before .before .before .before in
     let loop = at-line-of .before .before .before .before .before .before .loop in (
       loop .inv .0,
-      stand-same (loop .inv .1) (judged at-line-fault)
-          (c .before .before .before .if5 .left) (head-after .result) (head-after .ensures) Word.Other (c .enum-told5 .given .1) refl refl,
+      stand-same (loop .inv .1) (judged at-line-fault) (c .before .before .before .if5 .left) (head-after .result)
+          (head-after .ensures) Word.Other (c .enum-told5 .given .1) refl refl,
     )
 
 refuse-requires-4 : tie.Need-refuse-requires-4 Inv-loop2 μ-loop2 Inv-loop3 μ-loop3 Inv-loop μ-loop

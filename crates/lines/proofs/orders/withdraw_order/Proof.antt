@@ -36,8 +36,8 @@ returns-2 c =
     let until = c .before .before .before .before .before .until in
     let start = c .before .before .before .before .before .before .before .args in
     c .no-order2 .ensures
-    ∙ withdraw-unnamed (start .s .now) (until .result) (until .ensures)
-    (if1 .left) (name-of .result) (name-of .ensures) (sym (well-formed .ensures) ∙ not-true (well-formed .result) (c .before .if2 .taken))
+    ∙ withdraw-unnamed (start .s .now) (until .result) (until .ensures) (if1 .left) (name-of .result) (name-of .ensures)
+    (sym (well-formed .ensures) ∙ not-true (well-formed .result) (c .before .if2 .taken))
 
 untimed-requires : tie.Need-untimed-requires
 untimed-requires c κs = search needs
@@ -50,8 +50,8 @@ returns-3 c =
     let until = c .before .before .before .before .before .until in
     let start = c .before .before .before .before .before .before .before .args in
     let some =
-    withdraw-some (start .s .now) (until .result) (until .ensures) (if1 .left)
-    (name-of .result) (name-of .ensures) (sym (well-formed .ensures) ∙ not-false (well-formed .result) (c .before .if2 .left)) in
+    withdraw-some (start .s .now) (until .result) (until .ensures) (if1 .left) (name-of .result) (name-of .ensures)
+    (sym (well-formed .ensures) ∙ not-false (well-formed .result) (c .before .if2 .left)) in
     rw (c .untimed .ensures) some
 
 pub withdraw-order-spec : {M : Type 1} → statement M
