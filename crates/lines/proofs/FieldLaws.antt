@@ -89,8 +89,8 @@ module _ (f : List ℕ) where
   unfolding numberOf isNumber
   number-other other = simp (other, and-false)
 
-  pub number-yes : (v : ℕ)
-      → 1 ≤ length f → length f ≤ 7 → unled f ≡ true → every isDigit f ≡ true → v ≡ valueOf f → record { ok = true; value = v } ≡ numberOf f
+  pub number-yes : (v : ℕ) → 1 ≤ length f → length f ≤ 7 → unled f ≡ true → every isDigit f ≡ true → v ≡ valueOf f
+      → record { ok = true; value = v } ≡ numberOf f
   unfolding numberOf isNumber
   number-yes v some few plain digits value = simp (le-leb 1 (length f) some, le-leb (length f) 7 few, plain, digits, value)
 

@@ -41,8 +41,8 @@ unfolding upTo
 run-of b [] = (refl, omega arith)
 run-of b (x ∷ s) = by-test (eqb x b) (run-of b s)
   where
-    by-test : (t : Bool) → Run b s
-        → (take (length (cond t [] (x ∷ upTo b s))) (x ∷ s) ≡ cond t [] (x ∷ upTo b s)) × (length (cond t [] (x ∷ upTo b s)) ≤ length (x ∷ s))
+    by-test : (t : Bool) → Run b s → (take (length (cond t [] (x ∷ upTo b s))) (x ∷ s) ≡ cond t [] (x ∷ upTo b s))
+        × (length (cond t [] (x ∷ upTo b s)) ≤ length (x ∷ s))
     by-test true r = (refl, omega arith)
     by-test false r = (ap (λ (l : List ℕ). x ∷ l) (r .0), omega (arith, r .1))
 

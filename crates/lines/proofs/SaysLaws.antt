@@ -44,14 +44,14 @@ module _ (f : List ℕ) where
   part-word : wordOf f ≡ Word.Part → f ≡ bytesOf "part"
   unfolding wordOf
   part-word e =
-      bytes-exact f (bytesOf "part")
-      (third-word (sameBytes f (bytesOf "machine")) (sameBytes f (bytesOf "cost")) (sameBytes f (bytesOf "part")) (sameBytes f (bytesOf "fit")) e)
+      bytes-exact f (bytesOf "part") (third-word (sameBytes f (bytesOf "machine")) (sameBytes f (bytesOf "cost"))
+      (sameBytes f (bytesOf "part")) (sameBytes f (bytesOf "fit")) e)
 
   fit-word : wordOf f ≡ Word.Fit → f ≡ bytesOf "fit"
   unfolding wordOf
   fit-word e =
-      bytes-exact f (bytesOf "fit")
-      (fourth-word (sameBytes f (bytesOf "machine")) (sameBytes f (bytesOf "cost")) (sameBytes f (bytesOf "part")) (sameBytes f (bytesOf "fit")) e)
+      bytes-exact f (bytesOf "fit") (fourth-word (sameBytes f (bytesOf "machine")) (sameBytes f (bytesOf "cost"))
+      (sameBytes f (bytesOf "part")) (sameBytes f (bytesOf "fit")) e)
 
 -- ---- lines
 
@@ -119,8 +119,8 @@ says-fit l word = by-word (wordOf (upTo tab l)) refl (beyond tab l) refl word
     by-word Word.Cost w fs more e = other (numbered 9 fs) (costLine (costsOf (values fs))) e (λ f. let z : _≡_ {A = ℕ} 0 1 = cc in omega arith)
     by-word Word.Part w [] more e = absurd (some (sym e))
     by-word Word.Part w (f ∷ fs) more e =
-        other (isName f && numbered 6 fs)
-        (partLine (record { name = nameOf f; times = timesOf (values fs) })) e (λ h. let z : _≡_ {A = ℕ} 0 1 = cc in omega arith)
+        other (isName f && numbered 6 fs) (partLine (record { name = nameOf f; times = timesOf (values fs) })) e
+        (λ h. let z : _≡_ {A = ℕ} 0 1 = cc in omega arith)
     by-word Word.Fit w [] more e = absurd (some (sym e))
     by-word Word.Fit w (f ∷ []) more e = absurd (some (sym e))
     by-word Word.Fit w (f ∷ g ∷ []) more e =

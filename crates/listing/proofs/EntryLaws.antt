@@ -43,14 +43,13 @@ spelling-capped n r h f l =
     (eq-or-lt-of-le h)
 
 pub piece-line : (c : Costs) (q : ℕ) (name : List ℕ) (s : Stored) (n : ℕ) (a : Piece) (charged : ℕ) → n ≡ q + 1 → a ≡ pieceOf s → charged ≡ chargedTime c a
-    → ended tab (bytesOf "piece")
-    ++ (ended tab (decimal n) ++ (ended tab name ++ (ended tab (kindWord (a .kind)) ++ figuresLine (s .budget) (s .window) (s .jitter) charged)))
-    ≡ entryLine (entryWith c q name s)
+    → ended tab (bytesOf "piece") ++ (ended tab (decimal n) ++ (ended tab name
+    ++ (ended tab (kindWord (a .kind)) ++ figuresLine (s .budget) (s .window) (s .jitter) charged))) ≡ entryLine (entryWith c q name s)
 unfolding entryLine
 piece-line c q name s n a charged core piece time = rw (core, time, piece)
 
-entry-line : (p : Plan) (q : ℕ) (s : Stored) (name : List ℕ)
-    → name ≡ spelling (taskAt (p .tasks .list) (s .task) .name) → entryLine (entryWith (p .costs) q name s) ≡ entryLine (entryOf p q s)
+entry-line : (p : Plan) (q : ℕ) (s : Stored) (name : List ℕ) → name ≡ spelling (taskAt (p .tasks .list) (s .task) .name)
+    → entryLine (entryWith (p .costs) q name s) ≡ entryLine (entryOf p q s)
 unfolding entryOf
 entry-line p q s name is = rw is
 
@@ -73,8 +72,7 @@ module _ (p : Plan) (q : ℕ) (long : length (p .layout .rows) ≡ 1024) (low : 
   seats-long : length seatsOf ≡ 64
   seats-long = length-take-le 64 (drop (q * 64) (p .layout .rows)) (omega (arith, length-drop (q * 64) (p .layout .rows)))
 
-  row-more : (i : ℕ) → i < 64
-      → entryLines (rowRun p q (i + 1))
+  row-more : (i : ℕ) → i < 64 → entryLines (rowRun p q (i + 1))
       ≡ entryLines (rowRun p q i) ++ entryLine (entryOf p q (getD (p .layout .pieces) (getD (p .layout .rows) (q * 64 + i) 0) blank))
   row-more i h =
       let f : ℕ → Entry = (λ j. entryOf p q (getD (p .layout .pieces) j blank)) in
@@ -89,9 +87,8 @@ module _ (p : Plan) (q : ℕ) (long : length (p .layout .rows) ≡ 1024) (low : 
   row-whole r h f =
       let n = getD (p .layout .lens) q 0 in
       let same : take r seatsOf ≡ take n seatsOf =
-      ⊎-elim (λ e. ap (λ (k : ℕ). take k seatsOf) e)
-      (λ s. take-all r seatsOf (omega (arith, f s, seats-long)) ∙ sym (take-all n seatsOf (omega (arith, f s, seats-long))))
-      (eq-or-lt-of-le h) in
+      ⊎-elim (λ e. ap (λ (k : ℕ). take k seatsOf) e) (λ s. take-all r seatsOf (omega (arith, f s, seats-long))
+      ∙ sym (take-all n seatsOf (omega (arith, f s, seats-long)))) (eq-or-lt-of-le h) in
       ap (map (λ j. entryOf p q (getD (p .layout .pieces) j blank))) same ∙ sym (map-map (entryOf p q) (λ j. getD (p .layout .pieces) j blank) (take n seatsOf))
 
   -- one place more of the row is written
@@ -120,8 +117,8 @@ getD-defaults (x ∷ xs) zero d e h = refl
 getD-defaults (x ∷ xs) (suc n) d e h = getD-defaults xs n d e (le-of-suc-le-suc h)
 
 -- what lies at a place of an array, told from a place within it
-pub at-within : {A B : Type 0} (f : A → B) (xs : List A) (top n j : ℕ) (d e : A)
-    → length xs ≡ top → (n < top → j ≡ n) → cond (ltb n top) (f (getD xs j d)) (f e) ≡ f (getD xs n e)
+pub at-within : {A B : Type 0} (f : A → B) (xs : List A) (top n j : ℕ) (d e : A) → length xs ≡ top → (n < top → j ≡ n)
+    → cond (ltb n top) (f (getD xs j d)) (f e) ≡ f (getD xs n e)
 at-within f xs top n j d e long same = elim (decLt n top) [
   | yes low ↦ rw (lt-ltb n top low, same low) (ap f (getD-defaults xs n d e (omega arith)))
   | no high ↦ rw (le-ltb n top (omega arith), List·getD-eq-default xs e {n = n} (omega arith))

@@ -57,13 +57,13 @@ module _ (c : Costs) (g : ℕ) (w : ℕ → Piece) (k : ℕ) (costs : SizedCosts
       let cut = cut-parts c g costs row (w a) (has .sizes) size f l e in
       (record { low = low; size = rw (cut .first-is) (cut .parts .first-sized) }, (record { low = low; size = rw (cut .last-is) (cut .parts .last-sized) }, tt))
 
-  shares-seated : {xs : List ℕ} {l : List (Placed ℕ)}
-      → Shares (rulesFor c g w) (Fine c) xs l → Each (λ a. a < k) xs → Each (λ a. Sized (w a)) xs → Each (Seated k) l
+  shares-seated : {xs : List ℕ} {l : List (Placed ℕ)} → Shares (rulesFor c g w) (Fine c) xs l → Each (λ a. a < k) xs
+      → Each (λ a. Sized (w a)) xs → Each (Seated k) l
   shares-seated nil low size = tt
   shares-seated (more {k = x} {l = l} s r) low size = each-join (Seated k) x l (share-seated s (low .0) (size .0)) (shares-seated r (low .1) (size .1))
 
-module _ (m : Machine) (c : Costs) (n : ℕ) (ts : List Task)
-    (faultless : stateFault m c n ts ≡ 0) (s : Stand) (l : List (Placed ℕ)) (planned : walked m c (take n ts) ≡ fine s l) where
+module _ (m : Machine) (c : Costs) (n : ℕ) (ts : List Task) (faultless : stateFault m c n ts ≡ 0) (s : Stand) (l : List (Placed ℕ))
+    (planned : walked m c (take n ts) ≡ fine s l) where
   pub all-seated : Each (Seated (length (take n ts))) l
   all-seated =
       shares-seated c (m .grain) (wholeAt (take n ts)) (length (take n ts)) (state-sane m c n ts faultless .costs)
@@ -84,8 +84,8 @@ map-same P f g same [] ok = refl
 map-same P f g same (a ∷ x) ok = cc (same a (ok .0), map-same P f g same x (ok .1))
 
 -- the entry of what was placed, from the plan's struct
-entry-placed : (p : Plan) (c : Costs) (ts : List Task) (q : ℕ) (e : Placed ℕ) → p .costs ≡ c
-    → p .tasks .list ≡ padded ts → SizedCosts c → Seated (length ts) e → e .on ≡ q → entryOf p q (storedOf e) ≡ placedEntry c ts e
+entry-placed : (p : Plan) (c : Costs) (ts : List Task) (q : ℕ) (e : Placed ℕ) → p .costs ≡ c → p .tasks .list ≡ padded ts → SizedCosts c
+    → Seated (length ts) e → e .on ≡ q → entryOf p q (storedOf e) ≡ placedEntry c ts e
 unfolding entryOf placedEntry padded
 entry-placed p c ts q e costs list sizes seat on =
     let piece : pieceOf (storedOf e) ≡ e .piece = piece-stored (e .item) (e .piece) in
@@ -136,8 +136,8 @@ count-all k (e ∷ l) ok = count-below k e l (ok .0) ∙ ap suc (count-all k l (
 
 -- ---- a plan that the walk gave
 
-module _ (m : Machine) (c : Costs) (n : ℕ) (ts : List Task)
-    (faultless : stateFault m c n ts ≡ 0) (s : Stand) (l : List (Placed ℕ)) (planned : walked m c (take n ts) ≡ fine s l) where
+module _ (m : Machine) (c : Costs) (n : ℕ) (ts : List Task) (faultless : stateFault m c n ts ≡ 0) (s : Stand) (l : List (Placed ℕ))
+    (planned : walked m c (take n ts) ≡ fine s l) where
   pub plan-is : planOf m c n ts ≡ finished m c (take n ts) (fine s l)
   unfolding planOf
   plan-is = rw (faultless, planned)
@@ -148,12 +148,12 @@ module _ (m : Machine) (c : Costs) (n : ℕ) (ts : List Task)
       let k : ℕ = length (take n ts) in
       let costs : p .costs ≡ c = ap (λ (r : Reply). r .plan .costs) plan-is in
       let list : p .tasks .list ≡ padded (take n ts) = ap (λ (r : Reply). r .plan .tasks .list) plan-is in
-      ap (map (entryOf p q))
-      (row-pieces (p .layout) l q (plan-shows m c n ts faultless s l planned) low (plan-counts m c n ts faultless s l planned .row-fits q))
+      ap (map (entryOf p q)) (row-pieces (p .layout) l q (plan-shows m c n ts faultless s l planned) low
+      (plan-counts m c n ts faultless s l planned .row-fits q))
       ∙ (map-map (entryOf p q) storedOf (onCore q l)
       ∙ map-same (λ e. Seated k e × (e .on ≡ q)) (λ e. entryOf p q (storedOf e)) (placedEntry c (take n ts))
-      (λ e seat. entry-placed p c (take n ts) q e costs list (state-sane m c n ts faultless .costs) (seat .0) (seat .1))
-      (onCore q l) (each-on (Seated k) q l (all-seated m c n ts faultless s l planned)))
+      (λ e seat. entry-placed p c (take n ts) q e costs list (state-sane m c n ts faultless .costs) (seat .0) (seat .1)) (onCore q l)
+      (each-on (Seated k) q l (all-seated m c n ts faultless s l planned)))
 
   rows-count : (k : ℕ) → k ≤ 16 → length (entriesOn (planOf m c n ts .plan) k) ≡ onFirstCores k l
   rows-count zero few = refl

@@ -149,8 +149,8 @@ listing-short p es is short few =
 
 -- ---- entries
 
-pub placed-readable : (c : Costs) (ts : List Task) (e : Placed ℕ)
-    → SizedCosts c → Each (λ t. formed (t .name) ≡ true) ts → Seated (length ts) e → e .on < 16 → Readable (placedEntry c ts e)
+pub placed-readable : (c : Costs) (ts : List Task) (e : Placed ℕ) → SizedCosts c → Each (λ t. formed (t .name) ≡ true) ts
+    → Seated (length ts) e → e .on < 16 → Readable (placedEntry c ts e)
 unfolding placedEntry charged
 placed-readable c ts e costs names seat low =
     let time : charge c (e .piece) ≤ 2000000 = charged-ranged c costs (e .piece) (sized-countable (e .piece) (seat .size)) .charge-fits in
@@ -163,13 +163,13 @@ placed-readable c ts e costs names seat low =
       charged-fits = omega arith;
     }
 
-placed-short : (c : Costs) (ts : List Task) (e : Placed ℕ)
-    → Each (λ t. length (spelling (t .name)) ≤ 24) ts → Seated (length ts) e → length (placedEntry c ts e .task) ≤ 24
+placed-short : (c : Costs) (ts : List Task) (e : Placed ℕ) → Each (λ t. length (spelling (t .name)) ≤ 24) ts → Seated (length ts) e
+    → length (placedEntry c ts e .task) ≤ 24
 unfolding placedEntry
 placed-short c ts e names seat = each-task (λ t. length (spelling (t .name)) ≤ 24) ts names (e .item) (seat .low)
 
-module _ (m : Machine) (c : Costs) (n : ℕ) (ts : List Task)
-    (faultless : stateFault m c n ts ≡ 0) (s : Stand) (l : List (Placed ℕ)) (planned : walked m c (take n ts) ≡ fine s l) where
+module _ (m : Machine) (c : Costs) (n : ℕ) (ts : List Task) (faultless : stateFault m c n ts ≡ 0) (s : Stand) (l : List (Placed ℕ))
+    (planned : walked m c (take n ts) ≡ fine s l) where
   -- what holds of the entry of each piece that was placed holds of all entries of the plan
   module _ (R : Entry → Type 0) (each : (e : Placed ℕ) → Seated (length (take n ts)) e → e .on < 16 → R (placedEntry c (take n ts) e)) where
     row-each : (q : ℕ) → q < 16 → Each R (rowEntries (planOf m c n ts .plan) q)
@@ -182,8 +182,8 @@ module _ (m : Machine) (c : Costs) (n : ℕ) (ts : List Task)
     rows-each : (k : ℕ) → k ≤ 16 → Each R (entriesOn (planOf m c n ts .plan) k)
     rows-each zero few = tt
     rows-each (suc q) few =
-        each-join R (entriesOn (planOf m c n ts .plan) q)
-        (rowEntries (planOf m c n ts .plan) q) (rows-each q (omega arith)) (row-each q (omega arith))
+        each-join R (entriesOn (planOf m c n ts .plan) q) (rowEntries (planOf m c n ts .plan) q) (rows-each q (omega arith))
+        (row-each q (omega arith))
 
     entries-each : Each R (entries (planOf m c n ts .plan))
     entries-each = rows-each 16 (omega arith)

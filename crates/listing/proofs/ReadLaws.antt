@@ -44,8 +44,8 @@ abbrev pub fieldsOn : List (List ℕ) → List ℕ → List ℕ
 fieldsOn [] r = r
 fieldsOn (f ∷ fs) r = f ++ (tab ∷ fieldsOn fs r)
 
-pub fields-alike : (fs gs : List (List ℕ)) (r s : List ℕ)
-    → length fs ≡ length gs → Each (Lacks tab) fs → Each (Lacks tab) gs → fieldsOn fs r ≡ fieldsOn gs s → (fs ≡ gs) × (r ≡ s)
+pub fields-alike : (fs gs : List (List ℕ)) (r s : List ℕ) → length fs ≡ length gs → Each (Lacks tab) fs → Each (Lacks tab) gs
+    → fieldsOn fs r ≡ fieldsOn gs s → (fs ≡ gs) × (r ≡ s)
 fields-alike [] [] r s l h k e = (refl, e)
 fields-alike [] (g ∷ gs) r s l h k e = absurd (omega arith)
 fields-alike (f ∷ fs) [] r s l h k e = absurd (omega arith)
@@ -127,8 +127,8 @@ front-lacks e ok = (
 line-alike : (e f : Entry) (r s : List ℕ) → Readable e → Readable f → entryLine e ++ r ≡ entryLine f ++ s → (e ≡ f) × (r ≡ s)
 line-alike e f r s ok good same =
     let cut =
-    line-cut (front e) (front f) (e .charged)
-    (f .charged) r s refl (front-lacks e ok) (front-lacks f good) (sym (line-parts e r) ∙ (same ∙ line-parts f s)) in
+    line-cut (front e) (front f) (e .charged) (f .charged) r s refl (front-lacks e ok) (front-lacks f good)
+    (sym (line-parts e r) ∙ (same ∙ line-parts f s)) in
     let core = decimal-one (e .core) (f .core) (ok .core-fits) (good .core-fits) (cc (cut .0)) in
     let task : e .task ≡ f .task = cc (cut .0) in
     let kind = word-one (e .kind) (f .kind) (cc (cut .0)) in
@@ -172,14 +172,13 @@ head-parts p r = simp append-assoc
 head-lacks : (p : Plan) → Each (Lacks tab) (headFront p)
 head-lacks p = (lacks-by tab (bytesOf "plan") refl, (decimal-lacks tab (omega arith) (p .tasks .count), tt))
 
-pub listing-alike : (p q : Plan) → listingOf p ≡ listingOf q
-    → (decimal (p .tasks .count) ≡ decimal (q .tasks .count))
+pub listing-alike : (p q : Plan) → listingOf p ≡ listingOf q → (decimal (p .tasks .count) ≡ decimal (q .tasks .count))
     × (decimal (p .layout .count) ≡ decimal (q .layout .count)) × (entryLines (entries p) ≡ entryLines (entries q))
 unfolding listingOf
 listing-alike p q same =
     let r : List ℕ = entryLines (entries p) in
     let s : List ℕ = entryLines (entries q) in
     let cut =
-    line-cut (headFront p) (headFront q)
-    (p .layout .count) (q .layout .count) r s refl (head-lacks p) (head-lacks q) (sym (head-parts p r) ∙ (same ∙ head-parts q s)) in
+    line-cut (headFront p) (headFront q) (p .layout .count) (q .layout .count) r s refl (head-lacks p) (head-lacks q)
+    (sym (head-parts p r) ∙ (same ∙ head-parts q s)) in
     (cc (cut .0), cut .1, cut .2)

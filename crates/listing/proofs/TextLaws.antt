@@ -113,8 +113,8 @@ left-last n d (suc k) m f h =
     rw e (drop-set-at d k (48 + m) s ∙ sym (f .digits ∙ digits-last k m (drop (suc k) d) h))
 
 -- what is handed on of the array is the number's digits
-pub digits-whole : (n : ℕ) (d : List ℕ) (i m : ℕ)
-    → Left n d i m → m < 10 → (x : ℕ) → x ≡ 48 + m → take (20 - (i - 1)) (drop (i - 1) (set d (i - 1) x)) ≡ decimal n
+pub digits-whole : (n : ℕ) (d : List ℕ) (i m : ℕ) → Left n d i m → m < 10 → (x : ℕ) → x ≡ 48 + m
+    → take (20 - (i - 1)) (drop (i - 1) (set d (i - 1) x)) ≡ decimal n
 digits-whole n d i m f h x q =
     let b : length (drop (i - 1) (set d (i - 1) x)) ≤ 20 - (i - 1) = rw (length-drop, length-set) (omega (arith, f .twenty)) in
     take-all (20 - (i - 1)) (drop (i - 1) (set d (i - 1) x)) b ∙ rw q (left-last n d i m f h)
@@ -152,8 +152,8 @@ sets-none at (x ∷ vs) = sets-none (suc at) vs
 pub first-pass : (text m old : List ℕ) (r : ℕ) → Wrote [] 0 text r m → m ++ old ≡ old
 first-pass text m old r f = rw (f .bytes, sets-none 0 text)
 
-pub second-pass : (text m old new : List ℕ) (q r : ℕ)
-    → Wrote [] 0 text q m → Wrote (m ++ old) 0 text r new → length text ≤ length (m ++ old) → new ≡ over text old
+pub second-pass : (text m old new : List ℕ) (q r : ℕ) → Wrote [] 0 text q m → Wrote (m ++ old) 0 text r new
+    → length text ≤ length (m ++ old) → new ≡ over text old
 second-pass text m old new q r f g h =
     let e : m ++ old ≡ old = first-pass text m old q f in
     over-whole text old new r (rw e at g) (rw e at h)

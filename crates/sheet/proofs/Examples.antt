@@ -50,6 +50,6 @@ read : Row → Outcome
 read r = outcomeOf (bytesOf (r .text))
 
 all-rows : map read rows ≡ map (λ (r : Row). r .outcome) rows
-unfolding read rows timed outcomeOf readFrom lineFault machineFault costFault partFault fitFault after lineOf wordOf machineForm
-    costForm partForm fitForm upTo beyond isNumber isName nameOf padded formed nameByte sameName sizedMachine sizedCosts sized wholePiece
+unfolding read rows timed outcomeOf readFrom lineFault machineFault costFault partFault fitFault after lineOf wordOf machineForm costForm
+    partForm fitForm upTo beyond isNumber isName nameOf padded formed nameByte sameName sizedMachine sizedCosts sized wholePiece
 all-rows = refl

@@ -45,8 +45,8 @@ from-says a n l (m ∷ ls) k j e = by (lineFault a (lineOf l)) refl e (from-says
         → Refusing a n (l ∷ ended m ls) (lastRun m ls) k j
     by zero h e′ more = good h (more e′)
     by (suc f) h e′ more =
-        subst (λ (q : ℕ). Refusing a n (l ∷ ended m ls) (lastRun m ls) q j)
-        (e′ .0) (subst (Refusing a n (l ∷ ended m ls) (lastRun m ls) (suc f)) (e′ .1) (bad h))
+        subst (λ (q : ℕ). Refusing a n (l ∷ ended m ls) (lastRun m ls) q j) (e′ .0)
+        (subst (Refusing a n (l ∷ ended m ls) (lastRun m ls) (suc f)) (e′ .1) (bad h))
 
 -- and the other way
 end-refuses : (a : Above) (n : ℕ) (tail : List ℕ) (k j : ℕ) → Refusing a n [] tail k j → ending a n tail ≡ refused k j
@@ -68,12 +68,12 @@ shown-says : (o : Outcome) (k j : ℕ) → shown o .number ≡ suc k → shown o
 shown-says (refused n l) k j e f = (e, f)
 shown-says (whole a) k j e f = omega arith
 
-pub first-bad : (bytes : List ℕ) → length bytes ≤ sheetMost
-    → (k j : ℕ) → ((readOf bytes .number ≡ suc k) × (readOf bytes .carries ≡ j)) ↔ Refusing top 1 (linesOf bytes) (tailOf bytes) (suc k) j
+pub first-bad : (bytes : List ℕ) → length bytes ≤ sheetMost → (k j : ℕ)
+    → ((readOf bytes .number ≡ suc k) × (readOf bytes .carries ≡ j)) ↔ Refusing top 1 (linesOf bytes) (tailOf bytes) (suc k) j
 unfolding readOf linesOf tailOf
 first-bad bytes few k j = (
-  (λ e. from-says top 1 (upTo newline bytes) (beyond newline bytes)
-      (suc k) j (subst (λ (o : Outcome). Says o (suc k) j) (short bytes few) (shown-says (outcomeOf bytes) k j (e .0) (e .1)))),
+  (λ e. from-says top 1 (upTo newline bytes) (beyond newline bytes) (suc k) j
+      (subst (λ (o : Outcome). Says o (suc k) j) (short bytes few) (shown-says (outcomeOf bytes) k j (e .0) (e .1)))),
   (λ r. (let is = short bytes few ∙ refuses top 1 (upTo newline bytes) (beyond newline bytes) (suc k) j r in
       (ap (λ (o : Outcome). shown o .number) is, ap (λ (o : Outcome). shown o .carries) is))),
 )

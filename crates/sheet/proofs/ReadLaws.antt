@@ -93,8 +93,7 @@ module _ (bytes : List ℕ) (a : Above) (at n : ℕ) (r : Reached bytes a at n) 
         some-left (b ∷ l) some = refl
 
     module _ (ended : e ≡ length (rest bytes at) → ⊥) (line : Line) (says : line ≡ lineOf (take e (rest bytes at))) where
-      one-line : outcomeOf bytes
-          ≡ next (lineFault a line) n
+      one-line : outcomeOf bytes ≡ next (lineFault a line) n
           (readFrom (after a line) (n + 1) (upTo newline (rest bytes (at + e + 1))) (beyond newline (rest bytes (at + e + 1))))
       unfolding readFrom
       one-line =

@@ -85,7 +85,8 @@ kind-narrow Last = omega arith
 
 module _ (ps : List Piece) (narrow : Each Narrow (runNumbers ps)) where
   field-at : (j f at : ℕ) → j < length ps → f < 7 → at ≡ 4 * (7 * j + f) → numberAt (spell (runNumbers ps)) at ≡ getD (sevenNumbers (getD ps j outside)) f 0
-  field-at j f at h k e = ap (λ (i : ℕ). numberAt (spell (runNumbers ps)) i) e ∙ (spell-at (runNumbers ps) narrow (7 * j + f) (omega (arith, run-length ps)) ∙ run-at ps j f outside h k)
+  field-at j f at h k e = ap (λ (i : ℕ). numberAt (spell (runNumbers ps)) i) e
+      ∙ (spell-at (runNumbers ps) narrow (7 * j + f) (omega (arith, run-length ps)) ∙ run-at ps j f outside h k)
 
   piece-spelt : (j : ℕ) → j < length ps → pieceAt (spell (runNumbers ps)) (28 * j) ≡ getD ps j outside
   unfolding sevenAt
@@ -130,8 +131,14 @@ costs-spelt c narrow = λ i. record {
 
 -- ---- both forms
 
-pub read-agree : (rs cs : List ℕ) (ps : List Piece) (c : Costs) → length rs % 28 ≡ 0 → length cs ≡ 36 → piecesOf rs ≡ ps → costsOf cs ≡ c → verdictNumber rs cs ≡ number (told (answerOf c (length ps) ps))
-read-agree rs cs ps c whole nine pieces costs = number-reply rs cs (said (answerOf c (length ps) ps)) (reply-formed rs cs whole nine ∙ λ i. said (answerOf (costs i) (length (pieces i)) (pieces i)))
+pub read-agree : (rs cs : List ℕ) (ps : List Piece) (c : Costs) → length rs % 28 ≡ 0 → length cs ≡ 36 → piecesOf rs ≡ ps → costsOf cs ≡ c
+    → verdictNumber rs cs ≡ number (told (answerOf c (length ps) ps))
+read-agree rs cs ps c whole nine pieces costs =
+    number-reply rs cs (said (answerOf c (length ps) ps))
+    (reply-formed rs cs whole nine ∙ λ i. said (answerOf (costs i) (length (pieces i)) (pieces i)))
 
-pub forms-agree : (ps : List Piece) (c : Costs) → Each Narrow (runNumbers ps) → Each Narrow (nineNumbers c) → verdictNumber (spell (runNumbers ps)) (spell (nineNumbers c)) ≡ number (told (answerOf c (length ps) ps))
-forms-agree ps c narrow small = read-agree (spell (runNumbers ps)) (spell (nineNumbers c)) ps c (omega (arith, run-bytes ps)) refl (pieces-spelt ps narrow) (costs-spelt c small)
+pub forms-agree : (ps : List Piece) (c : Costs) → Each Narrow (runNumbers ps) → Each Narrow (nineNumbers c)
+    → verdictNumber (spell (runNumbers ps)) (spell (nineNumbers c)) ≡ number (told (answerOf c (length ps) ps))
+forms-agree ps c narrow small =
+    read-agree (spell (runNumbers ps)) (spell (nineNumbers c)) ps c (omega (arith, run-bytes ps)) refl (pieces-spelt ps narrow)
+    (costs-spelt c small)

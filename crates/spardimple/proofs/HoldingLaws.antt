@@ -33,10 +33,12 @@ module _ (ps : List Piece) where
   filled-none r new = record { counts = new .0; room = new .1; first = λ _. refl }
 
   -- the array after one record more
-  pub first-put : (i : ℕ) (row : List Piece) (p d : Piece) → i < length ps → length row ≡ runMost → p ≡ getD ps i d → (i ≤ runMost → take i row ≡ take i ps) → i + 1 ≤ runMost → take (i + 1) (set row i p) ≡ take (i + 1) ps
+  pub first-put : (i : ℕ) (row : List Piece) (p d : Piece) → i < length ps → length row ≡ runMost → p ≡ getD ps i d
+      → (i ≤ runMost → take i row ≡ take i ps) → i + 1 ≤ runMost → take (i + 1) (set row i p) ≡ take (i + 1) ps
   first-put i row p d inside room e first fits = rw (add-one, take-suc-set row i p (omega arith), take-suc ps i d inside, first (omega arith), e)
 
-  pub filled-put : (i : ℕ) (r s : Run) (d : Piece) → i < length ps → Filled ps i r → (s .count ≡ r .count) × (s .pieces ≡ set (r .pieces) i (getD ps i d)) → Filled ps (i + 1) s
+  pub filled-put : (i : ℕ) (r s : Run) (d : Piece) → i < length ps → Filled ps i r
+      → (s .count ≡ r .count) × (s .pieces ≡ set (r .pieces) i (getD ps i d)) → Filled ps (i + 1) s
   filled-put i r s d inside filled put = record {
     counts = put .0 ∙ filled .counts;
     room = ap length (put .1) ∙ (length-set (r .pieces) i (getD ps i d) ∙ filled .room);
@@ -54,7 +56,8 @@ module _ (ps : List Piece) where
   pub holds-answer : (c : Costs) (qs : List Piece) → Holds ps qs → answerOf c (length ps) qs ≡ answerOf c (length ps) ps
   holds-answer c qs holds = elim (decLe (length ps) runMost) [
     | yes few ↦ same-pieces c qs (holds few)
-    | no many ↦ answer-bad c (length ps) qs TooMany (check-many c (length ps) qs (omega arith)) ∙ sym (answer-bad c (length ps) ps TooMany (check-many c (length ps) ps (omega arith)))
+    | no many ↦ answer-bad c (length ps) qs TooMany (check-many c (length ps) qs (omega arith))
+        ∙ sym (answer-bad c (length ps) ps TooMany (check-many c (length ps) ps (omega arith)))
   ]
 
   pub holding-answer : (c : Costs) (r : Run) → Holding ps r → answerOf c (r .count) (r .pieces) ≡ answerOf c (length ps) ps

@@ -40,7 +40,8 @@ use Rattle.listing.specs.Listing.{spelling, listingOf}
 use Rattle.listing.proofs.TextLaws.{over-short, over-fits}
 use Rattle.listing.proofs.PlainLaws.{listing-few}
 use Rattle.spardimple.specs.Numbers.{number}
-use Rattle.spardimple.specs.Sheets.{Paper, refused, written, unless, planSheet, listed, planned, paperOf, machineIn, costsIn, tasksIn, planIn, refusal, toldPaper, listingNumber, left, listingLeft}
+use Rattle.spardimple.specs.Sheets.{Paper, refused, written, unless, planSheet, listed, planned, paperOf, machineIn, costsIn}
+use Rattle.spardimple.specs.Sheets.{tasksIn, planIn, refusal, toldPaper, listingNumber, left, listingLeft}
 use Rattle.spardimple.proofs.NumberLaws.{told-one}
 use Rattle.spardimple.proofs.SheetLaws.{paper-unread, paper-stuck, paper-written, reply-small, told-long, told-short}
 
@@ -58,7 +59,8 @@ names-short sheet whole =
 
 -- ---- what a sheet comes to
 
-pub paper-few : (sheet : List ℕ) → readOf sheet .number ≡ 0 → planSheet (readOf sheet .sheet) .number ≡ 0 → length (listingOf (planSheet (readOf sheet .sheet) .plan)) ≤ 20000
+pub paper-few : (sheet : List ℕ) → readOf sheet .number ≡ 0 → planSheet (readOf sheet .sheet) .number ≡ 0
+    → length (listingOf (planSheet (readOf sheet .sheet) .plan)) ≤ 20000
 paper-few sheet whole comes =
     let s : Sheet = readOf sheet .sheet in
     let good = breaks-no-rule sheet whole in
@@ -68,13 +70,15 @@ paper-few sheet whole comes =
 -- a claim on every paper that a sheet can come to
 pub paper-cases : (sheet : List ℕ) (P : Paper → Type 0)
     → ((readOf sheet .number ≡ 0 → ⊥) → P (refused (readOf sheet .number) (readOf sheet .carries)))
-    → (readOf sheet .number ≡ 0 → (planSheet (readOf sheet .sheet) .number ≡ 0 → ⊥) → P (refused (planSheet (readOf sheet .sheet) .number) (planSheet (readOf sheet .sheet) .carries)))
+    → (readOf sheet .number ≡ 0 → (planSheet (readOf sheet .sheet) .number ≡ 0 → ⊥)
+    → P (refused (planSheet (readOf sheet .sheet) .number) (planSheet (readOf sheet .sheet) .carries)))
     → (readOf sheet .number ≡ 0 → planSheet (readOf sheet .sheet) .number ≡ 0 → P (written (listingOf (planSheet (readOf sheet .sheet) .plan))))
     → P (paperOf sheet)
 unfolding paperOf
 paper-cases sheet P unread barred comes = outer (readOf sheet .number) refl
   where
-    inner : readOf sheet .number ≡ 0 → (q : ℕ) → planSheet (readOf sheet .sheet) .number ≡ q → P (unless q (planSheet (readOf sheet .sheet) .carries) (written (listingOf (planSheet (readOf sheet .sheet) .plan))))
+    inner : readOf sheet .number ≡ 0 → (q : ℕ) → planSheet (readOf sheet .sheet) .number ≡ q
+        → P (unless q (planSheet (readOf sheet .sheet) .carries) (written (listingOf (planSheet (readOf sheet .sheet) .plan))))
     inner whole zero e = comes whole e
     inner whole (suc q) e = subst (λ (k : ℕ). P (refused k (planSheet (readOf sheet .sheet) .carries))) e (barred whole (λ z. omega arith))
 
@@ -151,7 +155,8 @@ module _ (sheet : List ℕ) (whole : readOf sheet .number ≡ 0) where
   pub paper-comes : plans .number ≡ 0 → paperOf sheet ≡ written (listingOf (planIn sheet))
   paper-comes comes = paper-written sheet (readOf sheet) refl whole plans refl comes
 
-pub paper-read : (sheet text : List ℕ) → paperOf sheet ≡ written text → (readOf sheet .number ≡ 0) × (planSheet (readOf sheet .sheet) .number ≡ 0) × (text ≡ listingOf (planIn sheet))
+pub paper-read : (sheet text : List ℕ) → paperOf sheet ≡ written text
+    → (readOf sheet .number ≡ 0) × (planSheet (readOf sheet .sheet) .number ≡ 0) × (text ≡ listingOf (planIn sheet))
 paper-read sheet text =
     paper-cases sheet (λ p. p ≡ written text → (readOf sheet .number ≡ 0) × (planSheet (readOf sheet .sheet) .number ≡ 0) × (text ≡ listingOf (planIn sheet)))
     (λ bad e. absurd (bad (ap numberIn e)))
@@ -165,13 +170,15 @@ paper-read sheet text =
     textual : {t : List ℕ} → written t ≡ written text → t ≡ text
     textual e = ap textIn e
 
-pub paper-ten : (sheet text : List ℕ) → paperOf sheet ≡ written text → (room : ℕ) → (toldPaper (paperOf sheet) room ≡ refusal 10 (length text)) ↔ (room < length text)
+pub paper-ten : (sheet text : List ℕ) → paperOf sheet ≡ written text → (room : ℕ)
+    → (toldPaper (paperOf sheet) room ≡ refusal 10 (length text)) ↔ (room < length text)
 paper-ten sheet text is room = ((λ told. to told), (λ short. ap (λ (p : Paper). toldPaper p room) is ∙ told-short text room short))
   where
     to : toldPaper (paperOf sheet) room ≡ refusal 10 (length text) → room < length text
     to told = elim (decLt room (length text)) [
       | yes short ↦ short
-      | no fits ↦ absurd (let z : _≡_ {A = ℕ} 0 110 = ap (λ (t : Told). t .which) (sym (ap (λ (p : Paper). toldPaper p room) is ∙ told-long text room (omega arith)) ∙ told) in omega arith)
+      | no fits ↦ absurd (let z : _≡_ {A = ℕ} 0 110 = ap (λ (t : Told). t .which)
+          (sym (ap (λ (p : Paper). toldPaper p room) is ∙ told-long text room (omega arith)) ∙ told) in omega arith)
     ]
 
 pub paper-alike : (sheet sheet′ : List ℕ) → readOf sheet ≡ readOf sheet′ → paperOf sheet ≡ paperOf sheet′
@@ -191,11 +198,13 @@ buffer-refused sheet old no′ = by (paperOf sheet) no′
       | no fits ↦ absurd (no″ (ap (λ (t : Told). t .which) (told-long text (length old) (omega arith))))
     ]
 
-pub buffer-written : (sheet old : List ℕ) → toldPaper (paperOf sheet) (length old) .which ≡ 0 → (text : List ℕ) × (paperOf sheet ≡ written text) × (listingLeft sheet old ≡ text ++ drop (length text) old)
+pub buffer-written : (sheet old : List ℕ) → toldPaper (paperOf sheet) (length old) .which ≡ 0
+    → (text : List ℕ) × (paperOf sheet ≡ written text) × (listingLeft sheet old ≡ text ++ drop (length text) old)
 unfolding listingLeft
 buffer-written sheet old so = by (paperOf sheet) refl so
   where
-    by : (p : Paper) → paperOf sheet ≡ p → toldPaper p (length old) .which ≡ 0 → (text : List ℕ) × (paperOf sheet ≡ written text) × (left (paperOf sheet) old ≡ text ++ drop (length text) old)
+    by : (p : Paper) → paperOf sheet ≡ p → toldPaper p (length old) .which ≡ 0
+        → (text : List ℕ) × (paperOf sheet ≡ written text) × (left (paperOf sheet) old ≡ text ++ drop (length text) old)
     by (refused n k) is so′ = absurd (omega arith)
     by (written text) is so′ = elim (decLt (length old) (length text)) [
       | yes short ↦ absurd (let z : _≡_ {A = ℕ} 110 0 = sym (ap (λ (t : Told). t .which) (told-short text (length old) short)) ∙ so′ in omega arith)

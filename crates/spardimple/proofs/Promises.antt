@@ -64,7 +64,8 @@ use Rattle.spardimple.specs.Bytes.{piecesOf, costsOf}
 use Rattle.spardimple.specs.Numbers.{said, replyOf, verdictNumber}
 use Rattle.spardimple.specs.Sheets.{refused, written, machineIn, costsIn, tasksIn, planIn, paperOf, refusal, toldPaper, listingNumber, listingLeft}
 use Rattle.spardimple.proofs.NumberLaws.{verdict-number-one}
-use Rattle.spardimple.proofs.PaperLaws.{listing-number-one, paper-nine, paper-seven, paper-ten, paper-read, paper-comes, paper-alike, buffer-refused, buffer-written}
+use Rattle.spardimple.proofs.PaperLaws.{listing-number-one, paper-nine, paper-seven, paper-ten, paper-read}
+use Rattle.spardimple.proofs.PaperLaws.{paper-comes, paper-alike, buffer-refused, buffer-written}
 use Rattle.spardimple.proofs.SheetLaws.{paper-unread}
 use Rattle.spardimple.proofs.JudgedLaws.{judged-sized, judged-verdict}
 
@@ -73,19 +74,22 @@ use Rattle.spardimple.proofs.JudgedLaws.{judged-sized, judged-verdict}
 pub one-verdict : (rs cs rs′ cs′ : List ℕ) → verdictNumber rs cs ≡ verdictNumber rs′ cs′ → replyOf rs cs ≡ replyOf rs′ cs′
 one-verdict rs cs rs′ cs′ = verdict-number-one rs cs rs′ cs′
 
-pub one-listing : (sheet sheet′ : List ℕ) (room room′ : ℕ) → listingNumber sheet room ≡ listingNumber sheet′ room′ → toldPaper (paperOf sheet) room ≡ toldPaper (paperOf sheet′) room′
+pub one-listing : (sheet sheet′ : List ℕ) (room room′ : ℕ) → listingNumber sheet room ≡ listingNumber sheet′ room′
+    → toldPaper (paperOf sheet) room ≡ toldPaper (paperOf sheet′) room′
 one-listing sheet sheet′ room room′ = listing-number-one sheet sheet′ room room′
 
 pub nine : (sheet : List ℕ) → (sheetMost < length sheet) ↔ (paperOf sheet ≡ refused 9 0)
 nine sheet = paper-nine sheet
 
-pub by-line : (sheet : List ℕ) → length sheet ≤ sheetMost → (k j : ℕ) → ((readOf sheet .number ≡ suc k) × (readOf sheet .carries ≡ j)) ↔ Refusing top 1 (linesOf sheet) (tailOf sheet) (suc k) j
+pub by-line : (sheet : List ℕ) → length sheet ≤ sheetMost → (k j : ℕ)
+    → ((readOf sheet .number ≡ suc k) × (readOf sheet .carries ≡ j)) ↔ Refusing top 1 (linesOf sheet) (tailOf sheet) (suc k) j
 by-line sheet few k j = first-bad sheet few k j
 
 pub by-line-then : (sheet : List ℕ) → (readOf sheet .number ≡ 0 → ⊥) → paperOf sheet ≡ refused (readOf sheet .number) (readOf sheet .carries)
 by-line-then sheet = paper-unread sheet (readOf sheet) refl
 
-pub seven : (sheet : List ℕ) → readOf sheet .number ≡ 0 → (k : ℕ) → (paperOf sheet ≡ refused 7 (suc k)) ↔ (walked (machineIn sheet) (costsIn sheet) (tasksIn sheet) ≡ stuck k)
+pub seven : (sheet : List ℕ) → readOf sheet .number ≡ 0 → (k : ℕ)
+    → (paperOf sheet ≡ refused 7 (suc k)) ↔ (walked (machineIn sheet) (costsIn sheet) (tasksIn sheet) ≡ stuck k)
 seven sheet whole k = paper-seven sheet whole k
 
 pub ten : (sheet text : List ℕ) → paperOf sheet ≡ written text → (room : ℕ) → (toldPaper (paperOf sheet) room ≡ refusal 10 (length text)) ↔ (room < length text)
@@ -94,7 +98,8 @@ ten sheet text is room = paper-ten sheet text is room
 pub refused-buffer : (sheet old : List ℕ) → (toldPaper (paperOf sheet) (length old) .which ≡ 0 → ⊥) → listingLeft sheet old ≡ old
 refused-buffer sheet old = buffer-refused sheet old
 
-pub written-buffer : (sheet old : List ℕ) → toldPaper (paperOf sheet) (length old) .which ≡ 0 → (text : List ℕ) × (paperOf sheet ≡ written text) × (listingLeft sheet old ≡ text ++ drop (length text) old)
+pub written-buffer : (sheet old : List ℕ) → toldPaper (paperOf sheet) (length old) .which ≡ 0
+    → (text : List ℕ) × (paperOf sheet ≡ written text) × (listingLeft sheet old ≡ text ++ drop (length text) old)
 written-buffer sheet old = buffer-written sheet old
 
 pub refused-state : (e : Edit) (s : Plan) → (editOf e s .number ≡ 0 → ⊥) → editOf e s .plan ≡ s
@@ -142,7 +147,8 @@ pub record Promised (m : Machine) (c : Costs) (ts : List Task) (P : Plan) : Type
   pub pieces-counted : P .layout .count ≡ length (entries P)
   pub tasks-counted : P .tasks .count ≡ length ts
 
-pub listing-promised : (sheet text : List ℕ) → paperOf sheet ≡ written text → (text ≡ listingOf (planIn sheet)) × Promised (machineIn sheet) (costsIn sheet) (tasksIn sheet) (planIn sheet)
+pub listing-promised : (sheet text : List ℕ) → paperOf sheet ≡ written text
+    → (text ≡ listingOf (planIn sheet)) × Promised (machineIn sheet) (costsIn sheet) (tasksIn sheet) (planIn sheet)
 listing-promised sheet text is =
     let read = paper-read sheet text is in
     let m = machineIn sheet in
@@ -171,9 +177,11 @@ listing-promised sheet text is =
       },
     )
 
-pub listing-comes : (sheet : List ℕ) → readOf sheet .number ≡ 0 → (s : Stand) (l : List (Placed ℕ)) → walked (machineIn sheet) (costsIn sheet) (tasksIn sheet) ≡ fine s l → paperOf sheet ≡ written (listingOf (planIn sheet))
+pub listing-comes : (sheet : List ℕ) → readOf sheet .number ≡ 0 → (s : Stand) (l : List (Placed ℕ))
+    → walked (machineIn sheet) (costsIn sheet) (tasksIn sheet) ≡ fine s l → paperOf sheet ≡ written (listingOf (planIn sheet))
 listing-comes sheet whole s l so =
-    paper-comes sheet whole (plan-comes (machineIn sheet) (costsIn sheet) (readOf sheet .sheet .tasks .count) (readOf sheet .sheet .tasks .list) (breaks-no-rule sheet whole) .1 (s, l, so))
+    paper-comes sheet whole (plan-comes (machineIn sheet) (costsIn sheet) (readOf sheet .sheet .tasks .count)
+    (readOf sheet .sheet .tasks .list) (breaks-no-rule sheet whole) .1 (s, l, so))
 
 pub alike : (sheet sheet′ : List ℕ) → readOf sheet ≡ readOf sheet′ → paperOf sheet ≡ paperOf sheet′
 alike sheet sheet′ = paper-alike sheet sheet′
@@ -184,14 +192,18 @@ told-apart sheet sheet′ text is is′ =
     let other = paper-read sheet′ text is′ in
     let s = readOf sheet .sheet in
     let s′ = readOf sheet′ .sheet in
-    listing-determines (s .machine) (s .costs) (s .tasks .count) (s .tasks .list) (s′ .machine) (s′ .costs) (s′ .tasks .count) (s′ .tasks .list) (one .1) (other .1) (sym (one .2) ∙ other .2)
+    listing-determines (s .machine) (s .costs) (s .tasks .count) (s .tasks .list) (s′ .machine) (s′ .costs) (s′ .tasks .count)
+    (s′ .tasks .list) (one .1) (other .1) (sym (one .2) ∙ other .2)
 
 -- ---- demand 3: edits
 
 pub begun-held : (sheet text : List ℕ) → paperOf sheet ≡ written text → Held (planIn sheet)
-begun-held sheet text is = plan-held (machineIn sheet) (costsIn sheet) (readOf sheet .sheet .tasks .count) (readOf sheet .sheet .tasks .list) (paper-read sheet text is .1)
+begun-held sheet text is =
+    plan-held (machineIn sheet) (costsIn sheet) (readOf sheet .sheet .tasks .count) (readOf sheet .sheet .tasks .list)
+    (paper-read sheet text is .1)
 
-pub afresh : (es : List Edit) (s : Plan) → Held s → planOf (s .machine) (s .costs) (played es s .tasks .count) (played es s .tasks .list) ≡ accepted (played es s)
+pub afresh : (es : List Edit) (s : Plan) → Held s
+    → planOf (s .machine) (s .costs) (played es s .tasks .count) (played es s .tasks .list) ≡ accepted (played es s)
 afresh es s = after-edits-afresh es s
 
 pub edit-made : (e : Edit) (s : Plan) → editOf e s .number ≡ 0 → tasksHeld (editOf e s .plan) ≡ edited e (tasksHeld s)
@@ -201,6 +213,7 @@ module _ (e : Edit) (s : Plan) (held : Held s) (taken : editOf e s .number ≡ 0
   pub kept-before : (b : Name) → Ahead (editedName e) b (tasksHeld s) → Ahead (editedName e) b (tasksHeld (editOf e s .plan)) → Keeps s (editOf e s .plan) b
   kept-before = edit-before e s held taken
 
-  pub kept-after : {p r p′ r′ : List Task} {b b′ : Task} → Behind (editedName e) (tasksHeld s) p b r → Behind (editedName e) (tasksHeld (editOf e s .plan)) p′ b′ r′ → b .name ≡ b′ .name
+  pub kept-after : {p r p′ r′ : List Task} {b b′ : Task} → Behind (editedName e) (tasksHeld s) p b r
+      → Behind (editedName e) (tasksHeld (editOf e s .plan)) p′ b′ r′ → b .name ≡ b′ .name
       → Meet (s .machine) (s .costs) p p′ → (d : Name) → Among d (b ∷ r) → Keeps s (editOf e s .plan) d
   kept-after = edit-after e s held taken

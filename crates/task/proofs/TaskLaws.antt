@@ -104,12 +104,14 @@ module _ (m : ℕ) (ts : List Task) (i : ℕ) (low : i < m) (room : i < length t
       let is = told-twin (take i ts) (taskAt ts i) twin in
       run-first (λ none. twin-some (formed (taskAt ts i .name)) (sized (wholePiece (taskAt ts i .times))) (sym is ∙ none)) ∙ is
 
-  pub run-fault : placeOf 1 (taskAt ts i .name) (take i ts) ≡ 0 → (told (taskAt ts i) 0 ≡ 0 → ⊥) → firstFault (take i (take m ts)) (drop i (take m ts)) ≡ told (taskAt ts i) 0
+  pub run-fault : placeOf 1 (taskAt ts i .name) (take i ts) ≡ 0 → (told (taskAt ts i) 0 ≡ 0 → ⊥)
+      → firstFault (take i (take m ts)) (drop i (take m ts)) ≡ told (taskAt ts i) 0
   run-fault alone some =
       let is = told-alone (take i ts) (taskAt ts i) alone in
       run-first (λ none. some (sym is ∙ none)) ∙ is
 
-  pub run-good : placeOf 1 (taskAt ts i .name) (take i ts) ≡ 0 → told (taskAt ts i) 0 ≡ 0 → firstFault (take i (take m ts)) (drop i (take m ts)) ≡ firstFault (take (i + 1) (take m ts)) (drop (i + 1) (take m ts))
+  pub run-good : placeOf 1 (taskAt ts i .name) (take i ts) ≡ 0 → told (taskAt ts i) 0 ≡ 0
+      → firstFault (take i (take m ts)) (drop i (take m ts)) ≡ firstFault (take (i + 1) (take m ts)) (drop (i + 1) (take m ts))
   run-good alone none = fault-none (take m ts) i past (omega (arith, length-take m ts)) (run-here-is ∙ (told-alone (take i ts) (taskAt ts i) alone ∙ none))
 
 pub run-fault-end : (m : ℕ) (ts : List Task) (i : ℕ) → length (take m ts) ≤ i → firstFault (take i (take m ts)) (drop i (take m ts)) ≡ 0

@@ -69,8 +69,8 @@ returns c =
     let charged-time = at-wide .before .before .before .before .before .before .before .charged-time in
     let stored-piece = at-wide .before .before .before .before .before .before .before .before .stored-piece in
     let e =
-    piece-line (s .costs) (s .core) (spelling (s .name)) (s .stored)
-    (wide .result) (stored-piece .result) (charged-time .result) (wide .ensures) (stored-piece .ensures) (charged-time .ensures) in (
+    piece-line (s .costs) (s .core) (spelling (s .name)) (s .stored) (wide .result) (stored-piece .result) (charged-time .result)
+    (wide .ensures) (stored-piece .ensures) (charged-time .ensures) in (
       subst (λ (l : List ℕ). Wrote (s .buf .now) (s .at) l (f .result) (f .last .0)) e w,
       omega (arith, a .ensures .place, b .ensures .1, n .ensures .1, k .ensures .1, f .ensures .1),
     )

@@ -115,12 +115,12 @@ loop-less c = search needs
 loop-again : tie.Need-loop-again Inv-loop μ-loop
 loop-again c =
     let near-within = c .before .before .before .before .before .before .before .before .before in
-    let at-loop = near-within .before .before .before .before .before .before in
-    let b = at-loop .before .before .before .before .before .before in
+    let at-loop-test = near-within .before .before .before .before .before in
+    let b = at-loop-test .before .before .before .before .before .before .before in
     let s = b .args in
     let p = planWith (s .costs) (s .t3) (s .t4) in
-    let h = at-loop .before .before .before .put-header in
-    let l = at-loop .loop in
+    let h = at-loop-test .before .before .before .before .put-header in
+    let l = at-loop-test .before .loop in
     let f = c .before .before .put-piece in
     let n = near-within .before .before .before .seats .ensures in
     let if1 = near-within .before .before .if1 in
@@ -130,13 +130,13 @@ loop-again c =
     let named = c .before .before .before .before .named in
     let within2 = c .before .before .before .before .before .before .within2 in
     let name = named .ensures ∙ at-within (λ (t : Task). spelling (t .name)) (s .t3 .list) 64 _ _ _ past (tasks-long b) (within2 .ensures .1) in
-    let loop-test = near-within .before .before .before .before .before .loop-test in (
+    let loop-test = at-loop-test .loop-test in (
       omega arith,
       omega (arith, low),
       omega (arith, n .0, if1 .taken),
       omega (arith, f .ensures .1, l .inv .3),
-      subst (λ (t : List ℕ). Wrote (h .last .0) (h .result) t (f .result) (f .last .0))
-          (seat-more p (l .core) (rows-long b) (omega (arith, loop-test .taken)) (l .i) _ _ low stored name) (wrote-both (l .inv .4) (f .ensures .0)),
+      subst (λ (t : List ℕ). Wrote (h .last .0) (h .result) t (f .result) (f .last .0)) (seat-more p (l .core) (rows-long b)
+          (omega (arith, loop-test .taken)) (l .i) _ _ low stored name) (wrote-both (l .inv .4) (f .ensures .0)),
     )
 
 add-core : tie.Need-add-core Inv-loop μ-loop
@@ -185,8 +185,8 @@ returns c =
       List·getD-eq-default (s .t4 .lens) 0 {n = 16} (omega (arith, lens-long b)),
     ) in
     let rows : Wrote (h .last .0) (h .result) (entryLines (entriesOn p 16)) (l .k) (l .buf) =
-    subst (λ (t : List ℕ). Wrote (h .last .0) (h .result) t (l .k) (l .buf))
-    (rw (all, none) (append-nil (entryLines (entriesOn p 16)))) (l .inv .4) in
+    subst (λ (t : List ℕ). Wrote (h .last .0) (h .result) t (l .k) (l .buf)) (rw (all, none) (append-nil (entryLines (entriesOn p 16))))
+    (l .inv .4) in
     (wrote-both (h .ensures .0) rows, omega (arith, l .inv .3, none, ap (listedOn (s .t4 .lens)) all))
 
 pub put-plan-spec : {M : Type 1} → statement M

@@ -71,17 +71,17 @@ same-length-3 c = search needs
 
 returns-3 : tie.Need-returns-3
 returns-3 c =
-    let at-put-plan2 = c .before .before .before .before .before .before .before in
-    let start = at-put-plan2 .before .before .before .before .before .before .args in
+    let at-if2 = c .before .before .before .before in
+    let start = at-if2 .before .before .before .before .before .before .before .before .before .args in
     let p = start .plan in
     let t = listingOf p in
     let y = start .buf .now in
-    let r = at-put-plan2 .put-plan2 in
+    let r = at-if2 .before .before .before .put-plan2 in
     let w = rw (listing-with p) at (r .ensures .0) in
     let j : r .result ≡ length t = w .place ∙ rw zero-add in
     let q = c .before .before .put-plan3 in
     let v = rw (listing-with p) at (q .ensures .0) in
-    let if2 = c .before .before .before .before .if2 in (
+    let if2 = at-if2 .if2 in (
       v .place ∙ rw zero-add,
       second-pass t (r .last .0) y (q .last .0) (r .result) (q .result) w v (omega (arith, j, if2 .left)),
       omega (arith, q .ensures .1, listed-few (p .layout .lens) 16),

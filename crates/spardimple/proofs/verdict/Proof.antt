@@ -33,8 +33,9 @@ numbered-requires c κs = search needs
 returns : tie.Need-returns
 unfolding number
 returns c =
-    let rs = c .before .before .before .before .args .records .now in
-    let cs = c .before .before .before .before .args .costs .now in
+    let start = c .before .before .before .before .args in
+    let rs = start .records .now in
+    let cs = start .costs .now in
     c .numbered .ensures ∙ sym (number-reply rs cs malformed (reply-records rs cs (c .before .if1 .taken)))
 
 -- src/lib.rt:44:9
@@ -45,8 +46,9 @@ numbered-requires-2 c κs = search needs
 returns-2 : tie.Need-returns-2
 unfolding number
 returns-2 c =
-    let rs = c .before .before .before .before .before .args .records .now in
-    let cs = c .before .before .before .before .before .args .costs .now in
+    let start = c .before .before .before .before .before .args in
+    let rs = start .records .now in
+    let cs = start .costs .now in
     c .numbered2 .ensures ∙ sym (number-reply rs cs malformed (reply-costs rs cs (c .before .before .if1 .left) (c .before .if2 .taken)))
 
 -- src/lib.rt:47:5
@@ -64,18 +66,31 @@ judge-records-requires c κs = search needs
 -- src/lib.rt:48:5
 number-of-requires : tie.Need-number-of-requires
 number-of-requires c κs =
-    let n = length (c .before .before .before .before .before .before .before .before .before .args .records .now) / 28 in
-    omega (arith, ap (λ (a : Answer). told a .carries) (c .judge-records .ensures), answer-carries (c .before .before .read-costs .result) n (recordsOf (c .before .before .before .read-records .last .0)))
+    let start = c .before .before .before .before .before .before .before .before .before .args in
+    let n = length (start .records .now) / 28 in
+    omega (
+      arith,
+      ap (λ (a : Answer). told a .carries) (c .judge-records .ensures),
+      answer-carries (c .before .before .read-costs .result) n (recordsOf (c .before .before .before .read-records .last .0)),
+    )
 
 -- src/lib.rt:36:1
 returns-3 : tie.Need-returns-3
 returns-3 c =
-    let rs = c .before .before .before .before .before .before .before .before .before .before .args .records .now in
-    let cs = c .before .before .before .before .before .before .before .before .before .before .args .costs .now in
-    let run = recordsOf (c .before .before .before .before .read-records .last .0) in
+    let start = c .before .before .before .before .before .before .before .before .before .before .args in
+    let rs = start .records .now in
+    let cs = start .costs .now in
+    let read-records = c .before .before .before .before .read-records in
+    let run = recordsOf (read-records .last .0) in
     let answer : c .before .judge-records .result ≡ answerOf (costsOf cs) (length (piecesOf rs)) (piecesOf rs) =
-    c .before .judge-records .ensures ∙ (ap (λ (k : Costs). answerOf k (length rs / 28) run) (c .before .before .before .read-costs .ensures) ∙ (ap (λ (n : ℕ). answerOf (costsOf cs) n run) (sym (pieces-length rs)) ∙ holds-answer (piecesOf rs) (costsOf cs) run (c .before .before .before .before .read-records .ensures))) in
-    c .number-of .ensures ∙ (ap (λ (a : Answer). number (told a)) answer ∙ sym (number-reply rs cs (said (answerOf (costsOf cs) (length (piecesOf rs)) (piecesOf rs))) (reply-formed rs cs (c .before .before .before .before .before .before .before .if1 .left) (c .before .before .before .before .before .before .if2 .left))))
+    c .before .judge-records .ensures
+    ∙ (ap (λ (k : Costs). answerOf k (length rs / 28) run) (c .before .before .before .read-costs .ensures)
+    ∙ (ap (λ (n : ℕ). answerOf (costsOf cs) n run) (sym (pieces-length rs)) ∙ holds-answer (piecesOf rs) (costsOf cs) run (read-records .ensures))) in
+    let if2 = c .before .before .before .before .before .before .if2 in
+    let if1 = c .before .before .before .before .before .before .before .if1 in
+    c .number-of .ensures
+    ∙ (ap (λ (a : Answer). number (told a)) answer
+    ∙ sym (number-reply rs cs (said (answerOf (costsOf cs) (length (piecesOf rs)) (piecesOf rs))) (reply-formed rs cs (if1 .left) (if2 .left))))
 
 pub verdict-spec : {M : Type 1} → statement M
 verdict-spec =

@@ -14,7 +14,8 @@ use Rattle.task.proofs.place_of.Lts as lts
 use Rattle.task.proofs.same_name.Reads as same-name-reads
 
 abbrev Inv-loop : tie.InvT-loop
-Inv-loop name tasks i₀ i = (i ≤ tasks .count) × (placeOf 1 name (take (tasks .count) (tasks .list)) ≡ placeOf (i + 1) name (drop i (take (tasks .count) (tasks .list))))
+Inv-loop name tasks i₀ i = (i ≤ tasks .count)
+    × (placeOf 1 name (take (tasks .count) (tasks .list)) ≡ placeOf (i + 1) name (drop i (take (tasks .count) (tasks .list))))
 
 abbrev μ-loop : tie.MeasureT-loop
 μ-loop name tasks i₀ i = tasks .count - i
@@ -26,7 +27,8 @@ returns : tie.Need-returns Inv-loop μ-loop
 returns c =
     let s = c .before .before .before .args in
     let long : length (s .t2 .list) ≡ 64 = search (needs, length-mapped) in
-    sym (c .before .before .loop .inv .1 ∙ run-end (c .before .before .loop .i + 1) (s .name) (s .t2 .count) (s .t2 .list) (c .before .before .loop .i) (omega (arith, length-take (s .t2 .count) (s .t2 .list))))
+    let loop = c .before .before .loop in
+    sym (loop .inv .1 ∙ run-end (loop .i + 1) (s .name) (s .t2 .count) (s .t2 .list) (loop .i) (omega (arith, length-take (s .t2 .count) (s .t2 .list))))
 
 mul-task : tie.Need-mul-task Inv-loop μ-loop
 mul-task c = search needs
@@ -44,7 +46,9 @@ returns-2 : tie.Need-returns-2 Inv-loop μ-loop
 returns-2 c =
     let s = c .before .before .before .before .before .before .args in
     let long : length (s .t2 .list) ≡ 64 = search (needs, length-mapped) in
-    sym (c .before .before .before .before .before .loop .inv .1 ∙ run-here (s .name) (s .t2 .count) (s .t2 .list) (c .before .before .before .before .before .loop .i) past (omega arith) (omega arith) (sym (c .before .same-name .ensures) ∙ c .if2 .taken))
+    let loop = c .before .before .before .before .before .loop in
+    sym (loop .inv .1 ∙ run-here (s .name) (s .t2 .count) (s .t2 .list) (loop .i) past (omega arith) (omega arith)
+    (sym (c .before .same-name .ensures) ∙ c .if2 .taken))
 
 loop-less : tie.Need-loop-less Inv-loop μ-loop
 loop-less c = search needs
@@ -53,12 +57,17 @@ loop-again : tie.Need-loop-again Inv-loop μ-loop
 loop-again c =
     let s = c .before .before .before .before .before .before .args in
     let long : length (s .t2 .list) ≡ 64 = search (needs, length-mapped) in
-    (search needs, c .before .before .before .before .before .loop .inv .1 ∙ run-other (s .name) (s .t2 .count) (s .t2 .list) (c .before .before .before .before .before .loop .i) past (omega arith) (omega arith) (sym (c .before .same-name .ensures) ∙ c .if2 .left))
+    let loop = c .before .before .before .before .before .loop in (
+      search needs,
+      loop .inv .1 ∙ run-other (s .name) (s .t2 .count) (s .t2 .list) (loop .i) past (omega arith) (omega arith)
+          (sym (c .before .same-name .ensures) ∙ c .if2 .left),
+    )
 
 returns-3 : tie.Need-returns-3 Inv-loop μ-loop
 returns-3 c =
     let s = c .before .before .args in
-    sym (c .before .loop .inv .1 ∙ run-end (c .before .loop .i + 1) (s .name) (s .t2 .count) (s .t2 .list) (c .before .loop .i) (omega (arith, length-take (s .t2 .count) (s .t2 .list))))
+    sym (c .before .loop .inv .1 ∙ run-end (c .before .loop .i + 1) (s .name) (s .t2 .count) (s .t2 .list) (c .before .loop .i)
+    (omega (arith, length-take (s .t2 .count) (s .t2 .list))))
 
 pub place-of-spec : {M : Type 1} → statement M
 place-of-spec =

@@ -10,14 +10,18 @@ use Rattle.task.proofs.names.same_bytes.Reads as same-bytes-reads
 
 returns : tie.Need-returns
 unfolding sameName
-returns c = simp (ne-eqb (c .before .before .before .args .a .len) (c .before .before .before .args .b .len) (c .if1 .taken))
+returns c =
+    let start = c .before .before .before .args in
+    simp (ne-eqb (start .a .len) (start .b .len) (c .if1 .taken))
 
 same-bytes-requires : tie.Need-same-bytes-requires
 same-bytes-requires c κs = search needs
 
 returns-2 : tie.Need-returns-2
 unfolding sameName
-returns-2 c = simp (eq-eqb (c .before .before .before .before .before .before .args .a .len) (c .before .before .before .before .before .before .args .b .len) (c .before .before .before .if1 .left)) (c .same-bytes .ensures)
+returns-2 c =
+    let start = c .before .before .before .before .before .before .args in
+    simp (eq-eqb (start .a .len) (start .b .len) (c .before .before .before .if1 .left)) (c .same-bytes .ensures)
 
 pub same-name-spec : {M : Type 1} → statement M
 same-name-spec = tie.close (tie.spec returns same-bytes-requires returns-2)

@@ -25,18 +25,42 @@ costs-within-requires c κs = search needs
 
 returns-2 : tie.Need-returns-2
 unfolding stateFault
-returns-2 c = rw (sym (c .before .before .before .machine-within .ensures) ∙ not-false (c .before .before .before .machine-within .result) (c .before .before .if1 .left), sym (c .before .costs-within .ensures) ∙ not-true (c .before .costs-within .result) (c .if2 .taken))
+returns-2 c =
+    let machine-within = c .before .before .before .machine-within in
+    rw (
+      sym (machine-within .ensures) ∙ not-false (machine-within .result) (c .before .before .if1 .left),
+      sym (c .before .costs-within .ensures) ∙ not-true (c .before .costs-within .result) (c .if2 .taken),
+    )
 
 returns-3 : tie.Need-returns-3
 unfolding stateFault
-returns-3 c = rw (sym (c .before .before .before .before .before .machine-within .ensures) ∙ not-false (c .before .before .before .before .before .machine-within .result) (c .before .before .before .before .if1 .left), sym (c .before .before .before .costs-within .ensures) ∙ not-false (c .before .before .before .costs-within .result) (c .before .before .if2 .left), lt-leb (c .before .before .before .before .before .before .args .tasks .count) 64 (c .if3 .taken))
+returns-3 c =
+    let costs-within = c .before .before .before .costs-within in
+    let if1 = c .before .before .before .before .if1 in
+    let machine-within = c .before .before .before .before .before .machine-within in
+    let start = c .before .before .before .before .before .before .args in
+    rw (
+      sym (machine-within .ensures) ∙ not-false (machine-within .result) (if1 .left),
+      sym (costs-within .ensures)
+          ∙ not-false (costs-within .result) (c .before .before .if2 .left),
+      lt-leb (start .tasks .count) 64 (c .if3 .taken),
+    )
 
 first-fault-requires : tie.Need-first-fault-requires
 first-fault-requires c κs = search needs
 
 returns-4 : tie.Need-returns-4
 unfolding stateFault
-returns-4 c = rw (sym (c .before .before .before .before .before .before .machine-within .ensures) ∙ not-false (c .before .before .before .before .before .before .machine-within .result) (c .before .before .before .before .before .if1 .left), sym (c .before .before .before .before .costs-within .ensures) ∙ not-false (c .before .before .before .before .costs-within .result) (c .before .before .before .if2 .left), le-leb (c .before .before .before .before .before .before .before .args .tasks .count) 64 (c .before .if3 .left)) (c .first-fault .ensures)
+returns-4 c =
+    let costs-within = c .before .before .before .before .costs-within in
+    let if1 = c .before .before .before .before .before .if1 in
+    let machine-within = c .before .before .before .before .before .before .machine-within in
+    let start = c .before .before .before .before .before .before .before .args in
+    rw (
+      sym (machine-within .ensures) ∙ not-false (machine-within .result) (if1 .left),
+      sym (costs-within .ensures) ∙ not-false (costs-within .result) (c .before .before .before .if2 .left),
+      le-leb (start .tasks .count) 64 (c .before .if3 .left),
+    ) (c .first-fault .ensures)
 
 pub state-fault-spec : {M : Type 1} → statement M
 state-fault-spec =

@@ -39,8 +39,9 @@ array-share-prefix-buf c = search needs
 slice-aggregate-write-all-2 : tie.Need-slice-aggregate-write-all-2
 slice-aggregate-write-all-2 c =
     let p = c .before .before .before .before .before .before .before .plan-listing in
-    let kept : length (p .last .1 .0) ≡ length (c .before .before .before .before .before .before .before .before .before .buffer .result) = p .kept .1 .0 in
-    sym (length-take-le (p .result % 4294967296) (p .last .1 .0) (omega (arith, kept, c .before .before .before .before .before .before .before .before .before .buffer .ensures, c .before .if2 .taken)))
+    let buffer = c .before .before .before .before .before .before .before .before .before .buffer in
+    let kept : length (p .last .1 .0) ≡ length (buffer .result) = p .kept .1 .0 in
+    sym (length-take-le (p .result % 4294967296) (p .last .1 .0) (omega (arith, kept, buffer .ensures, c .before .if2 .taken)))
 
 write-all-requires-2 : tie.Need-write-all-requires-2
 write-all-requires-2 c κs = search needs

@@ -16,7 +16,10 @@ tell-requires c κs = search needs
 
 returns : tie.Need-returns
 returns c =
-    after-line (c .before .before .before .before .args .line) (c .before .before .before .before .args .state) (c .before .before .before .order-in .result) (c .before .before .reply-to .result) (c .before .before .before .order-in .ensures) (c .before .before .reply-to .ensures)
+    let reply-to = c .before .before .reply-to in
+    let order-in = c .before .before .before .order-in in
+    let start = c .before .before .before .before .args in
+    after-line (start .line) (start .state) (order-in .result) (reply-to .result) (order-in .ensures) (reply-to .ensures)
 
 pub answer-spec : {M : Type 1} → statement M
 answer-spec = tie.close (tie.spec order-in-requires reply-to-requires tell-requires returns)

@@ -50,14 +50,21 @@ loop-less c =
 loop-again : tie.Need-loop-again Inv-loop μ-loop
 loop-again c =
     let bs = c .before .before .before .before .before .before .before .args .bytes .now in
-    let i = c .before .before .before .loop .i in
+    let loop = c .before .before .before .loop in
+    let i = loop .i in
     let low : i < length bs = omega arith in
-    let so-far = c .before .before .before .loop .inv .1 in
-    (omega arith, ⊎-elim (λ w. so-far ∙ played-newline (c .before .before .before .loop .plan) (c .before .before .before .loop .line) bs i low (c .if1 .plan) (c .if1 .line) (w .0 .taken) (w .3 ∙ w .1 .ensures) (w .4 ∙ w .2 .ensures)) (λ w. so-far ∙ played-other (c .before .before .before .loop .plan) (c .before .before .before .loop .line) bs i low (c .if1 .plan) (c .if1 .line) (w .0 .left) (w .2) (w .3 ∙ w .1 .ensures)) (c .if1 .came))
+    let so-far = loop .inv .1 in (
+      omega arith,
+      ⊎-elim (λ w. so-far ∙ played-newline (loop .plan) (loop .line) bs i low (c .if1 .plan) (c .if1 .line) (w .0 .taken)
+          (w .3 ∙ w .1 .ensures) (w .4 ∙ w .2 .ensures)) (λ w. so-far
+          ∙ played-other (loop .plan) (loop .line) bs i low (c .if1 .plan) (c .if1 .line) (w .0 .left) (w .2) (w .3 ∙ w .1 .ensures)) (c .if1 .came),
+    )
 
 returns : tie.Need-returns Inv-loop μ-loop
 returns c =
-    sym (c .before .loop .inv .1 ∙ played-end (c .before .loop .plan) (c .before .loop .line) (c .before .before .before .before .before .args .bytes .now) (c .before .loop .i) (omega arith))
+    let loop = c .before .loop in
+    let start = c .before .before .before .before .before .args in
+    sym (loop .inv .1 ∙ played-end (loop .plan) (loop .line) (start .bytes .now) (loop .i) (omega arith))
 
 pub play-bytes-spec : {M : Type 1} → statement M
 play-bytes-spec =

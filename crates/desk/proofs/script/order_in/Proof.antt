@@ -25,8 +25,9 @@ array-share-prefix-bytes c =
 
 slice-aggregate-order-of : tie.Need-slice-aggregate-order-of
 slice-aggregate-order-of c =
-    let long : length (c .before .before .before .args .line .bytes) ≡ 201 = search needs in
-    sym (length-take-le (c .before .before .before .args .line .len) (c .before .before .before .args .line .bytes) (omega (arith, c .before .before .if1 .left)))
+    let start = c .before .before .before .args in
+    let long : length (start .line .bytes) ≡ 201 = search needs in
+    sym (length-take-le (start .line .len) (start .line .bytes) (omega (arith, c .before .before .if1 .left)))
 
 order-of-requires : tie.Need-order-of-requires
 order-of-requires c κs = search needs
@@ -34,7 +35,8 @@ order-of-requires c κs = search needs
 returns-2 : tie.Need-returns-2
 unfolding orderIn
 returns-2 c =
-    rw (le-leb (c .before .before .before .before .args .line .len) 200 (c .before .before .before .if1 .left)) (c .order-of .ensures)
+    let start = c .before .before .before .before .args in
+    rw (le-leb (start .line .len) 200 (c .before .before .before .if1 .left)) (c .order-of .ensures)
 
 pub order-in-spec : {M : Type 1} → statement M
 order-in-spec =

@@ -54,8 +54,8 @@ returns c =
     let loop = c .before .before .before .before .before .before .before .before .loop in
     let start = c .before .before .before .before .before .before .before .before .before .before .args in
     c .no-numbers .ensures
-    ∙ passed-bad (start .s .now) (loop .values) (loop .at) (loop .i) (loop .inv)
-    (until .result) (until .ensures) (number-of .result) (number-of .ensures) (not-true (number-of .result .ok) (c .before .if1 .taken))
+    ∙ passed-bad (start .s .now) (loop .values) (loop .at) (loop .i) (loop .inv) (until .result) (until .ensures) (number-of .result)
+    (number-of .ensures) (not-true (number-of .result .ok) (c .before .if1 .taken))
 
 mul-values : tie.Need-mul-values Inv-loop μ-loop
 mul-values c = search needs
@@ -73,8 +73,8 @@ returns-2 c =
     let loop-test = c .before .before .before .before .before .before .before .loop-test in
     let loop = c .before .before .before .before .before .before .before .before .loop in
     let start = c .before .before .before .before .before .before .before .before .before .before .args in
-    passed-last (start .s .now) (loop .values) (loop .at) (loop .i) (loop .inv) (until .result) (until .ensures)
-    (number-of .result) (number-of .ensures) (not-false (number-of .result .ok) (c .before .if1 .left)) (loop-test .taken) (c .if2 .taken)
+    passed-last (start .s .now) (loop .values) (loop .at) (loop .i) (loop .inv) (until .result) (until .ensures) (number-of .result)
+    (number-of .ensures) (not-false (number-of .result .ok) (c .before .if1 .left)) (loop-test .taken) (c .if2 .taken)
 
 add-at : tie.Need-add-at Inv-loop μ-loop
 add-at c =
@@ -102,8 +102,8 @@ loop-again c =
     let loop-test = c .before .before .before .before .before .before .before .loop-test in
     let loop = c .before .before .before .before .before .before .before .before .loop in
     let start = c .before .before .before .before .before .before .before .before .before .before .args in
-    passed-more (start .s .now) (loop .values) (loop .at) (loop .i) (loop .inv) (until .result) (until .ensures)
-    (number-of .result) (number-of .ensures) (not-false (number-of .result .ok) (c .before .if1 .left)) (loop-test .taken) (c .if2 .left)
+    passed-more (start .s .now) (loop .values) (loop .at) (loop .i) (loop .inv) (until .result) (until .ensures) (number-of .result)
+    (number-of .ensures) (not-false (number-of .result .ok) (c .before .if1 .left)) (loop-test .taken) (c .if2 .left)
 
 no-numbers-requires-2 : tie.Need-no-numbers-requires-2 Inv-loop μ-loop
 no-numbers-requires-2 c κs = search needs

@@ -118,8 +118,8 @@ returns-4 c =
     let if3 = c .before .before .before .before .if3 in
     let until2 = c .before .before .before .before .before .until2 in
     c .no-line4 .ensures
-    ∙ fit-other s e run more n named (until2 .result) (until2 .ensures) (if3 .left)
-    (name-of2 .result) (name-of2 .ensures) (sym (well-formed2 .ensures) ∙ not-true (well-formed2 .result) (c .before .if4 .taken))
+    ∙ fit-other s e run more n named (until2 .result) (until2 .ensures) (if3 .left) (name-of2 .result) (name-of2 .ensures)
+    (sym (well-formed2 .ensures) ∙ not-true (well-formed2 .result) (c .before .if4 .taken))
 
 fit-line-requires : tie.Need-fit-line-requires
 fit-line-requires c κs = search needs
@@ -142,8 +142,8 @@ returns-5 c =
     let if2 = c .before .before .before .before .before .before .before .if2 in
     let well-formed = c .before .before .before .before .before .before .before .before .well-formed in
     c .fit-line .ensures
-    ∙ fit-some s e run more n named (until2 .result) (until2 .ensures)
-    (if3 .left) (name-of2 .result) (name-of2 .ensures) (sym (well-formed .ensures) ∙ not-false (well-formed .result) (if2 .left))
+    ∙ fit-some s e run more n named (until2 .result) (until2 .ensures) (if3 .left) (name-of2 .result) (name-of2 .ensures)
+    (sym (well-formed .ensures) ∙ not-false (well-formed .result) (if2 .left))
     (sym (well-formed2 .ensures) ∙ not-false (well-formed2 .result) (c .before .if4 .left))
 
 pub fit-form-spec : {M : Type 1} → statement M

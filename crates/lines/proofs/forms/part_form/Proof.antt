@@ -129,8 +129,8 @@ returns-4 c =
     let if2 = c .before .before .before .before .before .before .if2 in
     let well-formed = c .before .before .before .before .before .before .before .well-formed in
     c .part-line .ensures
-    ∙ part-some s e run more n named (numbers-of .result)
-    (numbers-of .ensures) (sym (well-formed .ensures) ∙ not-false (well-formed .result) (if2 .left)) (c .before .before .if3 .left)
+    ∙ part-some s e run more n named (numbers-of .result) (numbers-of .ensures)
+    (sym (well-formed .ensures) ∙ not-false (well-formed .result) (if2 .left)) (c .before .before .if3 .left)
 
 pub part-form-spec : {M : Type 1} → statement M
 part-form-spec =

@@ -46,8 +46,7 @@ returns c =
     let part-form = c .before .before .before .before .part-form in
     let start = c .before .before .before .before .before .before .args in
     c .no-order .ensures
-    ∙ timed-by-word (start .deed) (fields (start .s .now))
-    (part-form .result) (part-form .ensures) Word.Machine (c .before .enum-told .given .1)
+    ∙ timed-by-word (start .deed) (fields (start .s .now)) (part-form .result) (part-form .ensures) Word.Machine (c .before .enum-told .given .1)
 
 returns-2 : tie.Need-returns-2
 returns-2 c =

@@ -20,7 +20,9 @@ nothing-requires : tie.Need-nothing-requires
 nothing-requires c κs = search needs
 
 returns : tie.Need-returns
-returns c = c .nothing .ensures ∙ sym (piece-other (c .before .before .before .before .args .s .now) (c .before .before .before .before .args .at) (omega arith))
+returns c =
+    let start = c .before .before .before .before .args in
+    c .nothing .ensures ∙ sym (piece-other (start .s .now) (start .at) (omega arith))
 
 kind-of-requires : tie.Need-kind-of-requires
 kind-of-requires c κs = search needs
@@ -64,16 +66,21 @@ number-at-requires-7 c κs = search needs
 returns-2 : tie.Need-returns-2
 unfolding sevenAt
 returns-2 c =
+    let number-at3 = c .before .before .before .before .number-at3 in
+    let number-at2 = c .before .before .before .before .before .number-at2 in
+    let kind-of = c .before .before .before .before .before .before .kind-of in
+    let number-at = c .before .before .before .before .before .before .before .before .number-at in
+    let start = c .before .before .before .before .before .before .before .before .before .before .args in
     (λ i. record {
-      kind = (c .before .before .before .before .before .before .kind-of .ensures ∙ ap kindOf (c .before .before .before .before .before .before .before .before .number-at .ensures)) i;
-      budget = c .before .before .before .before .before .number-at2 .ensures i;
-      window = c .before .before .before .before .number-at3 .ensures i;
+      kind = (kind-of .ensures ∙ ap kindOf (number-at .ensures)) i;
+      budget = number-at2 .ensures i;
+      window = number-at3 .ensures i;
       period = c .before .before .before .number-at4 .ensures i;
       jitter = c .before .before .number-at5 .ensures i;
       preempt = c .before .number-at6 .ensures i;
       migrate = c .number-at7 .ensures i;
     })
-    ∙ sym (piece-named (c .before .before .before .before .before .before .before .before .before .before .args .s .now) (c .before .before .before .before .before .before .before .before .before .before .args .at) (omega arith))
+    ∙ sym (piece-named (start .s .now) (start .at) (omega arith))
 
 pub piece-at-spec : {M : Type 1} → statement M
 piece-at-spec =

@@ -62,13 +62,17 @@ loop-again c =
     let told = c .before .piece-at .ensures ∙ sym (pieces-at s (lp .i) outside (omega arith)) in (
       search needs,
       subst (λ (a : List ℕ). length a ≡ 553) (sym put) (put-length (lp .records) (lp .i) (c .before .piece-at .result) (omega arith) ∙ lp .inv .1),
-      subst (λ (a : List ℕ). take (lp .i + 1) (recordsOf a) ≡ take (lp .i + 1) (piecesOf s)) (sym put) (records-next (lp .records) (piecesOf s) (lp .i) (c .before .piece-at .result) outside (omega arith) (lp .inv .1) (omega (arith, pieces-length s)) told (lp .inv .2)),
+      subst (λ (a : List ℕ). take (lp .i + 1) (recordsOf a) ≡ take (lp .i + 1) (piecesOf s)) (sym put)
+          (records-next (lp .records) (piecesOf s) (lp .i) (c .before .piece-at .result) outside (omega arith) (lp .inv .1)
+          (omega (arith, pieces-length s)) told (lp .inv .2)),
     )
 
 -- src/bytes.rt:69:1
 returns : tie.Need-returns Inv-loop μ-loop
-returns c = λ few.
-    (let s = c .before .before .before .before .args .s .now in
+returns c =
+    let start = c .before .before .before .before .args in
+    λ few.
+    (let s = start .s .now in
     let lp = c .before .loop in
     let e : length (piecesOf s) ≡ lp .i = omega (arith, pieces-length s, c .before .before .room-for .ensures .2 (omega (arith, pieces-length s))) in
     rw e (lp .inv .2) ∙ (ap (λ (k : ℕ). take k (piecesOf s)) (sym e) ∙ take-length (piecesOf s)))

@@ -20,7 +20,10 @@ enum-known-said : tie.Need-enum-known-said
 enum-known-said c = search needs
 
 numbered-requires-2 : tie.Need-numbered-requires-2
-numbered-requires-2 c κs = (search needs, rw (c .before .before .before .before .answer .given .1, c .before .said .given .1) at (c .before .before .before .before .before .before .pre))
+numbered-requires-2 c κs =
+    let answer = c .before .before .before .before .answer in
+    let pre = c .before .before .before .before .before .before .pre in
+    (search needs, rw (answer .given .1, c .before .said .given .1) at pre)
 
 enum-told-2 : tie.Need-enum-told-2
 enum-told-2 c = search needs
@@ -47,31 +50,46 @@ enum-known-why : tie.Need-enum-known-why
 enum-known-why c = search needs
 
 numbered-requires-6 : tie.Need-numbered-requires-6
-numbered-requires-6 c κs = (search needs, rw (c .before .before .before .before .answer2 .given .1, c .before .why .given .1) at (c .before .before .before .before .before .before .pre))
+numbered-requires-6 c κs =
+    let answer2 = c .before .before .before .before .answer2 in
+    let pre = c .before .before .before .before .before .before .pre in
+    (search needs, rw (answer2 .given .1, c .before .why .given .1) at pre)
 
 returns : tie.Need-returns
 unfolding number
-returns c = rw (c .before .before .before .before .answer .given .1, c .before .enum-told .given .1) (c .numbered .ensures)
+returns c =
+    let answer = c .before .before .before .before .answer in
+    rw (answer .given .1, c .before .enum-told .given .1) (c .numbered .ensures)
 
 returns-2 : tie.Need-returns-2
 unfolding number
-returns-2 c = rw (c .before .before .before .before .before .answer .given .1, c .before .before .said .given .1) (c .numbered2 .ensures)
+returns-2 c =
+    let answer = c .before .before .before .before .before .answer in
+    rw (answer .given .1, c .before .before .said .given .1) (c .numbered2 .ensures)
 
 returns-3 : tie.Need-returns-3
 unfolding number
-returns-3 c = rw (c .before .before .before .before .answer .given .1, c .before .enum-told2 .given .1) (c .numbered3 .ensures)
+returns-3 c =
+    let answer = c .before .before .before .before .answer in
+    rw (answer .given .1, c .before .enum-told2 .given .1) (c .numbered3 .ensures)
 
 returns-4 : tie.Need-returns-4
 unfolding number
-returns-4 c = rw (c .before .before .before .before .answer2 .given .1, c .before .enum-told3 .given .1) (c .numbered4 .ensures)
+returns-4 c =
+    let answer2 = c .before .before .before .before .answer2 in
+    rw (answer2 .given .1, c .before .enum-told3 .given .1) (c .numbered4 .ensures)
 
 returns-5 : tie.Need-returns-5
 unfolding number
-returns-5 c = rw (c .before .before .before .before .answer2 .given .1, c .before .enum-told4 .given .1) (c .numbered5 .ensures)
+returns-5 c =
+    let answer2 = c .before .before .before .before .answer2 in
+    rw (answer2 .given .1, c .before .enum-told4 .given .1) (c .numbered5 .ensures)
 
 returns-6 : tie.Need-returns-6
 unfolding number
-returns-6 c = rw (c .before .before .before .before .before .answer2 .given .1, c .before .before .why .given .1) (c .numbered6 .ensures)
+returns-6 c =
+    let answer2 = c .before .before .before .before .before .answer2 in
+    rw (answer2 .given .1, c .before .before .why .given .1) (c .numbered6 .ensures)
 
 pub number-of-spec : {M : Type 1} → statement M
 number-of-spec =

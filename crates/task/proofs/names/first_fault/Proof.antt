@@ -50,12 +50,15 @@ task-fault-requires c κs = search needs
 
 returns : tie.Need-returns Inv-loop μ-loop
 returns c =
-    let s = c .before .before .before .before .before .before .before .before .args .t1 in
+    let at-start = c .before .before .before .before .before .before .before .before in
+    let s = at-start .args .t1 in
     let l = c .before .before .before .before .before .before .before .loop in
-    let z = long (c .before .before .before .before .before .before .before .before) in
+    let z = long at-start in
     let low : l .i < s .count = omega arith in
     let few : s .count ≤ 64 = omega arith in
-    let here = l .inv .3 ∙ run-here (taskAt (s .list) (l .i) .name) (l .i) (s .list) (l .j) past (omega arith) (omega arith) (sym (c .before .before .same-name .ensures) ∙ c .before .if2 .taken) in
+    let here = l .inv .3
+    ∙ run-here (taskAt (s .list) (l .i) .name) (l .i) (s .list) (l .j) past (omega arith) (omega arith)
+    (sym (c .before .before .same-name .ensures) ∙ c .before .if2 .taken) in
     c .task-fault .ensures ∙ sym (l .inv .2 ∙ run-twin (s .count) (s .list) (l .i) low (omega arith) (λ none. omega (arith, here, none)))
 
 add-j : tie.Need-add-j Inv-loop μ-loop
@@ -66,21 +69,28 @@ loop-less c = search needs
 
 loop-again : tie.Need-loop-again Inv-loop μ-loop
 loop-again c =
-    let s = c .before .before .before .before .before .before .before .args .t1 in
+    let at-start = c .before .before .before .before .before .before .before in
+    let s = at-start .args .t1 in
     let l = c .before .before .before .before .before .before .loop in
-    let z = long (c .before .before .before .before .before .before .before) in
+    let z = long at-start in
     let low : l .i < s .count = omega arith in
-    let few : s .count ≤ 64 = omega arith in
-    (omega arith, omega arith, l .inv .2, l .inv .3 ∙ run-other (taskAt (s .list) (l .i) .name) (l .i) (s .list) (l .j) past (omega arith) (omega arith) (sym (c .before .same-name .ensures) ∙ c .if2 .left))
+    let few : s .count ≤ 64 = omega arith in (
+      omega arith,
+      omega arith,
+      l .inv .2,
+      l .inv .3 ∙ run-other (taskAt (s .list) (l .i) .name) (l .i) (s .list) (l .j) past (omega arith)
+          (omega arith) (sym (c .before .same-name .ensures) ∙ c .if2 .left),
+    )
 
 task-fault-requires-2 : tie.Need-task-fault-requires-2 Inv-loop μ-loop
 task-fault-requires-2 c κs = search needs
 
 returns-2 : tie.Need-returns-2 Inv-loop μ-loop
 returns-2 c =
-    let s = c .before .before .before .before .before .before .args .t1 in
+    let at-start = c .before .before .before .before .before .before in
+    let s = at-start .args .t1 in
     let l = c .before .before .before .before .before .loop in
-    let z = long (c .before .before .before .before .before .before) in
+    let z = long at-start in
     let low : l .i < s .count = omega arith in
     let few : s .count ≤ 64 = omega arith in
     let alone = l .inv .3 ∙ run-end (l .j + 1) (taskAt (s .list) (l .i) .name) (l .i) (s .list) (l .j) (omega (arith, length-take (l .i) (s .list))) in
@@ -95,13 +105,19 @@ loop-less-2 c = search needs
 
 loop-again-2 : tie.Need-loop-again-2 Inv-loop μ-loop
 loop-again-2 c =
-    let s = c .before .before .before .before .before .before .args .t1 in
+    let at-start = c .before .before .before .before .before .before in
+    let s = at-start .args .t1 in
     let l = c .before .before .before .before .before .loop in
-    let z = long (c .before .before .before .before .before .before) in
+    let z = long at-start in
     let low : l .i < s .count = omega arith in
     let few : s .count ≤ 64 = omega arith in
-    let alone = l .inv .3 ∙ run-end (l .j + 1) (taskAt (s .list) (l .i) .name) (l .i) (s .list) (l .j) (omega (arith, length-take (l .i) (s .list))) in
-    (omega arith, omega arith, l .inv .2 ∙ run-good (s .count) (s .list) (l .i) low (omega arith) alone (sym (c .before .task-fault2 .ensures) ∙ c .if3 .left), search needs)
+    let alone = l .inv .3 ∙ run-end (l .j + 1) (taskAt (s .list) (l .i) .name) (l .i) (s .list) (l .j) (omega (arith, length-take (l .i) (s .list))) in (
+      omega arith,
+      omega arith,
+      l .inv .2
+          ∙ run-good (s .count) (s .list) (l .i) low (omega arith) alone (sym (c .before .task-fault2 .ensures) ∙ c .if3 .left),
+      search needs,
+    )
 
 returns-3 : tie.Need-returns-3 Inv-loop μ-loop
 returns-3 c =

@@ -11,7 +11,9 @@ name-byte-requires : tie.Need-name-byte-requires
 name-byte-requires c κs = search needs
 
 returns : tie.Need-returns
-returns c = simp (lt-ltb (c .before .before .args .i) (c .before .before .args .len) (c .before .if1 .taken)) (c .name-byte .ensures)
+returns c =
+    let start = c .before .before .args in
+    simp (lt-ltb (start .i) (start .len) (c .before .if1 .taken)) (c .name-byte .ensures)
 
 returns-2 : tie.Need-returns-2
 returns-2 c = simp (le-ltb (c .before .args .i) (c .before .args .len) (c .if1 .left))

@@ -28,15 +28,51 @@ inside-requires-3 c κs = search needs
 
 returns-3 : tie.Need-returns-3
 unfolding nameByte
-returns-3 c = simp (← c .before .before .before .before .before .inside .ensures, ← c .before .before .before .inside2 .ensures, ← c .before .inside3 .ensures, c .before .before .before .before .if1 .left, c .before .before .if2 .left, c .if3 .taken)
+returns-3 c =
+    let if1 = c .before .before .before .before .if1 in
+    let inside = c .before .before .before .before .before .inside in
+    simp (
+      ← inside .ensures,
+      ← c .before .before .before .inside2 .ensures,
+      ← c .before .inside3 .ensures,
+      if1 .left,
+      c .before .before .if2 .left,
+      c .if3 .taken,
+    )
 
 returns-4 : tie.Need-returns-4
 unfolding nameByte
-returns-4 c = simp (← c .before .before .before .before .before .before .inside .ensures, ← c .before .before .before .before .inside2 .ensures, ← c .before .before .inside3 .ensures, c .before .before .before .before .before .if1 .left, c .before .before .before .if2 .left, c .before .if3 .left, eq-eqb (c .before .before .before .before .before .before .before .args .b) 45 (c .if4 .taken))
+returns-4 c =
+    let inside2 = c .before .before .before .before .inside2 in
+    let if1 = c .before .before .before .before .before .if1 in
+    let inside = c .before .before .before .before .before .before .inside in
+    let start = c .before .before .before .before .before .before .before .args in
+    simp (
+      ← inside .ensures,
+      ← inside2 .ensures,
+      ← c .before .before .inside3 .ensures,
+      if1 .left,
+      c .before .before .before .if2 .left,
+      c .before .if3 .left,
+      eq-eqb (start .b) 45 (c .if4 .taken),
+    )
 
 returns-5 : tie.Need-returns-5
 unfolding nameByte
-returns-5 c = simp (← c .before .before .before .before .before .before .inside .ensures, ← c .before .before .before .before .inside2 .ensures, ← c .before .before .inside3 .ensures, c .before .before .before .before .before .if1 .left, c .before .before .before .if2 .left, c .before .if3 .left, ne-eqb (c .before .before .before .before .before .before .before .args .b) 45 (c .if4 .left))
+returns-5 c =
+    let inside2 = c .before .before .before .before .inside2 in
+    let if1 = c .before .before .before .before .before .if1 in
+    let inside = c .before .before .before .before .before .before .inside in
+    let start = c .before .before .before .before .before .before .before .args in
+    simp (
+      ← inside .ensures,
+      ← inside2 .ensures,
+      ← c .before .before .inside3 .ensures,
+      if1 .left,
+      c .before .before .before .if2 .left,
+      c .before .if3 .left,
+      ne-eqb (start .b) 45 (c .if4 .left),
+    )
 
 pub name-byte-spec : {M : Type 1} → statement M
 name-byte-spec =

@@ -28,9 +28,11 @@ array-read-if1-2 c = search needs
 
 returns : tie.Need-returns Inv-loop μ-loop
 returns c =
-    let long : length (c .before .before .before .args .t1) ≡ 24 = search needs in
-    let other : length (c .before .before .before .args .t2) ≡ 24 = search needs in
-    sym (c .before .before .loop .inv .1 ∙ same-differ (c .before .before .before .args .t1) (c .before .before .before .args .t2) (c .before .before .loop .i) (omega arith) (omega arith) (c .if1 .taken))
+    let start = c .before .before .before .args in
+    let long : length (start .t1) ≡ 24 = search needs in
+    let other : length (start .t2) ≡ 24 = search needs in
+    let loop = c .before .before .loop in
+    sym (loop .inv .1 ∙ same-differ (start .t1) (start .t2) (loop .i) (omega arith) (omega arith) (c .if1 .taken))
 
 add-i : tie.Need-add-i Inv-loop μ-loop
 add-i c = search needs
@@ -40,15 +42,18 @@ loop-less c = search needs
 
 loop-again : tie.Need-loop-again Inv-loop μ-loop
 loop-again c =
-    let long : length (c .before .before .before .args .t1) ≡ 24 = search needs in
-    let other : length (c .before .before .before .args .t2) ≡ 24 = search needs in
-    (search needs, c .before .before .loop .inv .1 ∙ same-step (c .before .before .before .args .t1) (c .before .before .before .args .t2) (c .before .before .loop .i) (omega arith) (omega arith) (c .if1 .left))
+    let start = c .before .before .before .args in
+    let long : length (start .t1) ≡ 24 = search needs in
+    let other : length (start .t2) ≡ 24 = search needs in
+    let loop = c .before .before .loop in
+    (search needs, loop .inv .1 ∙ same-step (start .t1) (start .t2) (loop .i) (omega arith) (omega arith) (c .if1 .left))
 
 returns-2 : tie.Need-returns-2 Inv-loop μ-loop
 returns-2 c =
-    let long : length (c .before .before .args .t1) ≡ 24 = search needs in
-    let other : length (c .before .before .args .t2) ≡ 24 = search needs in
-    sym (c .before .loop .inv .1 ∙ same-end (c .before .before .args .t1) (c .before .before .args .t2) (c .before .loop .i) (omega arith) (omega arith))
+    let start = c .before .before .args in
+    let long : length (start .t1) ≡ 24 = search needs in
+    let other : length (start .t2) ≡ 24 = search needs in
+    sym (c .before .loop .inv .1 ∙ same-end (start .t1) (start .t2) (c .before .loop .i) (omega arith) (omega arith))
 
 pub same-bytes-spec : {M : Type 1} → statement M
 same-bytes-spec =

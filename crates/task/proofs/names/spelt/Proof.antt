@@ -35,8 +35,11 @@ fits-at-requires c κs = search needs
 
 returns-2 : tie.Need-returns-2 Inv-loop μ-loop
 returns-2 c =
-    let long : length (c .before .before .before .before .before .args .t1) ≡ 24 = search needs in
-    sym (c .before .before .before .loop .inv .1 ∙ spelt-bad (c .before .before .before .before .before .args .t1) (c .before .before .before .loop .i) (omega arith) (c .before .before .before .before .before .args .len) (sym (c .before .fits-at .ensures) ∙ not-true (c .before .fits-at .result) (c .if2 .taken)))
+    let start = c .before .before .before .before .before .args in
+    let long : length (start .t1) ≡ 24 = search needs in
+    let loop = c .before .before .before .loop in
+    sym (loop .inv .1 ∙ spelt-bad (start .t1) (loop .i) (omega arith) (start .len)
+    (sym (c .before .fits-at .ensures) ∙ not-true (c .before .fits-at .result) (c .if2 .taken)))
 
 add-i : tie.Need-add-i Inv-loop μ-loop
 add-i c = search needs
@@ -46,13 +49,19 @@ loop-less c = search needs
 
 loop-again : tie.Need-loop-again Inv-loop μ-loop
 loop-again c =
-    let long : length (c .before .before .before .before .before .args .t1) ≡ 24 = search needs in
-    (search needs, c .before .before .before .loop .inv .1 ∙ spelt-step (c .before .before .before .before .before .args .t1) (c .before .before .before .loop .i) (omega arith) (c .before .before .before .before .before .args .len) (sym (c .before .fits-at .ensures) ∙ not-false (c .before .fits-at .result) (c .if2 .left)))
+    let start = c .before .before .before .before .before .args in
+    let long : length (start .t1) ≡ 24 = search needs in
+    let loop = c .before .before .before .loop in (
+      search needs,
+      loop .inv .1 ∙ spelt-step (start .t1) (loop .i) (omega arith) (start .len) (sym (c .before .fits-at .ensures)
+          ∙ not-false (c .before .fits-at .result) (c .if2 .left)),
+    )
 
 returns-3 : tie.Need-returns-3 Inv-loop μ-loop
 returns-3 c =
-    let long : length (c .before .before .before .args .t1) ≡ 24 = search needs in
-    sym (c .before .loop .inv .1 ∙ spelt-end (c .before .before .before .args .len) (c .before .loop .i) (c .before .before .before .args .t1) (omega arith) (omega arith))
+    let start = c .before .before .before .args in
+    let long : length (start .t1) ≡ 24 = search needs in
+    sym (c .before .loop .inv .1 ∙ spelt-end (start .len) (c .before .loop .i) (start .t1) (omega arith) (omega arith))
 
 pub spelt-spec : {M : Type 1} → statement M
 spelt-spec =

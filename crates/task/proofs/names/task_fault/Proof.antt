@@ -25,10 +25,22 @@ within-sizes-requires : tie.Need-within-sizes-requires
 within-sizes-requires c κs = search needs
 
 returns-2 : tie.Need-returns-2
-returns-2 c = rw (sym (c .before .before .before .before .well-formed .ensures) ∙ not-false (c .before .before .before .before .well-formed .result) (c .before .before .before .if1 .left), ap (λ (p : Piece). sized p) (sym (c .before .before .whole-piece .ensures)) ∙ (sym (c .before .within-sizes .ensures) ∙ not-true (c .before .within-sizes .result) (c .if2 .taken)))
+returns-2 c =
+    let well-formed = c .before .before .before .before .well-formed in
+    rw (
+      sym (well-formed .ensures) ∙ not-false (well-formed .result) (c .before .before .before .if1 .left),
+      ap (λ (p : Piece). sized p) (sym (c .before .before .whole-piece .ensures))
+          ∙ (sym (c .before .within-sizes .ensures) ∙ not-true (c .before .within-sizes .result) (c .if2 .taken)),
+    )
 
 returns-3 : tie.Need-returns-3
-returns-3 c = rw (sym (c .before .before .before .before .well-formed .ensures) ∙ not-false (c .before .before .before .before .well-formed .result) (c .before .before .before .if1 .left), ap (λ (p : Piece). sized p) (sym (c .before .before .whole-piece .ensures)) ∙ (sym (c .before .within-sizes .ensures) ∙ not-false (c .before .within-sizes .result) (c .if2 .left)))
+returns-3 c =
+    let well-formed = c .before .before .before .before .well-formed in
+    rw (
+      sym (well-formed .ensures) ∙ not-false (well-formed .result) (c .before .before .before .if1 .left),
+      ap (λ (p : Piece). sized p) (sym (c .before .before .whole-piece .ensures))
+          ∙ (sym (c .before .within-sizes .ensures) ∙ not-false (c .before .within-sizes .result) (c .if2 .left)),
+    )
 
 pub task-fault-spec : {M : Type 1} → statement M
 task-fault-spec =
