@@ -59,7 +59,8 @@ returns-3 : tie.Need-returns-3
 returns-3 c =
     let part-form = c .before .before .before .before .part-form in
     let start = c .before .before .before .before .before .before .args in
-    rw (c .task-of .ensures) (timed-by-word (start .deed) (fields (start .s .now)) (part-form .result) (part-form .ensures) Word.Part (c .before .enum-told3 .given .1))
+    rw (c .task-of .ensures) (timed-by-word (start .deed) (fields (start .s .now)) (part-form .result) (part-form .ensures) Word.Part
+    (c .before .enum-told3 .given .1))
 
 returns-4 : tie.Need-returns-4
 returns-4 c =
