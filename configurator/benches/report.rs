@@ -480,7 +480,7 @@ pub fn json(loads: &[Measured], slow: &[SlowCore]) -> String {
     let slow: Vec<String> = slow.iter().map(slow_json).collect();
     format!(
         "{{\"seed\": {}, \"workloads\": [\n  {}\n], \"slow_cores\": [\n  {}\n]}}",
-        crate::loads::SEED,
+        inputs::random::SEED,
         loads.join(",\n  "),
         slow.join(",\n  ")
     )

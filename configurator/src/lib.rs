@@ -12,8 +12,6 @@
 //!   [`fault`] finds.
 //! - [`listing`], [`quoted`]: the lines of a listing and of an accepted sheet, for tables and drawings.
 //! - [`command`]: the command for people.
-//! - [`plain`]: the oracle, document 01 done the naive way. Tests compare the library with it; it
-//!   never calls the library.
 //!
 //! Document 01's sheet, three drives of six ticks in ten on two cores, and its listing:
 //!
@@ -56,7 +54,6 @@ pub mod explain;
 pub mod fault;
 pub mod ffi;
 pub mod listing;
-pub mod plain;
 pub mod quoted;
 pub mod refusals;
 

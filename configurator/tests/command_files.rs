@@ -6,7 +6,7 @@
 mod common;
 
 use common::command::{file, folder, names, program, spardimple, spardimple_fed, text};
-use common::sheets::{LISTING, SHEET};
+use inputs::sheets::{LISTING, SHEET};
 use std::ffi::OsStr;
 use std::fs::{self, File};
 use std::net::Shutdown;

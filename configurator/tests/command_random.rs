@@ -5,12 +5,12 @@
 mod common;
 
 use common::command::{folder, spardimple};
-use common::sheets::{damaged, SheetDraw, SHEET};
-use common::Random;
 use configurator::command::cli::Task;
 use configurator::command::{perform, Status, Streams};
 use configurator::explain::refused;
 use configurator::plan;
+use inputs::sheets::{damaged, SheetDraw, SHEET};
+use inputs::Random;
 use std::fs;
 use std::path::Path;
 

@@ -3,7 +3,6 @@
 
 #![warn(clippy::all, clippy::pedantic)]
 
-mod common;
 #[path = "../benches/counted.rs"]
 mod counted;
 #[allow(dead_code)] // the benchmark uses all of it
@@ -15,10 +14,10 @@ mod tally;
 
 use std::fmt::Write as _;
 
-use common::sheets::{full_load, SheetDraw};
-use common::{bytes, cases, Random};
 use configurator::plan;
 use counted::Lean;
+use inputs::sheets::{full_load, SheetDraw};
+use inputs::{bytes, cases, Random};
 use tally::{Counts, Silent};
 
 /// Plans a sheet by the copy, as it is and with the next ideas, and compares; gives the candidates

@@ -4,12 +4,10 @@
 
 #![warn(clippy::all, clippy::pedantic)]
 
-mod common;
-
-use common::sheets::{full_load, SheetDraw};
-use common::{bytes, cases, Random};
-use configurator::plain::desk::play;
-use configurator::plain::verdict::Way;
+use inputs::sheets::{full_load, SheetDraw};
+use inputs::{bytes, cases, Random};
+use plain::desk::play;
+use plain::verdict::Way;
 use std::collections::BTreeMap;
 use std::io::Write;
 use std::path::PathBuf;

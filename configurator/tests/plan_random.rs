@@ -6,10 +6,10 @@
 mod common;
 
 use common::listings::Tally;
-use common::sheets::{damaged, full_load, SheetDraw, SHEET};
-use common::Random;
-use configurator::plain::verdict::Way;
 use configurator::Refusal;
+use inputs::sheets::{damaged, full_load, SheetDraw, SHEET};
+use inputs::Random;
+use plain::verdict::Way;
 
 /// Small sheets, for which the oracle looks at every length.
 const SMALL: [SheetDraw; 5] = [

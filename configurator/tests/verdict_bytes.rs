@@ -6,10 +6,10 @@
 mod common;
 
 use common::compare::Tally;
-use common::cores::{lent, lent_costs, lent_records, Draw};
-use common::Random;
-use configurator::plain::records::{COST_BYTES, RECORDS_MOST, RECORD_BYTES};
 use configurator::{verdict, Answer, Refusal};
+use inputs::cores::{lent, lent_costs, lent_records, Draw};
+use inputs::Random;
+use plain::records::{self, COST_BYTES, RECORDS_MOST, RECORD_BYTES};
 
 /// A record within the sizes, and light, so that many fit on a core.
 const LIGHT: [u64; 7] = [0, 1, 900, 1_000, 0, 0, 0];
@@ -336,7 +336,7 @@ fn records_read_back() {
     };
     for _ in 0..200 {
         let core = draw.core(&mut random);
-        let read = configurator::plain::records::read(&lent_records(&core), &lent_costs(&core));
+        let read = records::read(&lent_records(&core), &lent_costs(&core));
         assert_eq!(read, Ok(core));
     }
     println!("200 compared");

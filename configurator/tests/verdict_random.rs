@@ -5,10 +5,10 @@
 mod common;
 
 use common::compare::Tally;
-use common::cores::{piece, Draw};
-use common::Random;
-use configurator::plain::demand::Core;
-use configurator::plain::piece::{Costs, Kind, Piece};
+use inputs::cores::{piece, Draw};
+use inputs::Random;
+use plain::demand::Core;
+use plain::piece::{Costs, Kind, Piece};
 
 /// Compares that many random cores of each draw. Each kind of verdict must come up now and then, so
 /// that the draws are worth something.

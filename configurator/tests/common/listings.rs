@@ -3,9 +3,11 @@
 
 use std::fmt;
 
-use configurator::plain::listing;
-use configurator::plain::verdict::Way;
 use configurator::{plan, Refusal};
+use plain::listing;
+use plain::verdict::Way;
+
+use super::refusal;
 
 /// The sheets compared, by what they were answered with.
 #[derive(Default)]
@@ -28,7 +30,7 @@ impl Tally {
 
     /// Compares the library with the oracle on a sheet.
     pub fn sheet(&mut self, sheet: &[u8], way: Way) -> Result<Vec<u8>, Refusal> {
-        let expected = listing::of_sheet(sheet, way);
+        let expected = listing::of_sheet(sheet, way).map_err(refusal);
         self.stated(sheet, &expected, "as the oracle says");
         expected
     }

@@ -1,6 +1,6 @@
 //! Sheets and scripts for the tests, at random and damaged.
 
-use super::Random;
+use crate::random::Random;
 
 /// Document 01's sheet.
 pub const SHEET: &str = "machine\t2\t1
@@ -87,8 +87,8 @@ impl SheetDraw {
     /// A sheet whose names differ in little. Now and then a part or a task comes twice, or a task is
     /// fitted with a part that isn't there.
     pub fn near_names(&self, random: &mut Random) -> Vec<u8> {
-        let (cores, known) = (random.between(1, self.cores), random.between(1, 12));
-        let known = &NAMES[..usize::try_from(known).unwrap()];
+        let cores = random.between(1, self.cores);
+        let known = &NAMES[..=random.place(NAMES.len())];
         let costs: Vec<String> = (0..9).map(|_| self.charge(random).to_string()).collect();
         let head = format!("machine\t{cores}\t1\ncost\t{}\n", costs.join("\t"));
         let mut lines = vec![head];

@@ -3,20 +3,19 @@
 
 #![warn(clippy::all, clippy::pedantic)]
 
-mod common;
-
 use std::fs;
 
-use common::cores::{piece, Draw};
-use common::sheets::{damaged, SheetDraw};
-use common::{bytes, cases, data, Random};
-use configurator::plain::demand::Core;
-use configurator::plain::piece::{Costs, Kind, Piece};
-use configurator::plain::sheet::{self, Sheet};
-use configurator::plain::task::Times;
-use configurator::plain::verdict::{by_every_length, by_stretches, Way};
-use configurator::plain::walk::{greatest_split, tight_window};
-use configurator::plain::{desk, listing};
+use inputs::cores::{piece, Draw};
+use inputs::sheets::{damaged, SheetDraw, LISTING, SHEET};
+use inputs::{bytes, cases, data, Random};
+use plain::demand::Core;
+use plain::piece::{Costs, Kind, Piece};
+use plain::refusal::Refusal;
+use plain::sheet::{self, Sheet};
+use plain::task::Times;
+use plain::verdict::{by_every_length, by_stretches, Way};
+use plain::walk::{greatest_split, tight_window};
+use plain::{desk, listing};
 
 const WAYS: [Way; 2] = [Way::EveryLength, Way::Stretches];
 
@@ -101,6 +100,28 @@ fn cases_with_stated_answers() {
 #[ignore = "half a minute: the same with no case left out"]
 fn all_cases_with_stated_answers() {
     hold_to_cases(u64::MAX);
+}
+
+/// A lent buffer holds the listing and beyond it what it held; one byte less is 10.
+#[test]
+fn lent_buffers() {
+    let length = LISTING.len();
+    for size in 0..2 * length {
+        let mut buffer = vec![7; size];
+        let answer = listing::write(SHEET.as_bytes(), &mut buffer, Way::EveryLength);
+        if size < length {
+            assert_eq!(
+                answer,
+                Err(Refusal::new(10, u32::try_from(length).unwrap()))
+            );
+            assert_eq!(buffer, vec![7; size]);
+        } else {
+            assert_eq!(answer, Ok(length));
+            assert_eq!(&buffer[..length], LISTING.as_bytes());
+            assert_eq!(&buffer[length..], vec![7; size - length]);
+        }
+    }
+    println!("{} compared", 2 * length);
 }
 
 /// The climb finds the busy length that stepping up from 1 finds, and the least live length is what
@@ -271,7 +292,7 @@ fn plans_both_ways() {
                     assert_eq!(every, stretches, "{}{}", shown(&text), shown(&script));
                     scripts += 1;
                 }
-                Err(refusal) if refusal.number() == 7 => stuck += 1,
+                Err(refusal) if refusal.number == 7 => stuck += 1,
                 Err(_) => refused += 1,
             }
         }

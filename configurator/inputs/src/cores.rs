@@ -1,14 +1,15 @@
 //! Cores for the tests: by hand, at random, and as the bytes that the library is lent.
 
-use configurator::plain::demand::Core;
-use configurator::plain::piece::{Costs, Kind, Piece};
+use plain::demand::Core;
+use plain::piece::{Costs, Kind, Piece};
 
-use super::Random;
+use crate::random::Random;
 
 /// Budget, window and period, as document 01 writes its examples: (x, D, T).
 pub type Times = (u64, u64, u64);
 
 /// A piece with no jitter and no cache charges.
+#[must_use]
 pub fn piece(kind: Kind, (budget, window, period): Times) -> Piece {
     Piece {
         kind,
@@ -22,6 +23,7 @@ pub fn piece(kind: Kind, (budget, window, period): Times) -> Piece {
 }
 
 /// A core of whole pieces without costs.
+#[must_use]
 pub fn whole_core(pieces: &[Times]) -> Core {
     Core {
         costs: Costs::default(),
@@ -33,6 +35,11 @@ pub fn whole_core(pieces: &[Times]) -> Core {
 }
 
 /// Numbers as lent: four bytes each, lowest first.
+///
+/// # Panics
+///
+/// A number needs more than four bytes.
+#[must_use]
 pub fn lent(numbers: &[u64]) -> Vec<u8> {
     numbers
         .iter()
@@ -41,6 +48,7 @@ pub fn lent(numbers: &[u64]) -> Vec<u8> {
 }
 
 /// The numbers of a piece's record.
+#[must_use]
 pub fn record(p: &Piece) -> [u64; 7] {
     let kind = match p.kind {
         Kind::Whole => 0,
@@ -59,11 +67,13 @@ pub fn record(p: &Piece) -> [u64; 7] {
 }
 
 /// The records of a core as lent.
+#[must_use]
 pub fn lent_records(core: &Core) -> Vec<u8> {
     core.pieces.iter().flat_map(|p| lent(&record(p))).collect()
 }
 
 /// The costs of a core as lent.
+#[must_use]
 pub fn lent_costs(core: &Core) -> Vec<u8> {
     lent(&core.costs.numbers())
 }
