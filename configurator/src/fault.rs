@@ -5,6 +5,7 @@
 //! is.
 
 use crate::quoted::{COSTS, TIMES};
+use crate::text::shown;
 use std::ops::Range;
 use std::str;
 
@@ -99,7 +100,7 @@ struct Field<'a> {
 impl Field<'_> {
     /// The field as text; bytes that are none are shown as such.
     fn text(&self) -> String {
-        crate::explain::shown(self.bytes)
+        shown(self.bytes)
     }
 
     /// The number of a field that has the form of one.

@@ -10,6 +10,7 @@
 //! - [`refusals`]: the table of refusals, each with what it means and what to do.
 //! - [`explain`]: a refused sheet's sentences, with the words of the sheet that they are about, which
 //!   [`fault`] finds.
+//! - [`text`]: bytes as text for people.
 //! - [`listing`], [`quoted`]: the lines of a listing and of an accepted sheet, for tables and drawings.
 //! - [`command`]: the command for people.
 //!
@@ -56,6 +57,7 @@ pub mod ffi;
 pub mod listing;
 pub mod quoted;
 pub mod refusals;
+pub mod text;
 
 pub use answer::{Answer, Listed, Refusal, UnknownNumber};
 

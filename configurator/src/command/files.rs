@@ -2,7 +2,7 @@
 //! all. Names may be any bytes that the system allows.
 
 use super::Failure;
-use crate::explain;
+use crate::text;
 use std::fs::{self, File};
 use std::io::{self, Read, Write};
 use std::os::unix::ffi::OsStrExt;
@@ -24,7 +24,7 @@ pub fn shown(path: &Path) -> String {
     if is_stdin(path) {
         "standard input".to_owned()
     } else {
-        explain::shown(path.as_os_str().as_bytes())
+        text::shown(path.as_os_str().as_bytes())
     }
 }
 
