@@ -12,45 +12,30 @@ use std::collections::BTreeMap;
 use std::io::Write;
 use std::path::PathBuf;
 use std::process::{Command, Stdio};
+use tempfile::NamedTempFile;
 
-/// A sheet's file that goes when it is done with.
-struct SheetFile(PathBuf);
-
-impl SheetFile {
-    fn new(name: &str) -> Self {
-        let file = format!("spardimple-desk-{}-{name}.sheet", std::process::id());
-        SheetFile(std::env::temp_dir().join(file))
-    }
-
-    /// What the program writes for a sheet and a script.
-    fn answers(&self, sheet: &[u8], script: &[u8]) -> Vec<u8> {
-        std::fs::write(&self.0, sheet).unwrap();
-        let desk = PathBuf::from(env!("CARGO_MANIFEST_DIR")).join("../target/bin/desk");
-        assert!(desk.exists(), "no program: run `rt check desk` first");
-        let mut command = match std::env::var_os("SPARDIMPLE_EMULATOR") {
-            Some(emulator) => {
-                let mut command = Command::new(emulator);
-                command.arg(desk);
-                command
-            }
-            None => Command::new(desk),
-        };
-        let mut child = command
-            .arg(&self.0)
-            .stdin(Stdio::piped())
-            .stdout(Stdio::piped())
-            .spawn()
-            .expect("the program runs");
-        // a refused sheet is answered before the script is read, so the pipe may be closed
-        let _ = child.stdin.take().unwrap().write_all(script);
-        child.wait_with_output().unwrap().stdout
-    }
-}
-
-impl Drop for SheetFile {
-    fn drop(&mut self) {
-        let _ = std::fs::remove_file(&self.0);
-    }
+/// What the program writes for a sheet, which is put into the file, and a script.
+fn answers(file: &NamedTempFile, sheet: &[u8], script: &[u8]) -> Vec<u8> {
+    std::fs::write(file, sheet).unwrap();
+    let desk = PathBuf::from(env!("CARGO_MANIFEST_DIR")).join("../target/bin/desk");
+    assert!(desk.exists(), "no program: run `rt check desk` first");
+    let mut command = match std::env::var_os("SPARDIMPLE_EMULATOR") {
+        Some(emulator) => {
+            let mut command = Command::new(emulator);
+            command.arg(desk);
+            command
+        }
+        None => Command::new(desk),
+    };
+    let mut child = command
+        .arg(file.path())
+        .stdin(Stdio::piped())
+        .stdout(Stdio::piped())
+        .spawn()
+        .expect("the program runs");
+    // a refused sheet is answered before the script is read, so the pipe may be closed
+    let _ = child.stdin.take().unwrap().write_all(script);
+    child.wait_with_output().unwrap().stdout
 }
 
 /// Answers by their first words: `ok`, `plan`, `refusal` with its number.
@@ -68,12 +53,12 @@ fn count(answers: &[u8], counts: &mut BTreeMap<String, u64>) {
 
 #[test]
 fn stated_scripts() {
-    let file = SheetFile::new("stated");
+    let file = NamedTempFile::new().unwrap();
     let mut compared = 0;
     for folder in ["desk", "special"] {
         for name in cases(folder, ".script") {
             let part = |ending: &str| bytes(folder, &format!("{name}{ending}"));
-            let answers = file.answers(&part(".sheet"), &part(".script"));
+            let answers = answers(&file, &part(".sheet"), &part(".script"));
             assert_eq!(answers, part(".out"), "{folder}/{name}");
             compared += 1;
         }
@@ -93,7 +78,7 @@ fn random_scripts() {
         (16, 20, 1, 1, Way::EveryLength),
     ];
     let mut random = Random::for_test();
-    let file = SheetFile::new("random");
+    let file = NamedTempFile::new().unwrap();
     let mut counts = BTreeMap::new();
     let mut compared = 0;
     for round in 0..420 {
@@ -112,7 +97,7 @@ fn random_scripts() {
             let lines = random.between(1, 60);
             let script = draw.script(lines, &mut random);
             let expected = play(&sheet, &script, way);
-            let answers = file.answers(&sheet, &script);
+            let answers = answers(&file, &sheet, &script);
             assert!(
                 answers == expected,
                 "{}\n{}\nthe program:\n{}\nthe oracle:\n{}",
