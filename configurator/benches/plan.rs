@@ -94,7 +94,7 @@ fn main() {
     }
     let slow: Vec<SlowCore> = loads::slow().iter().map(measure_slow).collect();
     if options.json {
-        println!("{}", report::json(&measured, &slow));
+        println!("{:#}", report::json(&measured, &slow));
     } else {
         println!("{}", report::tables(&measured, &slow));
     }
