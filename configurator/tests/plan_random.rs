@@ -5,10 +5,15 @@
 
 mod common;
 
+use std::cell::RefCell;
+
 use common::listings::Tally;
+use common::refusal;
 use configurator::Refusal;
-use inputs::sheets::{damaged, full_load, SheetDraw, SHEET};
+use inputs::sheets::{full_load, SheetDraw, SHEET};
+use inputs::strategies::{self, smallest_failure};
 use inputs::Random;
+use plain::listing;
 use plain::verdict::Way;
 
 /// Small sheets, for which the oracle looks at every length.
@@ -84,26 +89,24 @@ fn long_times() {
     assert_eq!(tally.accepted + tally.refused[7], tally.compared());
 }
 
-/// Each number of a refusal that a sheet of fewer than 16,385 bytes can have comes up.
+/// Sheets whole and damaged; where the library and the oracle differ, a small one is told. Each
+/// number of a refusal that a sheet of fewer than 16,385 bytes can have comes up.
 #[test]
 fn damaged_sheets() {
-    let mut random = Random::for_test();
-    let mut tally = Tally::default();
+    let random = &mut Random::for_test();
+    let tally = RefCell::new(Tally::default());
     for draw in SMALL {
-        for _ in 0..8_000 {
-            let mut sheet = match random.between(1, 10) {
-                1 => draw.near_names(&mut random),
-                2 => draw.crowd(&mut random),
-                _ => draw.sheet(&mut random),
-            };
-            for _ in 0..random.between(0, 2) {
-                if !sheet.is_empty() {
-                    sheet = damaged(&sheet, &mut random);
-                }
-            }
-            let _ = tally.sheet(&sheet, Way::Stretches);
+        let sheets = strategies::damaged_sheets(draw);
+        let failed = smallest_failure(&sheets, 8_000, random, |sheet| {
+            let sheet = sheet.bytes();
+            let expected = listing::of_sheet(&sheet, Way::Stretches).map_err(refusal);
+            tally.borrow_mut().compare(&sheet, &expected)
+        });
+        if let Some((why, sheet)) = failed {
+            panic!("the smallest sheet found on which they differ:\n{sheet:?}\n{why}");
         }
     }
+    let tally = tally.into_inner();
     println!("{tally}");
     assert!(tally.with_split > 100);
     assert!(tally.refused[1..=8].iter().all(|&times| times > 20));

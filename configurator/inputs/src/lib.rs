@@ -3,6 +3,7 @@
 //! - [`random`]: random numbers from a seed that is printed.
 //! - [`cores`]: cores by hand, at random, and as the bytes that the library is lent.
 //! - [`sheets`]: sheets and scripts at random, and damaged.
+//! - [`strategies`]: sheets that shrink, so that a failure is told by a small one.
 //! - [`stated`]: the cases with stated answers, in `tests/data`.
 
 #![deny(missing_docs)]
@@ -13,6 +14,7 @@ pub mod cores;
 pub mod random;
 pub mod sheets;
 pub mod stated;
+pub mod strategies;
 
 pub use random::Random;
 pub use stated::{bytes, cases, data};

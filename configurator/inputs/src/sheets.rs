@@ -1,4 +1,6 @@
-//! Sheets and scripts for the tests, at random and damaged.
+//! Sheets and scripts, at random and damaged.
+
+use std::fmt::Write as _;
 
 use crate::random::Random;
 
@@ -20,7 +22,7 @@ piece\t2\tweld\twhole\t6\t10\t0\t6
 ";
 
 /// Names that differ in little: in case, in one byte, in length, in what part of a name may be.
-const NAMES: [&str; 12] = [
+pub(crate) const NAMES: [&str; 12] = [
     "a",
     "A",
     "aa",
@@ -47,6 +49,57 @@ const OTHER_LINES: [&str; 8] = [
     "add\tt1\t1\t1\t1\t0\t0\t10000000\n",
 ];
 
+/// A sheet by its lines, whether it breaks a rule or not.
+#[derive(Clone, Debug, PartialEq, Eq)]
+pub struct Sheet {
+    /// The cores.
+    pub cores: u64,
+    /// The grain.
+    pub grain: u64,
+    /// The nine costs.
+    pub costs: [u64; 9],
+    /// Each part's name, and its C, D, T, J, P, M.
+    pub parts: Vec<(String, [u64; 6])>,
+    /// Each task's name, and its part's.
+    pub fits: Vec<(String, String)>,
+}
+
+impl Sheet {
+    /// The sheet's bytes.
+    ///
+    /// ```
+    /// use inputs::sheets::{Sheet, SHEET};
+    ///
+    /// let fit = |task: &str| (task.to_owned(), "drv-a".to_owned());
+    /// let sheet = Sheet {
+    ///     cores: 2,
+    ///     grain: 1,
+    ///     costs: [0; 9],
+    ///     parts: vec![("drv-a".to_owned(), [6, 10, 10, 0, 0, 1])],
+    ///     fits: ["press", "feed", "weld"].map(fit).to_vec(),
+    /// };
+    /// assert_eq!(sheet.bytes(), SHEET.as_bytes());
+    /// ```
+    #[must_use]
+    pub fn bytes(&self) -> Vec<u8> {
+        let mut text = format!("machine\t{}\t{}\n", self.cores, self.grain);
+        let _ = writeln!(text, "cost\t{}", tabbed(&self.costs));
+        for (name, times) in &self.parts {
+            let _ = writeln!(text, "part\t{name}\t{}", tabbed(times));
+        }
+        for (task, part) in &self.fits {
+            let _ = writeln!(text, "fit\t{task}\t{part}");
+        }
+        text.into_bytes()
+    }
+}
+
+/// Numbers parted by tabs.
+fn tabbed(numbers: &[u64]) -> String {
+    let numbers: Vec<String> = numbers.iter().map(u64::to_string).collect();
+    numbers.join("\t")
+}
+
 /// How random sheets are drawn.
 #[derive(Clone, Copy)]
 pub struct SheetDraw {
@@ -66,64 +119,28 @@ impl SheetDraw {
     pub fn sheet(&self, random: &mut Random) -> Vec<u8> {
         let cores = random.between(1, self.cores);
         let grain = random.pick(&[1, 1, 1, 1, 2, 5]);
-        let costs: Vec<String> = (0..9).map(|_| self.charge(random).to_string()).collect();
+        let costs = [0; 9].map(|_: u64| self.charge(random));
         let tasks = random.between(0, 3 * cores);
         let parts = random.between(1, tasks + 1);
         let share = cores * random.between(40, 110) / (tasks + 1);
-        let mut lines = vec![
-            format!("machine\t{cores}\t{grain}\n"),
-            format!("cost\t{}\n", costs.join("\t")),
-        ];
-        for part in 0..parts {
-            lines.push(format!("part\tp{part}\t{}\n", self.times(share, random)));
-        }
-        for task in 0..tasks {
+        let part = |number, random: &mut Random| (format!("p{number}"), self.times(share, random));
+        let fit = |number, random: &mut Random| {
             let part = random.between(0, parts - 1);
-            lines.push(format!("fit\tt{task}\tp{part}\n"));
-        }
-        lines.concat().into_bytes()
+            (format!("t{number}"), format!("p{part}"))
+        };
+        let sheet = Sheet {
+            cores,
+            grain,
+            costs,
+            parts: (0..parts).map(|number| part(number, random)).collect(),
+            fits: (0..tasks).map(|number| fit(number, random)).collect(),
+        };
+        sheet.bytes()
     }
 
-    /// A sheet whose names differ in little. Now and then a part or a task comes twice, or a task is
-    /// fitted with a part that isn't there.
-    pub fn near_names(&self, random: &mut Random) -> Vec<u8> {
-        let cores = random.between(1, self.cores);
-        let known = &NAMES[..=random.place(NAMES.len())];
-        let costs: Vec<String> = (0..9).map(|_| self.charge(random).to_string()).collect();
-        let head = format!("machine\t{cores}\t1\ncost\t{}\n", costs.join("\t"));
-        let mut lines = vec![head];
-        for &name in known {
-            let name = if random.once_in(100) { "a" } else { name };
-            lines.push(format!("part\t{name}\t{}\n", self.times(20, random)));
-        }
-        for &name in &NAMES[..random.place(NAMES.len())] {
-            let name = if random.once_in(20) { "a" } else { name };
-            let fitted = if random.once_in(20) { &NAMES } else { known };
-            let part = random.pick(fitted);
-            lines.push(format!("fit\t{name}\t{part}\n"));
-        }
-        lines.concat().into_bytes()
-    }
-
-    /// A sheet with about as many parts and tasks as there may be, or a few more.
-    pub fn crowd(&self, random: &mut Random) -> Vec<u8> {
-        let cores = random.between(1, self.cores);
-        let (parts, tasks) = (random.between(58, 66), random.between(58, 66));
-        let head = format!("machine\t{cores}\t1\ncost\t0\t0\t0\t0\t0\t0\t0\t0\t0\n");
-        let mut lines = vec![head];
-        for part in 0..parts {
-            lines.push(format!("part\tp{part}\t{}\n", self.times(1, random)));
-        }
-        for task in 0..tasks {
-            let part = random.between(0, parts - 1);
-            lines.push(format!("fit\tt{task}\tp{part}\n"));
-        }
-        lines.concat().into_bytes()
-    }
-
-    /// The six numbers of a part, parted by tabs, within the sizes. The budget is about that share
-    /// of the period, in hundredths.
-    fn times(&self, share: u64, random: &mut Random) -> String {
+    /// The six numbers of a part, within the sizes. The budget is about that share of the period, in
+    /// hundredths.
+    fn times(&self, share: u64, random: &mut Random) -> [u64; 6] {
         let period = random.between(1, self.period);
         let budget = period * random.between(1, 2 * share + 1) / 100;
         let budget = budget.clamp(1, period);
@@ -138,7 +155,7 @@ impl SheetDraw {
             0
         };
         let (preemption, migration) = (self.charge(random), self.charge(random));
-        format!("{budget}\t{deadline}\t{period}\t{jitter}\t{preemption}\t{migration}")
+        [budget, deadline, period, jitter, preemption, migration]
     }
 
     /// A script of that many lines: edits with names that are held or not, formed or not, lists,
@@ -154,7 +171,7 @@ impl SheetDraw {
                 _ => format!("t{}", random.between(0, 3 * self.cores)),
             };
             let share = random.between(5, 60);
-            let times = self.times(share, random);
+            let times = tabbed(&self.times(share, random));
             let line = match random.between(1, 12) {
                 1..=4 => format!("add\t{name}\t{times}\n"),
                 5..=7 => format!("withdraw\t{name}\n"),
@@ -182,12 +199,15 @@ impl SheetDraw {
 pub fn full_load(cost: u64, random: &mut Random) -> Vec<u8> {
     let (unit, spare) = if cost == 0 { (1, 10) } else { (20, 25) };
     let cores = random.between(2, 8);
-    let costs: Vec<String> = (0..9)
-        .map(|_| random.between(0, cost).to_string())
-        .collect();
+    let mut sheet = Sheet {
+        cores,
+        grain: 1,
+        costs: [0; 9].map(|_: u64| random.between(0, cost)),
+        parts: Vec::new(),
+        fits: Vec::new(),
+    };
     let mut left = 60 * cores - random.between(0, spare * cores); // sixtieths of a core
-    let (mut parts, mut fits) = (Vec::new(), Vec::new());
-    while left > 0 && fits.len() < 64 {
+    while left > 0 && sheet.fits.len() < 64 {
         let period = random.pick(&[5, 6, 10, 12, 15, 20, 30, 60]);
         let tick = 60 / period;
         if tick > left {
@@ -196,67 +216,107 @@ pub fn full_load(cost: u64, random: &mut Random) -> Vec<u8> {
         let budget = random.between(1, (left / tick).min(period));
         left -= budget * tick;
         let (budget, period) = (unit * budget, unit * period);
-        let charges = format!("{}\t{}", random.between(0, cost), random.pick(&[0, 0, 1]));
-        let number = fits.len();
-        parts.push(format!(
-            "part\tp{number}\t{budget}\t{period}\t{period}\t0\t{charges}\n"
-        ));
-        fits.push(format!("fit\tt{number}\tp{number}\n"));
+        let (preemption, migration) = (random.between(0, cost), random.pick(&[0, 0, 1]));
+        let part = format!("p{}", sheet.parts.len());
+        let times = [budget, period, period, 0, preemption, migration];
+        sheet.parts.push((part.clone(), times));
+        sheet.fits.push((format!("t{}", sheet.fits.len()), part));
     }
-    let head = format!("machine\t{cores}\t1\ncost\t{}\n", costs.join("\t"));
-    (head + &parts.concat() + &fits.concat()).into_bytes()
+    sheet.bytes()
 }
 
-/// A sheet with a byte changed, dropped or doubled, two lines swapped, a line dropped or doubled, a
-/// field changed, or the end cut off.
-pub fn damaged(sheet: &[u8], random: &mut Random) -> Vec<u8> {
-    let mut bytes = sheet.to_vec();
-    let at = random.place(bytes.len());
-    let mut lines: Vec<&[u8]> = sheet.split_inclusive(|&byte| byte == b'\n').collect();
-    let (one, other) = (random.place(lines.len()), random.place(lines.len()));
-    match random.between(1, 10) {
-        1 => bytes[at] = random.byte(),
-        2 => bytes[at] = random.pick(b"\t\n09azAZ-. _"),
-        3 => {
-            bytes.remove(at);
+/// One damage to a sheet's bytes. Places and lines count round from the beginning, so that every
+/// number is one.
+#[derive(Clone, Copy, Debug, PartialEq, Eq)]
+pub enum Damage {
+    /// The byte at a place becomes another.
+    Change(u64, u8),
+    /// The byte at a place goes.
+    Drop(u64),
+    /// The byte at a place comes twice.
+    Double(u64),
+    /// All from a place on goes.
+    Cut(u64),
+    /// Two lines change places.
+    SwapLines(u64, u64),
+    /// A line goes.
+    DropLine(u64),
+    /// A line comes once more, before another.
+    DoubleLine(u64, u64),
+    /// Of a line, a field becomes another.
+    Field(u64, u64, &'static str),
+}
+
+/// Fields that a damage puts in: at the sizes and about, of no form, and names.
+pub(crate) const FIELDS: [&str; 13] = [
+    "0", "00", "1", "17", "100000", "100001", "1000000", "1000001", "9999999", "10000000", "",
+    "p0", "t0",
+];
+
+impl Damage {
+    /// A sheet with this damage. One without bytes stays as it is.
+    ///
+    /// ```
+    /// use inputs::sheets::Damage;
+    ///
+    /// assert_eq!(Damage::Field(1, 0, "17").of(b"a\tb\nc\td\n"), b"a\tb\n17\td\n");
+    /// assert_eq!(Damage::Cut(5).of(b"abc"), b"ab");
+    /// ```
+    #[must_use]
+    #[allow(clippy::cast_possible_truncation)] // a place is below a length
+    pub fn of(self, sheet: &[u8]) -> Vec<u8> {
+        let mut bytes = sheet.to_vec();
+        let mut lines: Vec<&[u8]> = sheet.split_inclusive(|&byte| byte == b'\n').collect();
+        if bytes.is_empty() {
+            return bytes;
         }
-        4 => bytes.insert(at, bytes[at]),
-        5 => bytes.truncate(at),
-        6 => {
-            lines.swap(one, other);
-            bytes = lines.concat();
+        let (length, count) = (bytes.len() as u64, lines.len() as u64);
+        let (byte, line) = (|at| (at % length) as usize, |at| (at % count) as usize);
+        match self {
+            Damage::Change(at, other) => bytes[byte(at)] = other,
+            Damage::Drop(at) => {
+                bytes.remove(byte(at));
+            }
+            Damage::Double(at) => bytes.insert(byte(at), sheet[byte(at)]),
+            Damage::Cut(at) => bytes.truncate(byte(at)),
+            Damage::SwapLines(one, other) => {
+                lines.swap(line(one), line(other));
+                bytes = lines.concat();
+            }
+            Damage::DropLine(one) => {
+                lines.remove(line(one));
+                bytes = lines.concat();
+            }
+            Damage::DoubleLine(one, other) => {
+                lines.insert(line(other), lines[line(one)]);
+                bytes = lines.concat();
+            }
+            Damage::Field(one, at, field) => {
+                let mut fields: Vec<&[u8]> = lines[line(one)].split(|&b| b == b'\t').collect();
+                let place = (at % fields.len() as u64) as usize;
+                fields[place] = field.as_bytes();
+                let other = fields.join(&b'\t');
+                lines[line(one)] = &other;
+                bytes = lines.concat();
+            }
         }
-        7 => {
-            lines.remove(one);
-            bytes = lines.concat();
-        }
-        8 => {
-            lines.insert(other, lines[one]);
-            bytes = lines.concat();
-        }
-        _ => {
-            let mut fields: Vec<&[u8]> = lines[one].split(|&byte| byte == b'\t').collect();
-            let field = random.place(fields.len());
-            fields[field] = random.pick(&[
-                &b"0"[..],
-                b"00",
-                b"1",
-                b"17",
-                b"100000",
-                b"100001",
-                b"1000000",
-                b"1000001",
-                b"9999999",
-                b"10000000",
-                b"",
-                b"p0",
-                b"t0",
-            ]);
-            lines.remove(one);
-            let line = fields.join(&b'\t');
-            lines.insert(one, &line);
-            bytes = lines.concat();
-        }
+        bytes
     }
-    bytes
+}
+
+/// A sheet with a damage by chance.
+pub fn damaged(sheet: &[u8], random: &mut Random) -> Vec<u8> {
+    let (at, one, other) = (random.any(), random.any(), random.any());
+    let damage = match random.between(1, 10) {
+        1 => Damage::Change(at, random.byte()),
+        2 => Damage::Change(at, random.pick(b"\t\n09azAZ-. _")),
+        3 => Damage::Drop(at),
+        4 => Damage::Double(at),
+        5 => Damage::Cut(at),
+        6 => Damage::SwapLines(one, other),
+        7 => Damage::DropLine(one),
+        8 => Damage::DoubleLine(one, other),
+        _ => Damage::Field(one, random.any(), random.pick(&FIELDS)),
+    };
+    damage.of(sheet)
 }
