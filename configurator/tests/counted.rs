@@ -16,7 +16,7 @@ use std::fmt::Write as _;
 
 use configurator::plan;
 use counted::Lean;
-use inputs::sheets::{full_load, SheetDraw};
+use inputs::sheets::{full_load, SheetDraw, SMALL};
 use inputs::{bytes, cases, Random};
 use tally::{Counts, Silent};
 
@@ -57,20 +57,11 @@ fn cases_of_the_data() {
 fn random_sheets() {
     let mut random = Random::for_test();
     let mut splits = 0;
-    for (cores, period, cost, jitter) in [
-        (4, 12, 0, 0),
-        (5, 30, 0, 6),
-        (4, 120, 2, 0),
-        (3, 200, 4, 30),
-        (8, 4_000, 20, 50),
-        (16, 1_000_000, 500, 20_000),
-    ] {
-        let draw = SheetDraw {
-            cores,
-            period,
-            cost,
-            jitter,
-        };
+    let long = [
+        SheetDraw::new(8, 4_000, 20, 50),
+        SheetDraw::new(16, 1_000_000, 500, 20_000),
+    ];
+    for draw in SMALL[..4].iter().chain(&long) {
         for _ in 0..1_000 {
             splits += compare(&draw.sheet(&mut random));
         }

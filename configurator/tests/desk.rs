@@ -4,7 +4,7 @@
 
 #![warn(clippy::all, clippy::pedantic)]
 
-use inputs::sheets::{full_load, SheetDraw};
+use inputs::sheets::{full_load, SMALL};
 use inputs::{bytes, cases, Random};
 use plain::desk::play;
 use plain::verdict::Way;
@@ -70,32 +70,24 @@ fn stated_scripts() {
 /// Scripts of 1 to 60 edits over light, heavy and nearly full sheets.
 #[test]
 fn random_scripts() {
-    let draws = [
-        (4, 12, 0, 0, Way::EveryLength),
-        (5, 30, 0, 6, Way::EveryLength),
-        (4, 120, 2, 0, Way::Stretches),
-        (3, 200, 4, 30, Way::Stretches),
-        (16, 20, 1, 1, Way::EveryLength),
-    ];
     let mut random = Random::for_test();
     let file = NamedTempFile::new().unwrap();
     let mut counts = BTreeMap::new();
     let mut compared = 0;
     for round in 0..420 {
-        for &(cores, period, cost, jitter, way) in &draws {
-            let draw = SheetDraw {
-                cores,
-                period,
-                cost,
-                jitter,
-            };
-            let sheet = if round % 4 == 0 && cost == 0 {
+        for draw in &SMALL {
+            let sheet = if round % 4 == 0 && draw.cost == 0 {
                 full_load(0, &mut random)
             } else {
                 draw.sheet(&mut random)
             };
             let lines = random.between(1, 60);
             let script = draw.script(lines, &mut random);
+            let way = if draw.period > 100 {
+                Way::Stretches
+            } else {
+                Way::EveryLength
+            };
             let expected = play(&sheet, &script, way);
             let answers = answers(&file, &sheet, &script);
             assert!(

@@ -92,6 +92,17 @@ pub struct Draw {
 }
 
 impl Draw {
+    /// A draw by its numbers: pieces, period, jitter, cost.
+    #[must_use]
+    pub const fn new(pieces: u64, period: u64, jitter: u64, cost: u64) -> Self {
+        Draw {
+            pieces,
+            period,
+            jitter,
+            cost,
+        }
+    }
+
     /// A core with up to that many pieces and a load from light to more than full.
     pub fn core(&self, random: &mut Random) -> Core {
         let costs = Costs::from_numbers([0; 9].map(|_: u64| self.charge(random)));
@@ -138,6 +149,20 @@ impl Draw {
             0
         } else {
             random.between(0, self.cost)
+        }
+    }
+}
+
+/// A budget and a period for a part of what is left of some cores, in sixtieths of one, which is then
+/// taken away. There must be something left.
+pub fn share_of(left: &mut u64, random: &mut Random) -> (u64, u64) {
+    loop {
+        let period = random.pick(&[5, 6, 10, 12, 15, 20, 30, 60]);
+        let tick = 60 / period;
+        if tick <= *left {
+            let budget = random.between(1, (*left / tick).min(period));
+            *left -= budget * tick;
+            return (budget, period);
         }
     }
 }

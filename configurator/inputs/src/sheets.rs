@@ -2,6 +2,7 @@
 
 use std::fmt::Write as _;
 
+use crate::cores::share_of;
 use crate::random::Random;
 
 /// Document 01's sheet.
@@ -113,7 +114,27 @@ pub struct SheetDraw {
     pub jitter: u64,
 }
 
+/// Draws of small sheets, for which the oracle can look at every length.
+pub const SMALL: [SheetDraw; 5] = [
+    SheetDraw::new(4, 12, 0, 0),
+    SheetDraw::new(5, 30, 0, 6),
+    SheetDraw::new(4, 120, 2, 0),
+    SheetDraw::new(3, 200, 4, 30),
+    SheetDraw::new(16, 20, 1, 1),
+];
+
 impl SheetDraw {
+    /// A draw by its numbers: cores, period, cost, jitter.
+    #[must_use]
+    pub const fn new(cores: u64, period: u64, cost: u64, jitter: u64) -> Self {
+        SheetDraw {
+            cores,
+            period,
+            cost,
+            jitter,
+        }
+    }
+
     /// A sheet that breaks no rule, but may be refused with 7. Its load is from light to more than
     /// the cores can take.
     pub fn sheet(&self, random: &mut Random) -> Vec<u8> {
@@ -208,13 +229,7 @@ pub fn full_load(cost: u64, random: &mut Random) -> Vec<u8> {
     };
     let mut left = 60 * cores - random.between(0, spare * cores); // sixtieths of a core
     while left > 0 && sheet.fits.len() < 64 {
-        let period = random.pick(&[5, 6, 10, 12, 15, 20, 30, 60]);
-        let tick = 60 / period;
-        if tick > left {
-            continue;
-        }
-        let budget = random.between(1, (left / tick).min(period));
-        left -= budget * tick;
+        let (budget, period) = share_of(&mut left, random);
         let (budget, period) = (unit * budget, unit * period);
         let (preemption, migration) = (random.between(0, cost), random.pick(&[0, 0, 1]));
         let part = format!("p{}", sheet.parts.len());

@@ -33,9 +33,11 @@ impl Damaged {
 }
 
 impl fmt::Debug for Damaged {
+    /// The bytes as text, and once more as Rust writes them.
     fn fmt(&self, f: &mut fmt::Formatter<'_>) -> fmt::Result {
-        let text = String::from_utf8_lossy(&self.bytes()).into_owned();
-        write!(f, "{text}{text:?}\nafter {:?}", self.damages)
+        let bytes = self.bytes();
+        let (text, literal) = (String::from_utf8_lossy(&bytes), bytes.escape_ascii());
+        write!(f, "{text}b\"{literal}\"\nafter {:?}", self.damages)
     }
 }
 
@@ -259,12 +261,7 @@ mod tests {
     use plain::refusal::Refusal;
     use plain::verdict::Way;
 
-    const DRAW: SheetDraw = SheetDraw {
-        cores: 4,
-        period: 120,
-        cost: 2,
-        jitter: 6,
-    };
+    const DRAW: SheetDraw = SheetDraw::new(4, 120, 2, 6);
 
     /// The smallest sheet found that the oracle answers so, as text.
     fn smallest(so: impl Fn(Result<Vec<u8>, Refusal>) -> bool) -> String {
