@@ -4,7 +4,7 @@
 
 #![allow(clippy::many_single_char_names)] // the letters are those of document 01 and of the source
 
-use configurator::plain::piece::Costs;
+use plain::piece::Costs;
 
 use crate::sheets::{first_of, last_of, Lane, Way};
 use crate::tally::{Event, Settled, Tally};

@@ -4,10 +4,10 @@
 use std::fmt::Write as _;
 use std::time::{Duration, Instant};
 
-use configurator::plain::piece::Costs;
+use inputs::Random;
+use plain::piece::Costs;
 
 use crate::counted::Lean;
-use crate::loads::Random;
 use crate::sheets::{self, Lane, Sheet, Task};
 use crate::tally::Counts;
 

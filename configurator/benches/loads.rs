@@ -2,35 +2,9 @@
 //! special sheets, and cores made to be slow. Random numbers come from a fixed seed.
 
 use std::fmt::Write as _;
-use std::fs;
-use std::path::Path;
 
-/// The seed of all loads.
-pub const SEED: u64 = 20_231_115;
-
-/// Random numbers by splitmix64.
-pub struct Random(pub u64);
-
-impl Random {
-    /// Any number.
-    pub fn any(&mut self) -> u64 {
-        self.0 = self.0.wrapping_add(0x9E37_79B9_7F4A_7C15);
-        let mut z = self.0;
-        z = (z ^ (z >> 30)).wrapping_mul(0xBF58_476D_1CE4_E5B9);
-        z = (z ^ (z >> 27)).wrapping_mul(0x94D0_49BB_1331_11EB);
-        z ^ (z >> 31)
-    }
-
-    /// A number from `least` to `most`, both counted in.
-    pub fn between(&mut self, least: u64, most: u64) -> u64 {
-        least + self.any() % (most - least + 1)
-    }
-
-    /// From 0 to 1, and not 1.
-    pub fn unit(&mut self) -> f64 {
-        (self.any() >> 11) as f64 / (1_u64 << 53) as f64
-    }
-}
+use inputs::random::SEED;
+use inputs::{bytes, cases, Random};
 
 /// Where a workload comes from.
 #[derive(Clone, Copy, Debug, Default, PartialEq, Eq)]
@@ -158,7 +132,7 @@ fn utilisations(cores: u32, least: usize, most: usize) -> Vec<f64> {
 
 /// All workloads; `each` is about how many sheets one has for each twelfth of it.
 pub fn loads(each: usize) -> Vec<Load> {
-    let random = &mut Random(SEED);
+    let random = &mut Random::new(SEED);
     let mut loads = Vec::new();
     for costs in [true, false] {
         for tasks in [12, 16, 24] {
@@ -242,22 +216,12 @@ pub fn loads(each: usize) -> Vec<Load> {
 
 /// The sheets of `tests/data/special`, each a workload of one.
 fn special() -> Vec<Load> {
-    let folder = Path::new(env!("CARGO_MANIFEST_DIR")).join("tests/data/special");
-    let mut loads: Vec<Load> = fs::read_dir(folder)
-        .expect("the special sheets are there")
-        .map(|entry| entry.expect("a file").path())
-        .filter(|path| path.extension().map_or(false, |ending| ending == "sheet"))
-        .map(|path| Load {
-            name: format!(
-                "special, {}",
-                path.file_stem().unwrap_or_default().to_string_lossy()
-            ),
-            source: Source::Asked,
-            sheets: vec![fs::read(&path).expect("a sheet")],
-        })
-        .collect();
-    loads.sort_by(|a, b| a.name.cmp(&b.name));
-    loads
+    let load = |name: &String| Load {
+        name: format!("special, {name}"),
+        source: Source::Asked,
+        sheets: vec![bytes("special", &format!("{name}.sheet"))],
+    };
+    cases("special", ".sheet").iter().map(load).collect()
 }
 
 /// A core made to be slow.

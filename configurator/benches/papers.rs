@@ -5,7 +5,7 @@
 //! first; it can be left out, and the judged span of document 01 can be taken for 001's, to see what
 //! they change. The costs, the packing order and the walk are document 01's.
 
-use configurator::plain::piece::Costs;
+use plain::piece::Costs;
 
 use crate::sheets::{first_of, last_of, Lane, Way};
 use crate::tally::{Event, Settled, Tally};

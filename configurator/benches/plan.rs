@@ -35,7 +35,8 @@ use std::time::{Duration, Instant};
 use configurator::{ffi, plan_into, Answer, Listed};
 
 use counted::{Lean, Verdict};
-use loads::{Load, Random, Slow};
+use inputs::random::{self, Random};
+use loads::{Load, Slow};
 use papers::Papers;
 use report::{median, Measured, SlowCore, Timed, COLUMNS};
 use sheets::{Placed, Sheet};
@@ -93,7 +94,7 @@ fn main() {
     }
     let slow: Vec<SlowCore> = loads::slow().iter().map(measure_slow).collect();
     if options.json {
-        println!("{}", report::json(&measured, &slow));
+        println!("{:#}", report::json(&measured, &slow));
     } else {
         println!("{}", report::tables(&measured, &slow));
     }
@@ -129,9 +130,7 @@ fn spin(name: &str) {
 
 /// Searches for slow inputs.
 fn hunt(time: Duration) {
-    let seed = env::var("SPARDIMPLE_SEED").ok();
-    let seed = seed.and_then(|seed| seed.parse().ok());
-    let random = &mut Random(seed.unwrap_or(loads::SEED));
+    let random = &mut Random::new(random::seed());
     let (candidates, sheet) = hunts::splits(time / 2, random);
     println!("{candidates} candidates for one split:\n{sheet}");
     let (steps, core) = hunts::climbs(time / 2, random);

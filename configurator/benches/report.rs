@@ -5,6 +5,8 @@ use std::fs;
 use std::io;
 use std::path::Path;
 
+use serde_json::{json, Value};
+
 use crate::loads::Source;
 use crate::tally::Counts;
 
@@ -475,99 +477,89 @@ fn slow_table(slow: &[SlowCore]) -> String {
 }
 
 /// All that was measured, as one object.
-pub fn json(loads: &[Measured], slow: &[SlowCore]) -> String {
-    let loads: Vec<String> = loads.iter().map(load_json).collect();
-    let slow: Vec<String> = slow.iter().map(slow_json).collect();
-    format!(
-        "{{\"seed\": {}, \"workloads\": [\n  {}\n], \"slow_cores\": [\n  {}\n]}}",
-        crate::loads::SEED,
-        loads.join(",\n  "),
-        slow.join(",\n  ")
-    )
+pub fn json(loads: &[Measured], slow: &[SlowCore]) -> Value {
+    let loads: Vec<Value> = loads.iter().map(load_json).collect();
+    let slow: Vec<Value> = slow.iter().map(slow_json).collect();
+    json!({ "seed": inputs::random::SEED, "workloads": loads, "slow_cores": slow })
 }
 
-fn load_json(load: &Measured) -> String {
-    format!(
-        "{{\"name\": \"{}\", \"sheets\": {}, \"planned\": {}, \"counts\": {}, \"papers\": {}, \"papers_planned\": {}, \"papers_wrong\": {}, \"papers_same\": {}, \"spanned_planned\": {}, \"spanned_wrong\": {}, \"next\": {}, \"plan\": {}, \"verdict\": {}}}",
-        load.name,
-        load.sheets,
-        load.planned,
-        counts_json(&load.counts),
-        counts_json(&load.papers),
-        load.papers_planned,
-        load.papers_wrong,
-        load.papers_same,
-        load.spanned_planned,
-        load.spanned_wrong,
-        counts_json(&load.next),
-        timed_json(&load.plan),
-        timed_json(&load.verdict)
-    )
+fn load_json(load: &Measured) -> Value {
+    json!({
+        "name": load.name,
+        "sheets": load.sheets,
+        "planned": load.planned,
+        "counts": counts_json(&load.counts),
+        "papers": counts_json(&load.papers),
+        "papers_planned": load.papers_planned,
+        "papers_wrong": load.papers_wrong,
+        "papers_same": load.papers_same,
+        "spanned_planned": load.spanned_planned,
+        "spanned_wrong": load.spanned_wrong,
+        "next": counts_json(&load.next),
+        "plan": timed_json(&load.plan),
+        "verdict": timed_json(&load.verdict),
+    })
 }
 
-fn counts_json(counts: &Counts) -> String {
+fn counts_json(counts: &Counts) -> Value {
     let list = |counts: &[u64]| {
         let spread = spread(counts);
-        format!(
-            "{{\"number\": {}, \"mean\": {:.3}, \"median\": {}, \"p99\": {}, \"most\": {}}}",
-            counts.len(),
-            spread.mean,
-            spread.median,
-            spread.high,
-            spread.most
-        )
+        json!({
+            "number": counts.len(),
+            "mean": thousandths(spread.mean),
+            "median": spread.median,
+            "p99": spread.high,
+            "most": spread.most,
+        })
     };
-    format!(
-        "{{\"demands\": {}, \"climb_steps\": {}, \"leaps\": {}, \"walks\": {}, \"tight_steps\": {}, \"stretches\": {}, \"pieces\": {}, \"divisions\": {}, \"candidates\": {}, \"lengths\": {}, \"climbs\": {}}}",
-        counts.demands,
-        counts.climbs,
-        counts.leaps,
-        counts.walks,
-        counts.tights,
-        counts.stretches,
-        counts.pieces,
-        counts.divisions,
-        list(&counts.candidates),
-        list(&counts.lengths),
-        list(&counts.steps)
-    )
+    json!({
+        "demands": counts.demands,
+        "climb_steps": counts.climbs,
+        "leaps": counts.leaps,
+        "walks": counts.walks,
+        "tight_steps": counts.tights,
+        "stretches": counts.stretches,
+        "pieces": counts.pieces,
+        "divisions": counts.divisions,
+        "candidates": list(&counts.candidates),
+        "lengths": list(&counts.lengths),
+        "climbs": list(&counts.steps),
+    })
 }
 
-fn timed_json(timed: &Timed) -> String {
-    format!(
-        "{{\"library_us\": {:.3}, \"papers_us\": {:.3}, \"by_rustc_us\": {:.3}, \"ratio\": {:.3}, \"ratio_of_sums\": {:.3}, \"by_rustc_ratio\": {:.3}}}",
-        timed.micros(Column::Library),
-        timed.micros(Column::Papers),
-        timed.micros(Column::ByRustc),
-        number(timed.ratio(Column::Library)),
-        number(timed.sums()),
-        number(timed.ratio(Column::ByRustc))
-    )
+fn timed_json(timed: &Timed) -> Value {
+    json!({
+        "library_us": thousandths(timed.micros(Column::Library)),
+        "papers_us": thousandths(timed.micros(Column::Papers)),
+        "by_rustc_us": thousandths(timed.micros(Column::ByRustc)),
+        "ratio": thousandths(timed.ratio(Column::Library)),
+        "ratio_of_sums": thousandths(timed.sums()),
+        "by_rustc_ratio": thousandths(timed.ratio(Column::ByRustc)),
+    })
 }
 
-/// A number that JSON has.
-fn number(ratio: f64) -> f64 {
-    if ratio.is_finite() {
-        ratio
+/// A number to three places; 0 for one that JSON does not have.
+fn thousandths(number: f64) -> f64 {
+    if number.is_finite() {
+        (number * 1_000.0).round() / 1_000.0
     } else {
         0.0
     }
 }
 
-fn slow_json(core: &SlowCore) -> String {
-    format!(
-        "{{\"pieces\": \"{}\", \"verdict\": \"{}\", \"climb_steps\": {}, \"leaps\": {}, \"walks\": {}, \"lengths\": {}, \"library_ms\": {:.3}, \"papers_climb_steps\": {}, \"papers_lengths\": {}, \"papers_ms\": {:.3}}}",
-        core.name,
-        core.verdict,
-        core.counts.climbs,
-        core.counts.leaps,
-        core.counts.walks,
-        core.counts.demands,
-        core.ours / 1e6,
-        core.papers.climbs,
-        core.papers.demands,
-        core.theirs / 1e6
-    )
+fn slow_json(core: &SlowCore) -> Value {
+    json!({
+        "pieces": core.name,
+        "verdict": core.verdict,
+        "climb_steps": core.counts.climbs,
+        "leaps": core.counts.leaps,
+        "walks": core.counts.walks,
+        "lengths": core.counts.demands,
+        "library_ms": thousandths(core.ours / 1e6),
+        "papers_climb_steps": core.papers.climbs,
+        "papers_lengths": core.papers.demands,
+        "papers_ms": thousandths(core.theirs / 1e6),
+    })
 }
 
 /// The plots: plan times and verdict times in the papers' program's.

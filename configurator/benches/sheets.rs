@@ -1,7 +1,7 @@
 //! What both programs of the benchmark share: a plain reader and writer, charged pieces, and the
 //! C=D walk over any way to judge and to split.
 
-use configurator::plain::piece::Costs;
+use plain::piece::Costs;
 
 /// A task: its name, and C, D, T, J, P, M.
 #[derive(Clone, Copy)]

@@ -5,8 +5,8 @@
 
 use crate::answer::Refusal;
 use crate::fault::{self, Fault, Text};
+use crate::text::shown;
 use std::fmt::Write;
-use std::str;
 
 /// The most characters that are shown of a line's fault, and of what stands on each side of it.
 const SHOWN: usize = 60;
@@ -166,40 +166,6 @@ fn lines(sheet: &[u8]) -> impl Iterator<Item = &[u8]> {
 fn fitted_task((at, line): (usize, &[u8])) -> Option<(usize, &[u8], &[u8])> {
     let name = line.strip_prefix(b"fit\t")?.split(|&byte| byte == b'\t');
     name.take(1).map(|name| (at, line, name)).next()
-}
-
-/// Bytes as text for people: a tab is `⇥`, what cannot be seen is written out, and so are bytes that are
-/// no text.
-///
-/// ```
-/// use configurator::explain::shown;
-///
-/// assert_eq!(shown(b"caf\xc3\xa9\t'\xff'\r"), "café⇥'\\xff'\\r");
-/// ```
-#[must_use]
-pub fn shown(mut bytes: &[u8]) -> String {
-    let mut text = String::new();
-    while !bytes.is_empty() {
-        let (good, bad) = match str::from_utf8(bytes) {
-            Ok(_) => (bytes.len(), 0),
-            Err(error) => {
-                let good = error.valid_up_to();
-                (good, error.error_len().unwrap_or(bytes.len() - good))
-            }
-        };
-        for c in str::from_utf8(&bytes[..good]).unwrap_or_default().chars() {
-            match c {
-                '\t' => text.push('⇥'),
-                '"' | '\'' => text.push(c),
-                _ => text.extend(c.escape_debug()),
-            }
-        }
-        for byte in &bytes[good..good + bad] {
-            let _ = write!(text, "\\x{byte:02x}");
-        }
-        bytes = &bytes[good + bad..];
-    }
-    text
 }
 
 #[cfg(test)]

@@ -5,6 +5,7 @@
 //! is.
 
 use crate::quoted::{COSTS, TIMES};
+use crate::text::shown;
 use std::ops::Range;
 use std::str;
 
@@ -99,7 +100,7 @@ struct Field<'a> {
 impl Field<'_> {
     /// The field as text; bytes that are none are shown as such.
     fn text(&self) -> String {
-        crate::explain::shown(self.bytes)
+        shown(self.bytes)
     }
 
     /// The number of a field that has the form of one.
@@ -219,21 +220,9 @@ fn missing(above: &[&[u8]], name: &Field) -> Fault {
 }
 
 /// How many letters have to be put in, taken out or changed to make one name the other; letters that
-/// differ in case alone count as near.
+/// differ in case alone count as equal.
 fn distance(one: &str, other: &str) -> usize {
-    let lower = |name: &str| name.chars().map(|c| c.to_ascii_lowercase()).collect();
-    let (one, other): (Vec<char>, Vec<char>) = (lower(one), lower(other));
-    let mut row: Vec<usize> = (0..=other.len()).collect();
-    for (i, a) in one.iter().enumerate() {
-        let mut corner = row[0];
-        row[0] = i + 1;
-        for (j, b) in other.iter().enumerate() {
-            let change = corner + usize::from(a != b);
-            corner = row[j + 1];
-            row[j + 1] = change.min(corner + 1).min(row[j] + 1);
-        }
-    }
-    row[other.len()]
+    strsim::levenshtein(&one.to_ascii_lowercase(), &other.to_ascii_lowercase())
 }
 
 /// 8: what is wrong with the line's form.

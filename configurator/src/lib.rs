@@ -10,10 +10,9 @@
 //! - [`refusals`]: the table of refusals, each with what it means and what to do.
 //! - [`explain`]: a refused sheet's sentences, with the words of the sheet that they are about, which
 //!   [`fault`] finds.
+//! - [`text`]: bytes as text for people.
 //! - [`listing`], [`quoted`]: the lines of a listing and of an accepted sheet, for tables and drawings.
 //! - [`command`]: the command for people.
-//! - [`plain`]: the oracle, document 01 done the naive way. Tests compare the library with it; it
-//!   never calls the library.
 //!
 //! Document 01's sheet, three drives of six ticks in ten on two cores, and its listing:
 //!
@@ -56,9 +55,9 @@ pub mod explain;
 pub mod fault;
 pub mod ffi;
 pub mod listing;
-pub mod plain;
 pub mod quoted;
 pub mod refusals;
+pub mod text;
 
 pub use answer::{Answer, Listed, Refusal, UnknownNumber};
 

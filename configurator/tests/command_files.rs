@@ -6,15 +6,16 @@
 mod common;
 
 use common::command::{file, folder, names, program, spardimple, spardimple_fed, text};
-use common::sheets::{LISTING, SHEET};
+use inputs::sheets::{LISTING, SHEET};
 use std::ffi::OsStr;
-use std::fs::{self, File};
+use std::fs::{self, File, Permissions};
 use std::net::Shutdown;
 use std::os::unix::ffi::OsStrExt;
-use std::os::unix::fs::symlink;
+use std::os::unix::fs::{symlink, PermissionsExt};
 use std::os::unix::io::OwnedFd;
 use std::os::unix::net::UnixStream;
-use std::process::Stdio;
+use std::path::Path;
+use std::process::{Output, Stdio};
 
 #[test]
 fn standard_input() {
@@ -178,21 +179,24 @@ fn closed() -> Stdio {
     Stdio::from(OwnedFd::from(writer))
 }
 
+/// Plans a sheet into a file.
+fn plan_into(path: &Path, sheet: &str) -> Output {
+    let words = [
+        "plan".as_ref(),
+        OsStr::new(sheet),
+        "-o".as_ref(),
+        path.as_os_str(),
+    ];
+    spardimple(&words)
+}
+
 /// What is written is whole; where the sheet is refused or the file cannot be written, it is as it
 /// was, and no other file is left.
 #[test]
 fn output_is_whole_or_not_there() {
     let folder = folder("output");
     let path = folder.join("out.listing");
-    let plan = |sheet: &str, path: &std::path::Path| {
-        let words = [
-            "plan".as_ref(),
-            OsStr::new(sheet),
-            "-o".as_ref(),
-            path.as_os_str(),
-        ];
-        spardimple(&words).status.code()
-    };
+    let plan = |sheet: &str, path: &Path| plan_into(path, sheet).status.code();
     let listing = file("examples/film-line.listing");
     assert_eq!(plan("examples/film-line.sheet", &path), Some(0));
     assert_eq!(fs::read_to_string(&path).unwrap(), listing);
@@ -228,4 +232,40 @@ fn output_is_whole_or_not_there() {
     );
     assert!(!fs::metadata("/dev/null").unwrap().is_file());
     assert_eq!(names(&folder), ["link", "out.listing"]);
+}
+
+/// A new file has the permissions that the system gives to new files, one that is there keeps its own.
+#[test]
+fn permissions_are_kept() {
+    let folder = folder("permissions");
+    let mode = |path: &Path| fs::metadata(path).unwrap().permissions().mode();
+    let (path, other) = (folder.join("out.listing"), folder.join("other"));
+    File::create(&other).unwrap();
+    let sheet = "examples/labeller.sheet";
+    assert_eq!(plan_into(&path, sheet).status.code(), Some(0));
+    assert_eq!(mode(&path), mode(&other));
+    for kept in [0o600, 0o640, 0o755] {
+        fs::set_permissions(&path, Permissions::from_mode(kept)).unwrap();
+        assert_eq!(plan_into(&path, sheet).status.code(), Some(0));
+        assert_eq!(mode(&path) & 0o777, kept);
+    }
+}
+
+/// What cannot be written is told by the file's name and the system's words.
+#[test]
+fn failed_output_is_told() {
+    let folder = folder("failed-output");
+    for (name, words) in [
+        ("none/out", "No such file or directory (os error 2)"),
+        ("file/out", "Not a directory (os error 20)"),
+        ("none/..", "this is no file's name"),
+    ] {
+        File::create(folder.join("file")).unwrap();
+        let path = folder.join(name);
+        let failed = plan_into(&path, "examples/labeller.sheet");
+        assert_eq!(failed.status.code(), Some(3), "{name}");
+        let said = format!("{}: {words}\n", path.display());
+        assert_eq!(text(&failed.stderr), said);
+    }
+    assert_eq!(names(&folder), ["file"]);
 }

@@ -5,23 +5,18 @@
 mod common;
 
 use common::command::{folder, spardimple};
-use common::sheets::{damaged, SheetDraw, SHEET};
-use common::Random;
 use configurator::command::cli::Task;
 use configurator::command::{perform, Status, Streams};
 use configurator::explain::refused;
 use configurator::plan;
+use inputs::sheets::{damaged, SheetDraw, SHEET};
+use inputs::Random;
 use std::fs;
 use std::path::Path;
 
 /// A file: bytes of any kind, bytes that sheets are made of, a damaged sheet, or a good one.
 fn random_file(random: &mut Random) -> Vec<u8> {
-    let draw = SheetDraw {
-        cores: 4,
-        period: 100,
-        cost: 2,
-        jitter: 5,
-    };
+    let draw = SheetDraw::new(4, 100, 2, 5);
     let length = match random.between(0, 9) {
         0 => random.place(20_000),
         _ => random.place(300),

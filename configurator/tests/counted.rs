@@ -3,7 +3,6 @@
 
 #![warn(clippy::all, clippy::pedantic)]
 
-mod common;
 #[path = "../benches/counted.rs"]
 mod counted;
 #[allow(dead_code)] // the benchmark uses all of it
@@ -15,10 +14,10 @@ mod tally;
 
 use std::fmt::Write as _;
 
-use common::sheets::{full_load, SheetDraw};
-use common::{bytes, cases, Random};
 use configurator::plan;
 use counted::Lean;
+use inputs::sheets::{full_load, SheetDraw, SMALL};
+use inputs::{bytes, cases, Random};
 use tally::{Counts, Silent};
 
 /// Plans a sheet by the copy, as it is and with the next ideas, and compares; gives the candidates
@@ -58,20 +57,11 @@ fn cases_of_the_data() {
 fn random_sheets() {
     let mut random = Random::for_test();
     let mut splits = 0;
-    for (cores, period, cost, jitter) in [
-        (4, 12, 0, 0),
-        (5, 30, 0, 6),
-        (4, 120, 2, 0),
-        (3, 200, 4, 30),
-        (8, 4_000, 20, 50),
-        (16, 1_000_000, 500, 20_000),
-    ] {
-        let draw = SheetDraw {
-            cores,
-            period,
-            cost,
-            jitter,
-        };
+    let long = [
+        SheetDraw::new(8, 4_000, 20, 50),
+        SheetDraw::new(16, 1_000_000, 500, 20_000),
+    ];
+    for draw in SMALL[..4].iter().chain(&long) {
         for _ in 0..1_000 {
             splits += compare(&draw.sheet(&mut random));
         }

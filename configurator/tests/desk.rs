@@ -4,55 +4,38 @@
 
 #![warn(clippy::all, clippy::pedantic)]
 
-mod common;
-
-use common::sheets::{full_load, SheetDraw};
-use common::{bytes, cases, Random};
-use configurator::plain::desk::play;
-use configurator::plain::verdict::Way;
+use inputs::sheets::{full_load, SMALL};
+use inputs::{bytes, cases, Random};
+use plain::desk::play;
+use plain::verdict::Way;
 use std::collections::BTreeMap;
 use std::io::Write;
 use std::path::PathBuf;
 use std::process::{Command, Stdio};
+use tempfile::NamedTempFile;
 
-/// A sheet's file that goes when it is done with.
-struct SheetFile(PathBuf);
-
-impl SheetFile {
-    fn new(name: &str) -> Self {
-        let file = format!("spardimple-desk-{}-{name}.sheet", std::process::id());
-        SheetFile(std::env::temp_dir().join(file))
-    }
-
-    /// What the program writes for a sheet and a script.
-    fn answers(&self, sheet: &[u8], script: &[u8]) -> Vec<u8> {
-        std::fs::write(&self.0, sheet).unwrap();
-        let desk = PathBuf::from(env!("CARGO_MANIFEST_DIR")).join("../target/bin/desk");
-        assert!(desk.exists(), "no program: run `rt check desk` first");
-        let mut command = match std::env::var_os("SPARDIMPLE_EMULATOR") {
-            Some(emulator) => {
-                let mut command = Command::new(emulator);
-                command.arg(desk);
-                command
-            }
-            None => Command::new(desk),
-        };
-        let mut child = command
-            .arg(&self.0)
-            .stdin(Stdio::piped())
-            .stdout(Stdio::piped())
-            .spawn()
-            .expect("the program runs");
-        // a refused sheet is answered before the script is read, so the pipe may be closed
-        let _ = child.stdin.take().unwrap().write_all(script);
-        child.wait_with_output().unwrap().stdout
-    }
-}
-
-impl Drop for SheetFile {
-    fn drop(&mut self) {
-        let _ = std::fs::remove_file(&self.0);
-    }
+/// What the program writes for a sheet, which is put into the file, and a script.
+fn answers(file: &NamedTempFile, sheet: &[u8], script: &[u8]) -> Vec<u8> {
+    std::fs::write(file, sheet).unwrap();
+    let desk = PathBuf::from(env!("CARGO_MANIFEST_DIR")).join("../target/bin/desk");
+    assert!(desk.exists(), "no program: run `rt check desk` first");
+    let mut command = match std::env::var_os("SPARDIMPLE_EMULATOR") {
+        Some(emulator) => {
+            let mut command = Command::new(emulator);
+            command.arg(desk);
+            command
+        }
+        None => Command::new(desk),
+    };
+    let mut child = command
+        .arg(file.path())
+        .stdin(Stdio::piped())
+        .stdout(Stdio::piped())
+        .spawn()
+        .expect("the program runs");
+    // a refused sheet is answered before the script is read, so the pipe may be closed
+    let _ = child.stdin.take().unwrap().write_all(script);
+    child.wait_with_output().unwrap().stdout
 }
 
 /// Answers by their first words: `ok`, `plan`, `refusal` with its number.
@@ -70,12 +53,12 @@ fn count(answers: &[u8], counts: &mut BTreeMap<String, u64>) {
 
 #[test]
 fn stated_scripts() {
-    let file = SheetFile::new("stated");
+    let file = NamedTempFile::new().unwrap();
     let mut compared = 0;
     for folder in ["desk", "special"] {
         for name in cases(folder, ".script") {
             let part = |ending: &str| bytes(folder, &format!("{name}{ending}"));
-            let answers = file.answers(&part(".sheet"), &part(".script"));
+            let answers = answers(&file, &part(".sheet"), &part(".script"));
             assert_eq!(answers, part(".out"), "{folder}/{name}");
             compared += 1;
         }
@@ -87,34 +70,26 @@ fn stated_scripts() {
 /// Scripts of 1 to 60 edits over light, heavy and nearly full sheets.
 #[test]
 fn random_scripts() {
-    let draws = [
-        (4, 12, 0, 0, Way::EveryLength),
-        (5, 30, 0, 6, Way::EveryLength),
-        (4, 120, 2, 0, Way::Stretches),
-        (3, 200, 4, 30, Way::Stretches),
-        (16, 20, 1, 1, Way::EveryLength),
-    ];
     let mut random = Random::for_test();
-    let file = SheetFile::new("random");
+    let file = NamedTempFile::new().unwrap();
     let mut counts = BTreeMap::new();
     let mut compared = 0;
     for round in 0..420 {
-        for &(cores, period, cost, jitter, way) in &draws {
-            let draw = SheetDraw {
-                cores,
-                period,
-                cost,
-                jitter,
-            };
-            let sheet = if round % 4 == 0 && cost == 0 {
+        for draw in &SMALL {
+            let sheet = if round % 4 == 0 && draw.cost == 0 {
                 full_load(0, &mut random)
             } else {
                 draw.sheet(&mut random)
             };
             let lines = random.between(1, 60);
             let script = draw.script(lines, &mut random);
+            let way = if draw.period > 100 {
+                Way::Stretches
+            } else {
+                Way::EveryLength
+            };
             let expected = play(&sheet, &script, way);
-            let answers = file.answers(&sheet, &script);
+            let answers = answers(&file, &sheet, &script);
             assert!(
                 answers == expected,
                 "{}\n{}\nthe program:\n{}\nthe oracle:\n{}",

@@ -9,10 +9,10 @@ use std::fs;
 use std::path::Path;
 
 use common::listings::{shown, Tally};
-use common::sheets::SHEET;
-use common::{bytes, cases};
-use configurator::plain::verdict::Way;
 use configurator::{plan, plan_into, Listed, Refusal};
+use inputs::sheets::SHEET;
+use inputs::{bytes, cases};
+use plain::verdict::Way;
 
 /// The first two lines of a sheet that is good so far.
 const HEAD: &str = "machine\t16\t1\ncost\t0\t0\t0\t0\t0\t0\t0\t0\t0\n";

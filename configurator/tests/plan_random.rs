@@ -5,28 +5,22 @@
 
 mod common;
 
+use std::cell::RefCell;
+
 use common::listings::Tally;
-use common::sheets::{damaged, full_load, SheetDraw, SHEET};
-use common::Random;
-use configurator::plain::verdict::Way;
+use common::refusal;
 use configurator::Refusal;
+use inputs::sheets::{full_load, SheetDraw, SHEET, SMALL};
+use inputs::strategies::{self, smallest_failure};
+use inputs::Random;
+use plain::listing;
+use plain::verdict::Way;
 
-/// Small sheets, for which the oracle looks at every length.
-const SMALL: [SheetDraw; 5] = [
-    draw(4, 12, 0, 0),
-    draw(5, 30, 0, 6),
-    draw(4, 120, 2, 0),
-    draw(3, 200, 4, 30),
-    draw(16, 20, 1, 1),
-];
-
-const fn draw(cores: u64, period: u64, cost: u64, jitter: u64) -> SheetDraw {
-    SheetDraw {
-        cores,
-        period,
-        cost,
-        jitter,
-    }
+/// No sheet breaks a rule, and more than one in so many is planned with a split, or has no room.
+fn assert_often(tally: &Tally, one_in: u64) {
+    let least = tally.compared() / one_in;
+    assert!(tally.with_split > least && tally.refused[7] > least);
+    assert_eq!(tally.accepted + tally.refused[7], tally.compared());
 }
 
 #[test]
@@ -39,9 +33,7 @@ fn whole_sheets() {
         }
     }
     println!("{tally}");
-    let least = tally.compared() / 20;
-    assert!(tally.with_split > least && tally.refused[7] > least);
-    assert_eq!(tally.accepted + tally.refused[7], tally.compared());
+    assert_often(&tally, 20);
 }
 
 /// Loads near the most that the cores can take, without costs and with some.
@@ -55,9 +47,7 @@ fn full_loads() {
         }
         println!("costs up to {cost}, the sum so far: {tally}");
     }
-    let least = tally.compared() / 5;
-    assert!(tally.with_split > least && tally.refused[7] > least);
-    assert_eq!(tally.accepted + tally.refused[7], tally.compared());
+    assert_often(&tally, 5);
 }
 
 /// Times as a controller has them, with a grain that leaves the oracle few splits to try.
@@ -66,9 +56,9 @@ fn long_times() {
     let mut random = Random::for_test();
     let mut tally = Tally::default();
     for (draw, grain) in [
-        (draw(8, 4_000, 20, 50), 10),
-        (draw(6, 50_000, 100, 500), 250),
-        (draw(16, 1_000_000, 500, 20_000), 5_000),
+        (SheetDraw::new(8, 4_000, 20, 50), 10),
+        (SheetDraw::new(6, 50_000, 100, 500), 250),
+        (SheetDraw::new(16, 1_000_000, 500, 20_000), 5_000),
     ] {
         for _ in 0..800 {
             let sheet = String::from_utf8(draw.sheet(&mut random)).unwrap();
@@ -79,31 +69,27 @@ fn long_times() {
         }
     }
     println!("{tally}");
-    let least = tally.compared() / 5;
-    assert!(tally.with_split > least && tally.refused[7] > least);
-    assert_eq!(tally.accepted + tally.refused[7], tally.compared());
+    assert_often(&tally, 5);
 }
 
-/// Each number of a refusal that a sheet of fewer than 16,385 bytes can have comes up.
+/// Sheets whole and damaged; where the library and the oracle differ, a small one is told. Each
+/// number of a refusal that a sheet of fewer than 16,385 bytes can have comes up.
 #[test]
 fn damaged_sheets() {
-    let mut random = Random::for_test();
-    let mut tally = Tally::default();
+    let random = &mut Random::for_test();
+    let tally = RefCell::new(Tally::default());
     for draw in SMALL {
-        for _ in 0..8_000 {
-            let mut sheet = match random.between(1, 10) {
-                1 => draw.near_names(&mut random),
-                2 => draw.crowd(&mut random),
-                _ => draw.sheet(&mut random),
-            };
-            for _ in 0..random.between(0, 2) {
-                if !sheet.is_empty() {
-                    sheet = damaged(&sheet, &mut random);
-                }
-            }
-            let _ = tally.sheet(&sheet, Way::Stretches);
+        let sheets = strategies::damaged_sheets(draw);
+        let failed = smallest_failure(&sheets, 8_000, random, |sheet| {
+            let sheet = sheet.bytes();
+            let expected = listing::of_sheet(&sheet, Way::Stretches).map_err(refusal);
+            tally.borrow_mut().compare(&sheet, &expected)
+        });
+        if let Some((why, sheet)) = failed {
+            panic!("the smallest sheet found on which they differ:\n{sheet:?}\n{why}");
         }
     }
+    let tally = tally.into_inner();
     println!("{tally}");
     assert!(tally.with_split > 100);
     assert!(tally.refused[1..=8].iter().all(|&times| times > 20));

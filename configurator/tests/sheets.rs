@@ -5,17 +5,18 @@
 
 mod common;
 
-use common::sheets::{LISTING, SHEET};
-use configurator::plain::verdict::Way;
-use configurator::plain::{listing, sheet};
+use common::refusal;
 use configurator::Refusal;
+use inputs::sheets::{LISTING, SHEET};
+use plain::verdict::Way;
+use plain::{listing, sheet};
 
 /// The first two lines of a sheet that is good so far.
 const HEAD: &str = "machine\t2\t1\ncost\t0\t0\t0\t0\t0\t0\t0\t0\t0\n";
 
 /// The listing of a sheet as text, by the library and the same by the oracle.
 fn listed(sheet: &str) -> Result<String, Refusal> {
-    let listing = listing::of_sheet(sheet.as_bytes(), Way::EveryLength);
+    let listing = listing::of_sheet(sheet.as_bytes(), Way::EveryLength).map_err(refusal);
     let by_library = configurator::plan(sheet.as_bytes());
     assert_eq!(by_library, Ok(listing.clone()), "{sheet:?}");
     Ok(String::from_utf8(listing?).unwrap())
@@ -50,28 +51,6 @@ piece\t2\ttau2\tlast\t32\t66\t0\t33
 piece\t2\ttau3\twhole\t66\t100\t0\t66
 ";
     assert_eq!(listed(sheet).as_deref(), Ok(listing));
-}
-
-/// The oracle's buffer holds the listing and beyond it what it held; one byte less is 10.
-#[test]
-fn oracle_buffers() {
-    let length = LISTING.len();
-    for size in 0..2 * length {
-        let mut buffer = vec![7; size];
-        let answer = listing::write(SHEET.as_bytes(), &mut buffer, Way::EveryLength);
-        if size < length {
-            assert_eq!(
-                answer,
-                Err(Refusal::new(10, u32::try_from(length).unwrap()))
-            );
-            assert_eq!(buffer, vec![7; size]);
-        } else {
-            assert_eq!(answer, Ok(length));
-            assert_eq!(&buffer[..length], LISTING.as_bytes());
-            assert_eq!(&buffer[length..], vec![7; size - length]);
-        }
-    }
-    println!("{} compared", 2 * length);
 }
 
 /// Each sheet is document 01's head and these lines; each refusal has a number and a line.
@@ -250,8 +229,7 @@ fn too_many() {
 /// 16,384 bytes are read, one more is 9 whatever else is wrong.
 #[test]
 fn too_long() {
-    let comma = vec![b','; 16_384];
-    assert_eq!(sheet::read(&comma), Err(Refusal::new(8, 1)));
-    let comma = vec![b','; 16_385];
-    assert_eq!(sheet::read(&comma), Err(Refusal::new(9, 0)));
+    for (length, refusal) in [(16_384, Refusal::new(8, 1)), (16_385, Refusal::new(9, 0))] {
+        assert_eq!(listed(&",".repeat(length)), Err(refusal));
+    }
 }

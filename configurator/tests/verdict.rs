@@ -5,13 +5,14 @@
 
 mod common;
 
+use common::answer;
 use common::compare::Tally;
-use common::cores::{lent_costs, lent_records, piece, whole_core, Times};
-use common::{bytes, cases, Random};
-use configurator::plain::demand::Core;
-use configurator::plain::piece::{Costs, Kind};
-use configurator::plain::{records, verdict};
 use configurator::{Answer, Refusal};
+use inputs::cores::{lent_costs, lent_records, piece, whole_core, Times};
+use inputs::{bytes, cases, Random};
+use plain::demand::Core;
+use plain::piece::{Costs, Kind};
+use plain::{records, verdict};
 
 /// The library's answer and the oracle's, both as expected.
 fn expect(name: &str, core: &Core, expected: Answer) {
@@ -21,11 +22,8 @@ fn expect(name: &str, core: &Core, expected: Answer) {
         Ok(expected),
         "{name}"
     );
-    assert_eq!(
-        records::answer(&records, &costs),
-        expected,
-        "{name}, oracle"
-    );
+    let oracle = records::judge(&records, &costs).map(answer);
+    assert_eq!(oracle, Ok(expected), "{name}, oracle");
 }
 
 #[test]
@@ -158,11 +156,8 @@ fn cases_with_stated_answers() {
             "{case}"
         );
         if let Ok(core) = records::read(&records, &costs) {
-            assert_eq!(
-                Answer::from(verdict::by_stretches(&core)),
-                expected,
-                "{case}, oracle"
-            );
+            let oracle = answer(verdict::by_stretches(&core));
+            assert_eq!(oracle, expected, "{case}, oracle");
         }
         tally.bytes(&records, &costs, &mut random);
     }

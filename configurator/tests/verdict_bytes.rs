@@ -6,10 +6,10 @@
 mod common;
 
 use common::compare::Tally;
-use common::cores::{lent, lent_costs, lent_records, Draw};
-use common::Random;
-use configurator::plain::records::{COST_BYTES, RECORDS_MOST, RECORD_BYTES};
 use configurator::{verdict, Answer, Refusal};
+use inputs::cores::{lent, lent_costs, lent_records, Draw};
+use inputs::Random;
+use plain::records::{self, COST_BYTES, RECORDS_MOST, RECORD_BYTES};
 
 /// A record within the sizes, and light, so that many fit on a core.
 const LIGHT: [u64; 7] = [0, 1, 900, 1_000, 0, 0, 0];
@@ -197,50 +197,37 @@ fn every_cost_at_its_size() {
     assert!(tally.passes > 100 && tally.refused > 1_000);
 }
 
-/// Where several rules are broken the first of 8, 6, 2 and 3 is given.
+/// Where several rules are broken the first of 8, 6, 2 and 3 is given: every choice of an odd length of
+/// the records and of the costs, too many records and a bad cost, each with bad records from a place
+/// on or without.
 #[test]
 fn refusal_order() {
     let mut compared = 0;
-    for odd_records in [false, true] {
-        for odd_costs in [false, true] {
-            for too_many in [false, true] {
-                for bad_cost in [false, true] {
-                    for bad_record in [None, Some(1), Some(40), Some(79)] {
-                        let count = if too_many { 80 } else { 79 };
-                        let mut numbers = LIGHT.repeat(count);
-                        if let Some(place) = bad_record {
-                            for later in place..=count {
-                                numbers[7 * (later - 1) + 1] = 0;
-                            }
-                        }
-                        let mut records = lent(&numbers);
-                        let mut costs = vec![0; COST_BYTES];
-                        if bad_cost {
-                            costs[35] = 1;
-                        }
-                        if odd_records {
-                            records.push(0);
-                        }
-                        if odd_costs {
-                            costs.push(0);
-                        }
-                        let expected = if odd_records || odd_costs {
-                            Answer::Refused(Refusal::new(8, 0))
-                        } else if too_many {
-                            Answer::Refused(Refusal::new(6, 0))
-                        } else if bad_cost {
-                            Answer::Refused(Refusal::new(2, 0))
-                        } else if let Some(place) = bad_record {
-                            let place = u32::try_from(place).unwrap();
-                            Answer::Refused(Refusal::new(3, place))
-                        } else {
-                            Answer::Passes
-                        };
-                        assert_eq!(verdict(&records, &costs), Ok(expected));
-                        compared += 1;
-                    }
-                }
+    for broken in 0..16 {
+        let [odd_records, odd_costs, too_many, bad_cost] = [1, 2, 4, 8].map(|bit| broken & bit > 0);
+        for bad_from in [None, Some(1), Some(40), Some(79)] {
+            let count = if too_many { 80 } else { 79 };
+            let mut numbers = LIGHT.repeat(count);
+            for place in bad_from.unwrap_or(count + 1)..=count {
+                numbers[7 * (place - 1) + 1] = 0;
             }
+            let mut records = lent(&numbers);
+            let mut costs = vec![0; COST_BYTES];
+            costs[35] = u8::from(bad_cost);
+            records.extend(odd_records.then_some(0));
+            costs.extend(odd_costs.then_some(0));
+            let rules = [
+                (odd_records || odd_costs).then_some((8, 0)),
+                too_many.then_some((6, 0)),
+                bad_cost.then_some((2, 0)),
+                bad_from.map(|place| (3, u32::try_from(place).unwrap())),
+            ];
+            let first = rules.into_iter().flatten().next();
+            let expected = first.map_or(Answer::Passes, |(number, carries)| {
+                Answer::Refused(Refusal::new(number, carries))
+            });
+            assert_eq!(verdict(&records, &costs), Ok(expected));
+            compared += 1;
         }
     }
     println!("{compared} compared");
@@ -251,12 +238,7 @@ fn refusal_order() {
 fn damaged_cores() {
     let mut random = Random::for_test();
     let mut tally = Tally::default();
-    let draw = Draw {
-        pieces: 6,
-        period: 700,
-        jitter: 50,
-        cost: 8,
-    };
+    let draw = Draw::new(6, 700, 50, 8);
     for _ in 0..30_000 {
         let core = draw.core(&mut random);
         let mut records = lent_records(&core);
@@ -301,12 +283,7 @@ fn damage(bytes: &mut Vec<u8>, random: &mut Random) {
 fn bytes_at_any_address() {
     let mut random = Random::for_test();
     let mut compared = 0;
-    let draw = Draw {
-        pieces: 5,
-        period: 40,
-        jitter: 50,
-        cost: 2,
-    };
+    let draw = Draw::new(5, 40, 50, 2);
     for _ in 0..500 {
         let core = draw.core(&mut random);
         let (records, costs) = (lent_records(&core), lent_costs(&core));
@@ -328,15 +305,10 @@ fn bytes_at_any_address() {
 #[test]
 fn records_read_back() {
     let mut random = Random::for_test();
-    let draw = Draw {
-        pieces: 79,
-        period: 1_000_000,
-        jitter: 100,
-        cost: 100_000,
-    };
+    let draw = Draw::new(79, 1_000_000, 100, 100_000);
     for _ in 0..200 {
         let core = draw.core(&mut random);
-        let read = configurator::plain::records::read(&lent_records(&core), &lent_costs(&core));
+        let read = records::read(&lent_records(&core), &lent_costs(&core));
         assert_eq!(read, Ok(core));
     }
     println!("200 compared");

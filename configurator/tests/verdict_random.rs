@@ -5,10 +5,10 @@
 mod common;
 
 use common::compare::Tally;
-use common::cores::{piece, Draw};
-use common::Random;
-use configurator::plain::demand::Core;
-use configurator::plain::piece::{Costs, Kind, Piece};
+use inputs::cores::{piece, share_of, Draw};
+use inputs::Random;
+use plain::demand::Core;
+use plain::piece::{Costs, Kind, Piece};
 
 /// Compares that many random cores of each draw. Each kind of verdict must come up now and then, so
 /// that the draws are worth something.
@@ -27,48 +27,40 @@ fn compare(draws: &[Draw], each: u64) {
     assert_eq!(tally.refused, 0);
 }
 
-/// How cores are drawn: the most pieces, the longest period, the most jitter in hundredths of the
-/// period, the most cost.
-const fn draw(pieces: u64, period: u64, jitter: u64, cost: u64) -> Draw {
-    Draw {
-        pieces,
-        period,
-        jitter,
-        cost,
-    }
-}
-
 #[test]
 fn small_cores_without_costs() {
-    compare(&[draw(5, 12, 0, 0), draw(7, 60, 0, 0)], 20_000);
+    compare(&[Draw::new(5, 12, 0, 0), Draw::new(7, 60, 0, 0)], 20_000);
 }
 
 #[test]
 fn small_cores_with_jitter() {
-    compare(&[draw(5, 12, 30, 0), draw(5, 60, 220, 0)], 20_000);
+    compare(&[Draw::new(5, 12, 30, 0), Draw::new(5, 60, 220, 0)], 20_000);
 }
 
 #[test]
 fn small_cores_with_costs() {
-    compare(&[draw(4, 40, 0, 2), draw(6, 200, 0, 6)], 20_000);
+    compare(&[Draw::new(4, 40, 0, 2), Draw::new(6, 200, 0, 6)], 20_000);
 }
 
 #[test]
 fn small_cores_with_costs_and_jitter() {
-    compare(&[draw(4, 40, 25, 2), draw(6, 200, 120, 6)], 20_000);
+    compare(
+        &[Draw::new(4, 40, 25, 2), Draw::new(6, 200, 120, 6)],
+        20_000,
+    );
 }
 
 #[test]
 fn many_pieces() {
-    compare(&[draw(79, 900, 10, 1)], 1_500);
+    compare(&[Draw::new(79, 900, 10, 1)], 1_500);
 }
 
 /// Spans too long to look at every length: compared by certificates.
 #[test]
 fn long_spans() {
-    let machine = draw(8, 50_000, 10, 100);
-    let slow = draw(10, 1_000_000, 5, 2_000);
-    let mixed = draw(20, 1_000_000, 100, 100_000);
+    let machine = Draw::new(8, 50_000, 10, 100);
+    let slow = Draw::new(10, 1_000_000, 5, 2_000);
+    let mixed = Draw::new(20, 1_000_000, 100, 100_000);
     compare(&[machine, slow, mixed], 1_000);
 }
 
@@ -91,13 +83,7 @@ fn full_load(random: &mut Random) -> Core {
     let mut left = 60; // sixtieths of the core
     let mut pieces = Vec::new();
     while left > 0 {
-        let period = random.pick(&[5, 6, 10, 12, 15, 20, 30, 60]);
-        let tick = 60 / period;
-        if tick > left {
-            continue;
-        }
-        let budget = random.between(1, (left / tick).min(period));
-        left -= budget * tick;
+        let (budget, period) = share_of(&mut left, random);
         let window = if random.once_in(3) {
             random.between(budget, period)
         } else {

@@ -2,7 +2,7 @@
 //! piece's window, on one axis for all, and its filled beginning is the budget. A last piece stands
 //! where the window of the first ends, since there it is handed over.
 
-use super::report::escaped;
+use super::html::escaped;
 use crate::listing::{Kind, Listing, Piece};
 use std::fmt::Write;
 

@@ -2,11 +2,12 @@
 //! all. Names may be any bytes that the system allows.
 
 use super::Failure;
-use crate::explain;
+use crate::text;
 use std::fs::{self, File};
 use std::io::{self, Read, Write};
 use std::os::unix::ffi::OsStrExt;
-use std::path::{Path, PathBuf};
+use std::path::Path;
+use tempfile::Builder;
 
 /// The longest sheet that is accepted: document 01, "Sizes".
 pub const SHEET_MOST: usize = 16_384;
@@ -24,7 +25,7 @@ pub fn shown(path: &Path) -> String {
     if is_stdin(path) {
         "standard input".to_owned()
     } else {
-        explain::shown(path.as_os_str().as_bytes())
+        text::shown(path.as_os_str().as_bytes())
     }
 }
 
@@ -99,8 +100,11 @@ fn is_stdin(path: &Path) -> bool {
     path == Path::new("-")
 }
 
-/// Writes a file whole or not at all: to a file beside it, which then takes its name. A link is
-/// followed; what is no ordinary file, as `/dev/null`, is written to as it is.
+/// Writes a file whole or not at all: inside a new folder beside it, from which it is moved to its
+/// place. A link is followed; what is no ordinary file, as `/dev/null`, is written to as it is.
+///
+/// The folder is `tempfile`'s, so its name is new and it goes whatever happens. The file in it is
+/// ours: one that `tempfile` makes is for its owner's eyes alone, and stays so.
 ///
 /// # Errors
 ///
@@ -112,9 +116,14 @@ pub fn write(path: &Path, bytes: &[u8]) -> Result<(), Failure> {
     if there.as_ref().map_or(false, |there| !there.is_file()) {
         return fs::write(&target, bytes).map_err(failed);
     }
-    let beside = beside(&target)
+    let (folder, name) = (target.parent().zip(target.file_name()))
         .ok_or_else(|| Failure::new(format!("{}: this is no file's name", shown(path))))?;
-    let written = File::create(&beside)
+    let beside = Builder::new()
+        .prefix(".spardimple-")
+        .tempdir_in(folder)
+        .map_err(|error| Failure::new(format!("{}: {}", shown(path), unplaced(&error))))?;
+    let part = beside.path().join(name);
+    File::create(&part)
         .and_then(|mut file| {
             file.write_all(bytes)?;
             if let Some(there) = there {
@@ -122,17 +131,13 @@ pub fn write(path: &Path, bytes: &[u8]) -> Result<(), Failure> {
             }
             file.sync_all()
         })
-        .and_then(|()| fs::rename(&beside, &target));
-    written.map_err(|error| {
-        let _ = fs::remove_file(&beside);
-        failed(error)
-    })
+        .and_then(|()| fs::rename(&part, &target))
+        .map_err(failed)
 }
 
-/// The name of the file that is written first.
-fn beside(target: &Path) -> Option<PathBuf> {
-    let mut name = std::ffi::OsString::from(".");
-    name.push(target.file_name()?);
-    name.push(format!(".{}.part", std::process::id()));
-    Some(target.with_file_name(name))
+/// The system's words for an error of `tempfile`, without the name of its folder behind them.
+fn unplaced(error: &io::Error) -> String {
+    let words = error.to_string();
+    let system = words.split_once(" at path ").map(|(system, _)| system);
+    system.unwrap_or(&words).to_owned()
 }

@@ -9,6 +9,7 @@ pub mod columns;
 pub mod desk;
 pub mod drawing;
 pub mod files;
+pub mod html;
 pub mod json;
 pub mod report;
 pub mod show;

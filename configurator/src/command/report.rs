@@ -1,10 +1,12 @@
 //! `report`: a plan, or a refusal, as one page that needs no network and no script. The figures are
 //! the listing's, all other words the sheet's.
 
+use super::html::escaped;
 use super::{drawing, show};
-use crate::explain::{shown, Explained};
+use crate::explain::Explained;
 use crate::listing::{Kind, Listing, Piece};
 use crate::quoted::{Sheet, COSTS, TIMES};
+use crate::text::shown;
 use std::fmt::Write;
 
 /// The page of a plan.
@@ -229,22 +231,4 @@ fn page(title: &str, body: &str, source: &str) -> String {
         include_str!("report.css"),
         env!("CARGO_PKG_VERSION")
     )
-}
-
-/// A text with what HTML would take for its own escaped.
-#[must_use]
-pub fn escaped(text: &str) -> String {
-    let mut safe = String::with_capacity(text.len());
-    for c in text.chars() {
-        match c {
-            '&' => safe.push_str("&amp;"),
-            '<' => safe.push_str("&lt;"),
-            '>' => safe.push_str("&gt;"),
-            '"' => safe.push_str("&quot;"),
-            '\'' => safe.push_str("&#39;"),
-            '\0'..='\u{8}' | '\u{b}'..='\u{1f}' | '\u{7f}' => safe.push('\u{fffd}'),
-            _ => safe.push(c),
-        }
-    }
-    safe
 }

@@ -2,12 +2,14 @@
 
 use std::fmt;
 
-use configurator::plain::demand::Core;
-use configurator::plain::{records, verdict};
 use configurator::Answer;
+use inputs::cores::{lent_costs, lent_records};
+use inputs::Random;
+use plain::demand::Core;
+use plain::records;
+use plain::verdict::by_every_length;
 
-use super::cores::{lent_costs, lent_records};
-use super::Random;
+use super::refusal;
 
 /// Where the judged span has at most this many lengths, counted once for each piece, the oracle
 /// looks at all of them. A longer span is compared by certificates.
@@ -52,9 +54,9 @@ impl Tally {
             "lent bytes are only read"
         );
         match records::read(records, costs) {
-            Err(refusal) => assert_eq!(
+            Err(refused) => assert_eq!(
                 answer,
-                Answer::Refused(refusal),
+                Answer::Refused(refusal(refused)),
                 "records {records:?}, costs {costs:?}"
             ),
             Ok(core) => self.verdict(&core, answer, random),
@@ -78,13 +80,13 @@ impl Tally {
         let busy = match core.busy_length() {
             Some(length) if !core.pieces.is_empty() => length,
             _ => {
-                let expected = Answer::from(verdict::by_every_length(core));
+                let expected = super::answer(by_every_length(core));
                 assert_eq!(answer, expected, "{core:?}");
                 return;
             }
         };
         if busy * core.pieces.len() as u64 <= LOOKED_AT {
-            let expected = Answer::from(verdict::by_every_length(core));
+            let expected = super::answer(by_every_length(core));
             assert_eq!(answer, expected, "busy length {busy}, {core:?}");
         } else {
             self.certified += 1;

@@ -3,9 +3,11 @@
 
 use std::fmt;
 
-use configurator::plain::listing;
-use configurator::plain::verdict::Way;
 use configurator::{plan, Refusal};
+use plain::listing;
+use plain::verdict::Way;
+
+use super::refusal;
 
 /// The sheets compared, by what they were answered with.
 #[derive(Default)]
@@ -28,23 +30,37 @@ impl Tally {
 
     /// Compares the library with the oracle on a sheet.
     pub fn sheet(&mut self, sheet: &[u8], way: Way) -> Result<Vec<u8>, Refusal> {
-        let expected = listing::of_sheet(sheet, way);
+        let expected = listing::of_sheet(sheet, way).map_err(refusal);
         self.stated(sheet, &expected, "as the oracle says");
         expected
     }
 
     /// Compares the library with what is right for a sheet.
     pub fn stated(&mut self, sheet: &[u8], expected: &Result<Vec<u8>, Refusal>, name: &str) {
+        if let Err(why) = self.compare(sheet, expected) {
+            panic!("{name}: {:?}\n{why}", shown(sheet));
+        }
+    }
+
+    /// The same; where they differ, says how.
+    pub fn compare(
+        &mut self,
+        sheet: &[u8],
+        expected: &Result<Vec<u8>, Refusal>,
+    ) -> Result<(), String> {
         let before = sheet.to_vec();
-        let answer = plan(sheet).unwrap_or_else(|unknown| panic!("{unknown}: {}", shown(sheet)));
-        assert_eq!(sheet, before, "a lent sheet is only read");
-        assert_eq!(
-            answer.as_deref().map(shown),
-            expected.as_deref().map(shown),
-            "{name}: {:?}",
-            shown(sheet)
-        );
-        assert_eq!(&answer, expected, "{name}: {sheet:?}");
+        let answer = plan(sheet).map_err(|unknown| unknown.to_string())?;
+        if sheet != before {
+            return Err("a lent sheet is only read".to_owned());
+        }
+        if &answer != expected {
+            let told = |answer: &Result<Vec<u8>, Refusal>| match answer {
+                Ok(listing) => shown(listing),
+                Err(refusal) => format!("{refusal}\n"),
+            };
+            let (ours, right) = (told(&answer), told(expected));
+            return Err(format!("the library:\n{ours}what is right:\n{right}"));
+        }
         match answer {
             Ok(listing) => {
                 let splits = splits(&listing);
@@ -54,6 +70,7 @@ impl Tally {
             }
             Err(refusal) => self.refused[usize::from(refusal.number())] += 1,
         }
+        Ok(())
     }
 }
 

@@ -1,8 +1,8 @@
 //! Reading a timing sheet: document 01, "Sheet" and "Refusal numbers".
 
-use super::piece::Costs;
-use super::task::{formed, Machine, Name, Task, Times, TASKS_MOST};
-use crate::answer::Refusal;
+use crate::piece::Costs;
+use crate::refusal::Refusal;
+use crate::task::{formed, Machine, Name, Task, Times, TASKS_MOST};
 
 /// The most bytes of a sheet.
 pub const SHEET_MOST: usize = 16_384;
@@ -26,8 +26,8 @@ pub struct Sheet {
 /// 8 where it should stand.
 ///
 /// ```
-/// use configurator::plain::sheet;
-/// use configurator::Refusal;
+/// use plain::sheet;
+/// use plain::refusal::Refusal;
 ///
 /// assert_eq!(sheet::read(b""), Err(Refusal::new(8, 1)));
 /// assert_eq!(sheet::read(b"machine\t0\t1\n"), Err(Refusal::new(1, 1)));

@@ -1,9 +1,9 @@
 //! Plays a script of edits over a sheet with the oracle: what the program `crates/desk` must write.
 //!
-//! `cargo run --release --example play -- SHEET < SCRIPT`
+//! `cargo run --release -p plain --example play -- SHEET < SCRIPT`
 
-use configurator::plain::desk::play;
-use configurator::plain::verdict::Way;
+use plain::desk::play;
+use plain::verdict::Way;
 use std::io::{self, Read, Write};
 use std::process::ExitCode;
 

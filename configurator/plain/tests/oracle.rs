@@ -3,31 +3,37 @@
 
 #![warn(clippy::all, clippy::pedantic)]
 
-mod common;
-
 use std::fs;
 
-use common::cores::{piece, Draw};
-use common::sheets::{damaged, SheetDraw};
-use common::{bytes, cases, data, Random};
-use configurator::plain::demand::Core;
-use configurator::plain::piece::{Costs, Kind, Piece};
-use configurator::plain::sheet::{self, Sheet};
-use configurator::plain::task::Times;
-use configurator::plain::verdict::{by_every_length, by_stretches, Way};
-use configurator::plain::walk::{greatest_split, tight_window};
-use configurator::plain::{desk, listing};
+use inputs::cores::{piece, Draw};
+use inputs::sheets::{damaged, LISTING, SHEET, SMALL};
+use inputs::{bytes, cases, data, Random};
+use plain::demand::Core;
+use plain::piece::{Costs, Kind, Piece};
+use plain::refusal::Refusal;
+use plain::sheet::{self, Sheet};
+use plain::task::Times;
+use plain::verdict::{by_every_length, by_stretches, Way};
+use plain::walk::{greatest_split, tight_window};
+use plain::{desk, listing};
 
 const WAYS: [Way; 2] = [Way::EveryLength, Way::Stretches];
 
-/// Small cores: the most pieces, the longest period, jitter and cost as in [`Draw`].
-const DRAWS: [(u64, u64, u64, u64); 5] = [
-    (5, 12, 0, 0),
-    (5, 12, 30, 1),
-    (4, 40, 25, 2),
-    (6, 60, 220, 0),
-    (6, 200, 120, 6),
-];
+/// Looks at that many small cores of each of some draws, with the longest period.
+fn small_cores(each: u64, mut look: impl FnMut(&Core, u64, &mut Random)) {
+    let mut random = Random::for_test();
+    for draw in [
+        Draw::new(5, 12, 0, 0),
+        Draw::new(5, 12, 30, 1),
+        Draw::new(4, 40, 25, 2),
+        Draw::new(6, 60, 220, 0),
+        Draw::new(6, 200, 120, 6),
+    ] {
+        for _ in 0..each {
+            look(&draw.core(&mut random), draw.period, &mut random);
+        }
+    }
+}
 
 /// The splits that a walk tries at most: it splits at most once at each core but the last and once
 /// a task, and tries each multiple of the grain below C.
@@ -103,31 +109,43 @@ fn all_cases_with_stated_answers() {
     hold_to_cases(u64::MAX);
 }
 
+/// A lent buffer holds the listing and beyond it what it held; one byte less is 10.
+#[test]
+fn lent_buffers() {
+    let length = LISTING.len();
+    for size in 0..2 * length {
+        let mut buffer = vec![7; size];
+        let answer = listing::write(SHEET.as_bytes(), &mut buffer, Way::EveryLength);
+        if size < length {
+            assert_eq!(
+                answer,
+                Err(Refusal::new(10, u32::try_from(length).unwrap()))
+            );
+            assert_eq!(buffer, vec![7; size]);
+        } else {
+            assert_eq!(answer, Ok(length));
+            assert_eq!(&buffer[..length], LISTING.as_bytes());
+            assert_eq!(&buffer[length..], vec![7; size - length]);
+        }
+    }
+    println!("{} compared", 2 * length);
+}
+
 /// The climb finds the busy length that stepping up from 1 finds, and the least live length is what
 /// its name says.
 #[test]
 fn busy_and_live_lengths() {
     const STEPS: u64 = 3_000;
-    let mut random = Random::for_test();
     let (mut compared, mut beyond) = (0, 0);
-    for (pieces, period, jitter, cost) in DRAWS {
-        let draw = Draw {
-            pieces,
-            period,
-            jitter,
-            cost,
-        };
-        for _ in 0..2_000 {
-            let core = draw.core(&mut random);
-            let stepped = (1..=STEPS).find(|&length| core.busy_sum(length) <= length);
-            let climbed = core.busy_length().filter(|&length| length <= STEPS);
-            assert_eq!(climbed, stepped, "{core:?}");
-            let live = (0..=period).find(|&t| core.live(t));
-            assert_eq!(live.unwrap_or(0), core.least_live(), "{core:?}");
-            compared += 1;
-            beyond += u64::from(stepped.is_none());
-        }
-    }
+    small_cores(2_000, |core, period, _| {
+        let stepped = (1..=STEPS).find(|&length| core.busy_sum(length) <= length);
+        let climbed = core.busy_length().filter(|&length| length <= STEPS);
+        assert_eq!(climbed, stepped, "{core:?}");
+        let live = (0..=period).find(|&t| core.live(t));
+        assert_eq!(live.unwrap_or(0), core.least_live(), "{core:?}");
+        compared += 1;
+        beyond += u64::from(stepped.is_none());
+    });
     println!("{compared} compared, {beyond} with no busy length up to {STEPS}");
 }
 
@@ -135,25 +153,15 @@ fn busy_and_live_lengths() {
 /// demand is indeed equal from a stretch's start on.
 #[test]
 fn verdicts_by_stretches() {
-    let mut random = Random::for_test();
     let mut compared = 0;
-    for (pieces, period, jitter, cost) in DRAWS {
-        let draw = Draw {
-            pieces,
-            period,
-            jitter,
-            cost,
-        };
-        for _ in 0..6_000 {
-            let core = draw.core(&mut random);
-            assert_eq!(by_stretches(&core), by_every_length(&core), "{core:?}");
-            let t = random.between(0, 3 * period);
-            let start = core.stretch_start(t);
-            let equal = (start..=t).all(|u| core.demand(u) == core.demand(t));
-            assert!(equal, "from {start} to {t}: {core:?}");
-            compared += 1;
-        }
-    }
+    small_cores(6_000, |core, period, random| {
+        assert_eq!(by_stretches(core), by_every_length(core), "{core:?}");
+        let t = random.between(0, 3 * period);
+        let start = core.stretch_start(t);
+        let equal = (start..=t).all(|u| core.demand(u) == core.demand(t));
+        assert!(equal, "from {start} to {t}: {core:?}");
+        compared += 1;
+    });
     println!("{compared} compared");
 }
 
@@ -192,12 +200,7 @@ fn splits_both_ways() {
     let mut random = Random::for_test();
     let (mut compared, mut split, mut with_costs) = (0, 0, 0);
     for (period, jitter, cost) in [(12, 0, 0), (30, 0, 0), (100, 20, 1), (250, 30, 3)] {
-        let draw = Draw {
-            pieces: 3,
-            period,
-            jitter,
-            cost,
-        };
+        let draw = Draw::new(3, period, jitter, cost);
         for _ in 0..2_500 {
             let core = draw.core(&mut random);
             let period = random.between(1, period);
@@ -242,19 +245,7 @@ fn splits_both_ways() {
 fn plans_both_ways() {
     let mut random = Random::for_test();
     let (mut plans, mut split, mut stuck, mut refused, mut scripts) = (0, 0, 0, 0, 0);
-    for (cores, period, cost, jitter) in [
-        (4, 12, 0, 0),
-        (5, 30, 0, 6),
-        (4, 120, 2, 0),
-        (3, 200, 4, 30),
-        (16, 20, 1, 1),
-    ] {
-        let draw = SheetDraw {
-            cores,
-            period,
-            cost,
-            jitter,
-        };
+    for draw in SMALL {
         for _ in 0..1_200 {
             let mut text = draw.sheet(&mut random);
             if random.once_in(4) {
@@ -271,7 +262,7 @@ fn plans_both_ways() {
                     assert_eq!(every, stretches, "{}{}", shown(&text), shown(&script));
                     scripts += 1;
                 }
-                Err(refusal) if refusal.number() == 7 => stuck += 1,
+                Err(refusal) if refusal.number == 7 => stuck += 1,
                 Err(_) => refused += 1,
             }
         }

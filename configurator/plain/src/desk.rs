@@ -1,12 +1,12 @@
 //! The three edits, and scripts of them: document 01, "Edits on a held plan". Each edit plans
 //! afresh.
 
-use super::listing;
-use super::sheet::{self, numbers, Sheet};
-use super::task::{formed, Task, Times, TASKS_MOST};
-use super::verdict::Way;
-use super::walk::{walk, Plan};
-use crate::answer::Refusal;
+use crate::listing;
+use crate::refusal::Refusal;
+use crate::sheet::{self, numbers, Sheet};
+use crate::task::{formed, Task, Times, TASKS_MOST};
+use crate::verdict::Way;
+use crate::walk::{walk, Plan};
 
 /// A held plan: what it is made from, and its rows.
 #[derive(Clone, Debug, PartialEq, Eq)]
@@ -174,6 +174,6 @@ fn command(line: &[u8]) -> Option<Command<'_>> {
 /// A refusal as a script's answer.
 #[must_use]
 pub fn refusal_line(refusal: Refusal) -> Vec<u8> {
-    let (number, carries) = (refusal.number(), refusal.carries());
+    let Refusal { number, carries } = refusal;
     format!("refusal\t{number}\t{carries}\n").into_bytes()
 }

@@ -2,11 +2,11 @@
 
 use std::collections::BTreeSet;
 
-use super::piece::Kind;
-use super::sheet::{self, Sheet};
-use super::verdict::Way;
-use super::walk::{walk, Plan};
-use crate::answer::Refusal;
+use crate::piece::Kind;
+use crate::refusal::Refusal;
+use crate::sheet::{self, Sheet};
+use crate::verdict::Way;
+use crate::walk::{walk, Plan};
 
 /// The listing of a plan of what the sheet says.
 #[must_use]

@@ -2,12 +2,12 @@
 
 use std::cmp::Ordering;
 
-use super::demand::{climb, Core};
-use super::piece::{Costs, Kind, Piece};
-use super::sheet::Sheet;
-use super::task::{Task, Times};
-use super::verdict::{Verdict, Way};
-use crate::answer::Refusal;
+use crate::demand::{climb, Core};
+use crate::piece::{Costs, Kind, Piece};
+use crate::refusal::Refusal;
+use crate::sheet::Sheet;
+use crate::task::{Task, Times};
+use crate::verdict::{Verdict, Way};
 
 /// A piece in a plan, with the place, from 0, of its task in the task list.
 #[derive(Clone, Copy, Debug, PartialEq, Eq)]

@@ -1,14 +1,15 @@
 //! Cores for the tests: by hand, at random, and as the bytes that the library is lent.
 
-use configurator::plain::demand::Core;
-use configurator::plain::piece::{Costs, Kind, Piece};
+use plain::demand::Core;
+use plain::piece::{Costs, Kind, Piece};
 
-use super::Random;
+use crate::random::Random;
 
 /// Budget, window and period, as document 01 writes its examples: (x, D, T).
 pub type Times = (u64, u64, u64);
 
 /// A piece with no jitter and no cache charges.
+#[must_use]
 pub fn piece(kind: Kind, (budget, window, period): Times) -> Piece {
     Piece {
         kind,
@@ -22,6 +23,7 @@ pub fn piece(kind: Kind, (budget, window, period): Times) -> Piece {
 }
 
 /// A core of whole pieces without costs.
+#[must_use]
 pub fn whole_core(pieces: &[Times]) -> Core {
     Core {
         costs: Costs::default(),
@@ -33,6 +35,11 @@ pub fn whole_core(pieces: &[Times]) -> Core {
 }
 
 /// Numbers as lent: four bytes each, lowest first.
+///
+/// # Panics
+///
+/// A number needs more than four bytes.
+#[must_use]
 pub fn lent(numbers: &[u64]) -> Vec<u8> {
     numbers
         .iter()
@@ -41,6 +48,7 @@ pub fn lent(numbers: &[u64]) -> Vec<u8> {
 }
 
 /// The numbers of a piece's record.
+#[must_use]
 pub fn record(p: &Piece) -> [u64; 7] {
     let kind = match p.kind {
         Kind::Whole => 0,
@@ -59,11 +67,13 @@ pub fn record(p: &Piece) -> [u64; 7] {
 }
 
 /// The records of a core as lent.
+#[must_use]
 pub fn lent_records(core: &Core) -> Vec<u8> {
     core.pieces.iter().flat_map(|p| lent(&record(p))).collect()
 }
 
 /// The costs of a core as lent.
+#[must_use]
 pub fn lent_costs(core: &Core) -> Vec<u8> {
     lent(&core.costs.numbers())
 }
@@ -82,6 +92,17 @@ pub struct Draw {
 }
 
 impl Draw {
+    /// A draw by its numbers: pieces, period, jitter, cost.
+    #[must_use]
+    pub const fn new(pieces: u64, period: u64, jitter: u64, cost: u64) -> Self {
+        Draw {
+            pieces,
+            period,
+            jitter,
+            cost,
+        }
+    }
+
     /// A core with up to that many pieces and a load from light to more than full.
     pub fn core(&self, random: &mut Random) -> Core {
         let costs = Costs::from_numbers([0; 9].map(|_: u64| self.charge(random)));
@@ -128,6 +149,20 @@ impl Draw {
             0
         } else {
             random.between(0, self.cost)
+        }
+    }
+}
+
+/// A budget and a period for a part of what is left of some cores, in sixtieths of one, which is then
+/// taken away. There must be something left.
+pub fn share_of(left: &mut u64, random: &mut Random) -> (u64, u64) {
+    loop {
+        let period = random.pick(&[5, 6, 10, 12, 15, 20, 30, 60]);
+        let tick = 60 / period;
+        if tick <= *left {
+            let budget = random.between(1, (*left / tick).min(period));
+            *left -= budget * tick;
+            return (budget, period);
         }
     }
 }

@@ -3,10 +3,10 @@
 
 use std::array;
 
-use super::demand::Core;
-use super::piece::{Costs, Kind, Piece};
-use super::verdict::{self, Verdict};
-use crate::answer::{Answer, Refusal};
+use crate::demand::Core;
+use crate::piece::{Costs, Kind, Piece};
+use crate::refusal::Refusal;
+use crate::verdict::{self, Verdict};
 
 /// Bytes of one record: seven numbers of four.
 pub const RECORD_BYTES: usize = 28;
@@ -17,31 +17,22 @@ pub const COST_BYTES: usize = 36;
 /// The most records of a lent run.
 pub const RECORDS_MOST: usize = 79;
 
-/// The answer for the bytes: the verdict that looks at every length, or the refusal.
+/// The verdict on the core that the bytes spell, by looking at every length.
+///
+/// # Errors
+///
+/// As [`read`].
 ///
 /// ```
-/// use configurator::plain::records;
-/// use configurator::{Answer, Refusal};
+/// use plain::records;
+/// use plain::refusal::Refusal;
+/// use plain::verdict::Verdict;
 ///
-/// assert_eq!(records::answer(&[], &[0; 36]), Answer::Passes);
-/// assert_eq!(records::answer(&[0; 28], &[0; 36]), Answer::Refused(Refusal::new(3, 1)));
+/// assert_eq!(records::judge(&[], &[0; 36]), Ok(Verdict::Passes));
+/// assert_eq!(records::judge(&[0; 28], &[0; 36]), Err(Refusal::new(3, 1)));
 /// ```
-#[must_use]
-pub fn answer(records: &[u8], costs: &[u8]) -> Answer {
-    match read(records, costs) {
-        Ok(core) => verdict::by_every_length(&core).into(),
-        Err(refusal) => Answer::Refused(refusal),
-    }
-}
-
-impl From<Verdict> for Answer {
-    fn from(verdict: Verdict) -> Self {
-        match verdict {
-            Verdict::Passes => Answer::Passes,
-            Verdict::Overloaded(length) => Answer::Overloaded(length),
-            Verdict::Undecided => Answer::Undecided,
-        }
-    }
+pub fn judge(records: &[u8], costs: &[u8]) -> Result<Verdict, Refusal> {
+    read(records, costs).map(|core| verdict::by_every_length(&core))
 }
 
 /// The core that the bytes spell.

@@ -1,6 +1,6 @@
 //! The verdict on a core: document 01, "Verdict on a core".
 
-use super::demand::Core;
+use crate::demand::Core;
 
 /// A verdict.
 #[derive(Clone, Copy, Debug, PartialEq, Eq)]
@@ -36,8 +36,8 @@ impl Way {
 /// The verdict by its words: it looks at every length of the span, from the top.
 ///
 /// ```
-/// use configurator::plain::demand::Core;
-/// use configurator::plain::verdict::{by_every_length, Verdict};
+/// use plain::demand::Core;
+/// use plain::verdict::{by_every_length, Verdict};
 ///
 /// assert_eq!(by_every_length(&Core::default()), Verdict::Passes); // K1
 /// ```

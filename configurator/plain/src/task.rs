@@ -1,6 +1,6 @@
 //! Tasks, their names and times, and the machine: document 01, "Sizes".
 
-use super::piece::{Kind, Piece};
+use crate::piece::{Kind, Piece};
 
 /// The most tasks of a list, and the most parts of a sheet.
 pub const TASKS_MOST: usize = 64;

@@ -3,14 +3,12 @@
 
 #![warn(clippy::all, clippy::pedantic)]
 
-mod common;
-
-use common::sheets::{LISTING, SHEET};
-use configurator::plain::desk::{self, Desk, Edit};
-use configurator::plain::sheet::{self, Sheet};
-use configurator::plain::task::{Machine, Times};
-use configurator::plain::verdict::Way;
-use configurator::Refusal;
+use inputs::sheets::{LISTING, SHEET};
+use plain::desk::{self, Desk, Edit};
+use plain::refusal::Refusal;
+use plain::sheet::{self, Sheet};
+use plain::task::{Machine, Times};
+use plain::verdict::Way;
 
 /// The held plan of document 01's sheet.
 fn held() -> Desk {

@@ -1,6 +1,6 @@
 //! The demand of a core: document 01, "Demand at an interval length t".
 
-use super::piece::{Costs, Piece};
+use crate::piece::{Costs, Piece};
 
 /// The most that a busy length may be.
 pub const BUSY_MOST: u64 = 100_000_000;

@@ -1,0 +1,38 @@
+//! The cases with stated answers, in `tests/data`.
+
+use std::fs;
+use std::path::{Path, PathBuf};
+
+/// A folder of `tests/data`.
+#[must_use]
+pub fn data(folder: &str) -> PathBuf {
+    Path::new(concat!(env!("CARGO_MANIFEST_DIR"), "/../tests/data")).join(folder)
+}
+
+/// The bytes of a file of `tests/data`.
+///
+/// # Panics
+///
+/// The file cannot be read.
+#[must_use]
+pub fn bytes(folder: &str, file: &str) -> Vec<u8> {
+    let path = data(folder).join(file);
+    fs::read(&path).unwrap_or_else(|error| panic!("{}: {error}", path.display()))
+}
+
+/// The names, in order, of the cases in a folder of `tests/data`: its files that end so, without
+/// the ending.
+///
+/// # Panics
+///
+/// The folder cannot be read.
+#[must_use]
+pub fn cases(folder: &str, ending: &str) -> Vec<String> {
+    let mut names: Vec<String> = fs::read_dir(data(folder))
+        .expect("the folder of cases is there")
+        .map(|entry| entry.expect("the folder can be read").file_name())
+        .filter_map(|file| Some(file.to_str()?.strip_suffix(ending)?.to_owned()))
+        .collect();
+    names.sort();
+    names
+}
