@@ -54,10 +54,10 @@ fn no_record() -> Piece
 pub fn record_at(records: &[u64; RUN_NUMBERS], i: usize) -> Piece
     ensures exact { λ r. ⌜ r ≡ recordWithin (now (records .entry)) i ⌝ }
 {
-    if RUN_MOST <= i {
-        return no_record();
+    if i < RUN_MOST {
+        return read_record(records, i);
     }
-    read_record(records, i)
+    no_record()
 }
 
 /// Writes a record, as its seven numbers, at a place from 0 of a run that is lent as numbers; past its last place nothing changes.

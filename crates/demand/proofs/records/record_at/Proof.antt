@@ -9,21 +9,17 @@ use Rattle.demand.proofs.records.record_at.Lts as lts
 use Rattle.demand.proofs.records.no_record.Reads as no-record-reads
 use Rattle.demand.proofs.records.read_record.Reads as read-record-reads
 
--- src/records.rt:58:9
-no-record-requires : tie.Need-no-record-requires
-no-record-requires c κs = search needs
-
--- src/records.rt:58:9
-returns : tie.Need-returns
-returns c = c .no-record .ensures ∙ sym (record-past (c .before .before .args .records .now) (c .before .before .args .i) (c .before .if1 .taken))
-
--- src/records.rt:60:5
 read-record-requires : tie.Need-read-record-requires
 read-record-requires c κs = search needs
 
--- src/records.rt:54:1
+returns : tie.Need-returns
+returns c = c .read-record .ensures ∙ sym (record-within (c .before .before .args .records .now) (c .before .before .args .i) (c .before .if1 .taken))
+
+no-record-requires : tie.Need-no-record-requires
+no-record-requires c κs = search needs
+
 returns-2 : tie.Need-returns-2
-returns-2 c = c .read-record .ensures ∙ sym (record-within (c .before .before .args .records .now) (c .before .before .args .i) (c .before .if1 .left))
+returns-2 c = c .no-record .ensures ∙ sym (record-past (c .before .before .args .records .now) (c .before .before .args .i) (c .before .if1 .left))
 
 pub record-at-spec : {M : Type 1} → statement M
-record-at-spec = tie.close (tie.spec no-record-requires returns read-record-requires returns-2)
+record-at-spec = tie.close (tie.spec read-record-requires returns no-record-requires returns-2)
