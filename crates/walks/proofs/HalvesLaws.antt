@@ -11,7 +11,7 @@
 --   halving-sound        each placement has it
 --   shared-firsts, shares-firsts  an item has one piece, and another where it has a first piece
 --   shared-free                   with costs, J and P zero the window of a first piece is its budget
-use mathlib.Core.Path.{_≡_, refl, sym, ap, _∙_, subst}
+use mathlib.Core.Path.{_≡_, refl, ap, _∙_, subst}
 use mathlib.Core.Bool.{Bool, true, false}
 use mathlib.Core.List.{List, [], _∷_, _++_, append-nil, map}
 use Prim.Native.Nat.{ℕ, zero, suc, _+_, _-_, _≤_, _<_}
@@ -37,7 +37,7 @@ use Rattle.walks.specs.Way.{Spot, Placed, placedAs, Landing, refuses, st
 use Rattle.walks.specs.Shares.{Divides, Kinds, Shares, nil, more}
 use Rattle.walks.specs.Halves.{Stand, inOne, inTwo, fromCore, halving, Shared, one-piece, two-pieces, splitCount, isFirst}
 use Rattle.walks.proofs.ListLaws.{sum-append}
-use Rattle.walks.proofs.WayLaws.{IfLands, SticksAt, sticks-at}
+use Rattle.walks.proofs.WayLaws.{IfLands, sticks-at}
 use Rattle.walks.proofs.SoundLaws.{row-append, Claim, Sound}
 
 pub stands-alike : (s t : Stand) → s .core ≡ t .core → s .row ≡ t .row → s ≡ t

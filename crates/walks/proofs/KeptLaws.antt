@@ -3,7 +3,7 @@
 --
 --   Exact N                   the test of keys tells equal keys from others
 --   same-other, same-own      what it tells
---   among-key, among-middle   a key that is among items
+--   among-key, among-middle, among-first      a key that is among items
 --   shareOn N k q log         the pieces on core q of the item with the key k
 --   share-first, share-last   all of a key's pieces come from the part of a walk that has the key
 --   first-kept                walks over orders with one beginning give each key in it the same pieces
@@ -61,6 +61,11 @@ module _ {A K : Type 0} (N : Keyed A K) where
   pub among-middle : (k : List A) (a : A) (l : List A) → Among N (N .key a) (k ++ (a ∷ l))
   among-middle [] a l = inl refl
   among-middle (b ∷ k) a l = inr (among-middle k a l)
+
+  pub among-first : (b : K) (k l : List A) → Among N b k → Among N b (k ++ l)
+  among-first b [] l m = absurd m
+  among-first b (a ∷ k) l (inl e) = inl e
+  among-first b (a ∷ k) l (inr m) = inr (among-first b k l m)
 
   among-end : (b : K) (k l : List A) → Among N b l → Among N b (k ++ l)
   among-end b [] l m = m

@@ -22,7 +22,7 @@ use Rattle.demand.specs.Sizes.{Sized, Each}
 use Rattle.demand.specs.Verdict.{verdictOf}
 use Rattle.demand.specs.Split.{firstPiece, lastPiece, passes, greatestSplit}
 use Rattle.walks.specs.Lists.{sumBy}
-use Rattle.walks.specs.Way.{Spot, Landing, lands, refuses, Way, Placed}
+use Rattle.walks.specs.Way.{Landing, lands, refuses, Way, Placed}
 
 unfoldable pub denser : Piece → Piece → Bool
 denser p q = ltb (q .budget * p .window) (p .budget * q .window)

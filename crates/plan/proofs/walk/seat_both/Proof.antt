@@ -1,18 +1,18 @@
--- `walks::seat_both` meets its contract: the first piece behind the row, then the last one on the next core.
+-- `walk::seat_both` meets its contract: the first piece behind the row, then the last one on the next core.
 use mathlib.Core.Path.{_≡_, ap, _∙_}
 use native.Mathlib.Omega.{arith}
 use Rattle.plan.specs.declared.Going.{Going}
-use Rattle.plan.specs.Going.{seatedOf, nextOf}
+use Rattle.plan.specs.ways.WalkGoing.{seatedOf, nextOf}
 use Rattle.plan.proofs.GoingLaws.{both-put}
 use borrow.Author.Needs.{needs}
-use Rattle.plan.proofs.walks.seat_both.Statement.{statement}
-use Rattle.plan.proofs.walks.seat_both.Tie as tie
-use Rattle.plan.proofs.walks.seat_both.Reads as reads
-use Rattle.plan.proofs.walks.seat_both.Lts as lts
+use Rattle.plan.proofs.walk.seat_both.Statement.{statement}
+use Rattle.plan.proofs.walk.seat_both.Tie as tie
+use Rattle.plan.proofs.walk.seat_both.Reads as reads
+use Rattle.plan.proofs.walk.seat_both.Lts as lts
 use Rattle.demand.proofs.first_piece.Reads as first-piece-reads
 use Rattle.demand.proofs.last_piece.Reads as last-piece-reads
-use Rattle.plan.proofs.walks.next_core.Reads as next-core-reads
-use Rattle.plan.proofs.walks.seat.Reads as seat-reads
+use Rattle.plan.proofs.walk.next_core.Reads as next-core-reads
+use Rattle.plan.proofs.walk.seat.Reads as seat-reads
 
 first-piece-requires : tie.Need-first-piece-requires
 first-piece-requires c κs = search needs

@@ -1,8 +1,7 @@
--- How the code carries a walk: the core's row of piece numbers by value, what was placed and the records to be judged in lent arrays. What stands here is
--- no part of document 01; the contracts of the functions inside the crate cite it.
+-- How the code carries a walk: the core's row of piece numbers by value, what was placed and the records to be judged in lent arrays.
 --
---   told placed row      the pieces whose numbers a row has
---   asked records n      the first n records, of which the verdict is asked
+--   piecesOfRow placed row    the pieces whose numbers a row has
+--   firstRecords records n    the first n records, of which the verdict is asked
 --   seatedOf, nextOf, stickOf, beginOf    one piece more; the next core; stuck; not begun
 --   Seated g             the row's numbers are of pieces placed
 --   AskFits c records n  the verdict can be asked with one piece more
@@ -11,7 +10,7 @@
 --   Both a n e f b       e and f were placed behind the first n
 --   LandFits .. k        the task at place k can be placed
 --   WalkFits             the walk over an order can begin
---   Reach base .. o      g with its arrays is what the outcome o of a walk is, behind what base has
+--   Reach base .. o      g with its arrays is what the ending o of a walk is, behind what base has
 use mathlib.Core.Path.{_≡_}
 use mathlib.Core.List.{List, _++_, map}
 use Prim.Native.Nat.{ℕ, suc, _+_, _<_, _≤_}
@@ -23,14 +22,16 @@ use Rattle.demand.specs.Sizes.{Sized, SizedCosts, Each}
 use Rattle.task.specs.declared.Machine.{Machine}
 use Rattle.plan.specs.declared.Row.{Row}
 use Rattle.plan.specs.declared.Going.{Going}
-use Rattle.plan.specs.Lent.{placedAt, placedIn, wholeIn, Put}
-use Rattle.plan.specs.Walk.{Stand, Placed, Outcome, fine, stuck}
+use Rattle.walks.specs.Way.{Placed, Ending, fine, stuck}
+use Rattle.walks.specs.Halves.{Stand}
+use Rattle.plan.specs.ways.TimesArray.{wholeIn}
+use Rattle.plan.specs.ways.PlacedArray.{placedAt, placedIn, Put}
 
-abbrev pub told : List ℕ → Row → List Piece
-told placed row = map (λ i. placedAt placed i .piece) (take (row .len) (row .numbers))
+abbrev pub piecesOfRow : List ℕ → Row → List Piece
+piecesOfRow placed row = map (λ i. placedAt placed i .piece) (take (row .len) (row .numbers))
 
-abbrev pub asked : List ℕ → ℕ → List Piece
-asked records n = take n (recordsOf records)
+abbrev pub firstRecords : List ℕ → ℕ → List Piece
+firstRecords records n = take n (recordsOf records)
 
 unfoldable pub seatedOf : Going → Going
 seatedOf g = record { stuck = g .stuck; core = g .core; row = record { len = g .row .len + 1; numbers = set (g .row .numbers) (g .row .len) (g .count) }; count = g .count + 1 }
@@ -52,7 +53,7 @@ pub record AskFits (c : Costs) (records : List ℕ) (n : ℕ) : Type 0 where
   pub costs : SizedCosts c
   pub free : n < 64
   pub size : length records ≡ 553
-  pub sizes : Each Sized (asked records n)
+  pub sizes : Each Sized (firstRecords records n)
 
 pub record SeatFits (placed : List ℕ) (g : Going) : Type 0 where
   pub room : g .count < 79
@@ -81,21 +82,21 @@ pub record LandFits (m : ℕ) (c : Costs) (placed records : List ℕ) (g : Going
   pub placed-size : length placed ≡ 711
   pub records-size : length records ≡ 553
   pub seated : Seated g
-  pub sizes : Each Sized (told placed (g .row))
+  pub sizes : Each Sized (piecesOfRow placed (g .row))
 
 pub record Reached (base : List (Placed ℕ)) (placed records : List ℕ) (g : Going) (s : Stand) (l : List (Placed ℕ)) : Type 0 where
   pub still : g .stuck ≡ 0
   pub core-is : g .core ≡ s .core
   pub len-is : g .row .len ≡ length (s .row)
-  pub row-is : told placed (g .row) ≡ s .row
+  pub row-is : piecesOfRow placed (g .row) ≡ s .row
   pub placed-is : placedIn placed (g .count) ≡ base ++ l
   pub placed-size : length placed ≡ 711
   pub records-size : length records ≡ 553
   pub seated : Seated g
 
-abbrev pub Reach : List (Placed ℕ) → List ℕ → List ℕ → Going → Outcome ℕ → Type 0
+abbrev pub Reach : List (Placed ℕ) → List ℕ → List ℕ → Going → Ending Stand ℕ → Type 0
 Reach base placed records g (fine s l) = Reached base placed records g s l
-Reach base placed records g (stuck k) = g .stuck ≡ suc k
+Reach base placed records g (stuck k n) = (g .stuck ≡ suc k) × (n ≡ 7)
 
 -- what the walk needs of its input: sizes, and an order of places within them
 pub record WalkFits (m : Machine) (c : Costs) (times : List ℕ) (n : ℕ) (order placed records : List ℕ) : Type 0 where

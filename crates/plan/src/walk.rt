@@ -24,15 +24,18 @@ ghost use lib.ListN.{take, length};
 ghost use Rattle.demand.specs.Sizes.{Sized};
 ghost use Rattle.demand.specs.Split.{greatestSplit, firstPiece, lastPiece};
 ghost use Rattle.demand.specs.Verdict.{verdictOf};
-ghost use Rattle.plan.specs.Going.{told, asked, AskFits, SeatFits, BothFit, LandFits, seatedOf, nextOf, stickOf, beginOf, Both, Reach, WalkFits};
-ghost use Rattle.plan.specs.Lent.{seatOf, placedIn, wholeIn, Put};
-ghost use Rattle.plan.specs.Walk.{place, walk, start, rulesFor};
+ghost use Rattle.walks.specs.Way.{landed, walkOver};
+ghost use Rattle.walks.specs.Halves.{fromCore};
+ghost use Rattle.plan.specs.Walk.{wayFor};
+ghost use Rattle.plan.specs.ways.TimesArray.{wholeIn};
+ghost use Rattle.plan.specs.ways.PlacedArray.{seatOf, placedIn, Put};
+ghost use Rattle.plan.specs.ways.WalkGoing.{piecesOfRow, firstRecords, AskFits, SeatFits, BothFit, LandFits, seatedOf, nextOf, stickOf, beginOf, Both, Reach, WalkFits};
 
 // The verdict on the first n records with one piece more, which then lies behind them.
 pub fn judge_with(costs: Costs, records: &mut [u64; 553], n: usize, q: Piece) -> Verdict
     requires { ⌜ AskFits costs (now records) n ⌝ }
     requires { ⌜ Sized q ⌝ }
-    ensures { λ r. ⌜ (r ≡ verdictOf costs (asked (now (records .entry)) n ++ (q ∷ []))) × (asked (now (records .exit)) (n + 1) ≡ asked (now (records .entry)) n ++ (q ∷ [])) × (length (now (records .exit)) ≡ 553) ⌝ }
+    ensures { λ r. ⌜ (r ≡ verdictOf costs (firstRecords (now (records .entry)) n ++ (q ∷ []))) × (firstRecords (now (records .exit)) (n + 1) ≡ firstRecords (now (records .entry)) n ++ (q ∷ [])) × (length (now (records .exit)) ≡ 553) ⌝ }
 {
     put_record(records, n, q);
     let Answer::Judged(v) = judge_records(costs, records, n + 1) else {
@@ -45,7 +48,7 @@ pub fn judge_with(costs: Costs, records: &mut [u64; 553], n: usize, q: Piece) ->
 pub fn split_on(costs: Costs, grain: u64, records: &[u64; 553], n: usize, q: Piece) -> Split
     requires { ⌜ AskFits costs (now records) n ⌝ }
     requires { ⌜ Sized q ⌝ }
-    ensures { λ r. ⌜ r ≡ greatestSplit costs grain (asked (now (records .entry)) n) q ⌝ }
+    ensures { λ r. ⌜ r ≡ greatestSplit costs grain (firstRecords (now (records .entry)) n) q ⌝ }
 {
     let Splitting::Best(s) = split_records(costs, records, n, q, grain) else {
         return Split::Nowhere;
@@ -138,7 +141,7 @@ pub fn land<'a>(
 ) -> Going
     requires { ⌜ LandFits (machine .cores) costs (now placed) (now records) going k ⌝ }
     requires { ⌜ Sized whole ⌝ }
-    ensures { λ r. ⌜ Reach (placedIn (now (placed .entry)) (going .count)) (now (placed .exit)) (now (records .exit)) r (place (rulesFor costs (machine .grain) (λ j. whole)) k (machine .cores - 1 - going .core) (going .core) (told (now (placed .entry)) (going .row))) ⌝ }
+    ensures { λ r. ⌜ Reach (placedIn (now (placed .entry)) (going .count)) (now (placed .exit)) (now (records .exit)) r (landed k (fromCore costs (machine .grain) whole (machine .cores - 1 - going .core) (going .core) (piecesOfRow (now (placed .entry)) (going .row)))) ⌝ }
 {
     let mut here = going;
     loop {
@@ -170,7 +173,7 @@ pub fn walk_over<'a>(
     records: &'a mut [u64; 553],
 ) -> Going
     requires { ⌜ WalkFits machine costs (now times) n (now order) (now placed) (now records) ⌝ }
-    ensures { λ r. ⌜ Reach [] (now (placed .exit)) (now (records .exit)) r (walk (rulesFor costs (machine .grain) (wholeIn (now (times .entry)))) (start (machine .cores)) (take n (now (order .entry)))) ⌝ }
+    ensures { λ r. ⌜ Reach [] (now (placed .exit)) (now (records .exit)) r (walkOver (wayFor machine costs (wholeIn (now (times .entry)))) (take n (now (order .entry)))) ⌝ }
 {
     let mut going = begin();
     let mut i: usize = 0;

@@ -1,11 +1,11 @@
--- `walks::seat` meets its contract: the piece is placed, and its number goes behind the row.
+-- `walk::seat` meets its contract: the piece is placed, and its number goes behind the row.
 use mathlib.Core.Path.{refl}
-use Rattle.plan.specs.Going.{seatedOf}
+use Rattle.plan.specs.ways.WalkGoing.{seatedOf}
 use borrow.Author.Needs.{needs}
-use Rattle.plan.proofs.walks.seat.Statement.{statement}
-use Rattle.plan.proofs.walks.seat.Tie as tie
-use Rattle.plan.proofs.walks.seat.Reads as reads
-use Rattle.plan.proofs.walks.seat.Lts as lts
+use Rattle.plan.proofs.walk.seat.Statement.{statement}
+use Rattle.plan.proofs.walk.seat.Tie as tie
+use Rattle.plan.proofs.walk.seat.Reads as reads
+use Rattle.plan.proofs.walk.seat.Lts as lts
 use Rattle.plan.proofs.seats.put_seat.Reads as put-seat-reads
 
 put-seat-requires : tie.Need-put-seat-requires

@@ -1,12 +1,12 @@
--- `walks::judge_with` meets its contract: the records with the piece behind them are within the sizes, so the verdict is given and not refused.
+-- `walk::judge_with` meets its contract: the records with the piece behind them are within the sizes, so the verdict is given and not refused.
 use native.Mathlib.Omega.{arith}
 use Rattle.plan.proofs.RowLaws.{asked-put, put-size}
 use Rattle.plan.proofs.JudgeLaws.{judged-is, never-refused}
 use borrow.Author.Needs.{needs}
-use Rattle.plan.proofs.walks.judge_with.Statement.{statement}
-use Rattle.plan.proofs.walks.judge_with.Tie as tie
-use Rattle.plan.proofs.walks.judge_with.Reads as reads
-use Rattle.plan.proofs.walks.judge_with.Lts as lts
+use Rattle.plan.proofs.walk.judge_with.Statement.{statement}
+use Rattle.plan.proofs.walk.judge_with.Tie as tie
+use Rattle.plan.proofs.walk.judge_with.Reads as reads
+use Rattle.plan.proofs.walk.judge_with.Lts as lts
 use Rattle.demand.proofs.judge_records.Reads as judge-records-reads
 use Rattle.demand.proofs.put_record.Reads as put-record-reads
 

@@ -1,10 +1,10 @@
--- `walks::split_on` meets its contract: the records and the piece are within the sizes, so the split is given and not refused.
+-- `walk::split_on` meets its contract: the records and the piece are within the sizes, so the split is given and not refused.
 use Rattle.plan.proofs.JudgeLaws.{split-is, never-denied}
 use borrow.Author.Needs.{needs}
-use Rattle.plan.proofs.walks.split_on.Statement.{statement}
-use Rattle.plan.proofs.walks.split_on.Tie as tie
-use Rattle.plan.proofs.walks.split_on.Reads as reads
-use Rattle.plan.proofs.walks.split_on.Lts as lts
+use Rattle.plan.proofs.walk.split_on.Statement.{statement}
+use Rattle.plan.proofs.walk.split_on.Tie as tie
+use Rattle.plan.proofs.walk.split_on.Reads as reads
+use Rattle.plan.proofs.walk.split_on.Lts as lts
 use Rattle.demand.proofs.split_records.Reads as split-records-reads
 
 split-records-requires : tie.Need-split-records-requires

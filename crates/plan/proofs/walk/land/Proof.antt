@@ -1,22 +1,22 @@
--- `walks::land` meets its contract: while the task is not placed the core moves on and what was placed stays; each way out is one of the four rules.
+-- `walk::land` meets its contract: while the task is not placed the core moves on and what was placed stays; each way out is one of the four rules.
 use mathlib.Core.Path.{_≡_, refl, ap}
 use Prim.Native.Nat.{_-_, _+_}
 use native.Mathlib.Omega.{arith}
 use Rattle.plan.specs.declared.Going.{Going}
-use Rattle.plan.specs.Going.{nextOf}
+use Rattle.plan.specs.ways.WalkGoing.{nextOf}
 use Rattle.plan.proofs.GoingLaws.{Under, not-passes, row-reads, ask-fits, ask-fits-still, seat-fits, both-fit, one-done, stuck-done, both-done, next-under}
 use borrow.Author.Needs.{needs}
-use Rattle.plan.proofs.walks.land.Statement.{statement}
-use Rattle.plan.proofs.walks.land.Tie as tie
-use Rattle.plan.proofs.walks.land.Reads as reads
-use Rattle.plan.proofs.walks.land.Lts as lts
+use Rattle.plan.proofs.walk.land.Statement.{statement}
+use Rattle.plan.proofs.walk.land.Tie as tie
+use Rattle.plan.proofs.walk.land.Reads as reads
+use Rattle.plan.proofs.walk.land.Lts as lts
 use Rattle.plan.proofs.rows.lay_row.Reads as lay-row-reads
-use Rattle.plan.proofs.walks.judge_with.Reads as judge-with-reads
-use Rattle.plan.proofs.walks.next_core.Reads as next-core-reads
-use Rattle.plan.proofs.walks.seat.Reads as seat-reads
-use Rattle.plan.proofs.walks.seat_both.Reads as seat-both-reads
-use Rattle.plan.proofs.walks.split_on.Reads as split-on-reads
-use Rattle.plan.proofs.walks.stick.Reads as stick-reads
+use Rattle.plan.proofs.walk.judge_with.Reads as judge-with-reads
+use Rattle.plan.proofs.walk.next_core.Reads as next-core-reads
+use Rattle.plan.proofs.walk.seat.Reads as seat-reads
+use Rattle.plan.proofs.walk.seat_both.Reads as seat-both-reads
+use Rattle.plan.proofs.walk.split_on.Reads as split-on-reads
+use Rattle.plan.proofs.walk.stick.Reads as stick-reads
 
 abbrev Inv-loop : tie.InvT-loop
 Inv-loop machine costs placed₀ records₀ k whole here₀ placed records here = Under (machine .cores) costs (machine .grain) k whole placed₀ here₀ placed records here
