@@ -2,8 +2,8 @@
 -- Assumes nothing.
 --
 --   each-join, each-parts, each-only, each-middle     what holds of each, of two lists, of those that pass a test, of one
---   lacks-end, apart-end, apart-snoc, apart-less      keys that are apart, of a list's end, with one more, with one less
---   only-append, only-none     those that pass a test, of two lists, and none
+--   apart-end, apart-snoc, apart-less      keys that are apart, of a list's end, with one more, with one less
+--   only-append, only-none, only-all, only-map     those that pass a test, of two lists, none, all, and of what a list is made into
 --   sum-append, sum-map        a sum over two lists, and over what a list is made into
 use mathlib.Core.Path.{_≡_, refl, sym, ap}
 use mathlib.Core.Bool.{Bool, true, false}
@@ -71,6 +71,14 @@ module _ {A : Type 0} (test : A → Bool) where
   pub only-all : (l : List A) → Each (λ a. test a ≡ true) l → only test l ≡ l
   only-all [] h = refl
   only-all (a ∷ l) h = rw (h .0, only-all l (h .1))
+
+pub only-map : {A B : Type 0} (test : B → Bool) (f : A → B) (l : List A) → only test (map f l) ≡ map f (only (λ a. test (f a)) l)
+only-map test f [] = refl
+only-map {A} {B} test f (a ∷ l) = by (test (f a)) (only-map test f l)
+  where
+    by : (t : Bool) → only test (map f l) ≡ map f (only (λ a. test (f a)) l) → keep t (f a) (only test (map f l)) ≡ map f (keep t a (only (λ a. test (f a)) l))
+    by true h = ap (λ (z : List B). f a ∷ z) h
+    by false h = h
 
 -- ---- sumBy
 
