@@ -4,10 +4,10 @@
 --   Rightful m c ts           the tasks ts break no rule with the machine m and the costs c
 --   rightful-known, rightful-faultless       as a test tells
 --   edited-rightful           so do the tasks after an edit
-use mathlib.Core.Path.{_≡_, refl, sym, ap, subst}
-use mathlib.Core.Bool.{Bool, true, false, cond, not}
-use mathlib.Core.List.{List, [], _∷_, _++_}
-use Prim.Native.Nat.{ℕ, suc, _≤_}
+use mathlib.Core.Path.{_≡_, refl}
+use mathlib.Core.Bool.{Bool, true, false, not}
+use mathlib.Core.List.{List, [], _∷_}
+use Prim.Native.Nat.{ℕ, _≤_}
 use native.Mathlib.Omega.{arith}
 use borrow.Author.Tests.{eqb-true, ltb-true, leb-true, le-leb}
 use lib.Dec.{eqb, ltb, leb}
@@ -19,9 +19,8 @@ use Rattle.demand.proofs.Sums.{each-snoc}
 use Rattle.task.specs.declared.Name.{Name}
 use Rattle.task.specs.declared.Task.{Task}
 use Rattle.task.specs.declared.Machine.{Machine}
-use Rattle.task.specs.Names.{formed, sameName}
+use Rattle.task.specs.Names.{formed}
 use Rattle.task.specs.Tasks.{tasksMost, wholePiece, placeOf, rule, firstFault, stateFault, sizedMachine}
-use Rattle.task.proofs.NameLaws.{same-name-exact}
 use Rattle.walks.specs.Lists.{Apart}
 use Rattle.walks.specs.Edits.{add, withdraw, retime, edited}
 use Rattle.walks.proofs.ListLaws.{apart-snoc}

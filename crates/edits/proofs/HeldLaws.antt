@@ -10,7 +10,7 @@ use mathlib.Core.List.{List, [], _∷_, _++_, map, map-append}
 use Prim.Native.Nat.{ℕ, zero, suc, _+_, _≤_, _<_}
 use native.Mathlib.Omega.{arith}
 use lib.Dec.{eqb}
-use lib.ListN.{length, take}
+use lib.ListN.{length, take, getD}
 use lib.Seq.{take-suc, take-length}
 use Rattle.demand.specs.declared.Costs.{Costs}
 use Rattle.demand.specs.Sizes.{Each, Sized}
@@ -33,8 +33,8 @@ use Rattle.plan.specs.declared.Plan.{Plan}
 use Rattle.plan.specs.declared.Reply.{Reply}
 use Rattle.plan.specs.declared.Layout.{Layout}
 use Rattle.plan.specs.Walk.{wholeOf, taskWay, upto, walked}
-use Rattle.plan.specs.Layout.{pieceOf}
-use Rattle.plan.specs.Shows.{storedOf, LayoutShows}
+use Rattle.plan.specs.Layout.{blank, pieceOf}
+use Rattle.plan.specs.Shows.{storedOf, numbersOn, LayoutShows}
 use Rattle.plan.proofs.GoingLaws.{piece-stored}
 use Rattle.plan.proofs.Theorems.{plan-faultless, plan-comes, plan-shows, placed-places}
 use Rattle.edits.specs.Edits.{byName, tasksHeld, Held}
@@ -64,6 +64,14 @@ shown n ts apart (e ∷ x) low =
         map pieceOf (keep t (storedOf e) (ofPlace (placeOf 1 n ts) (map storedOf x))) ≡ map (λ y. y .piece) (keep t (relabel (taskAt ts) e) (ofKey byName n (map (relabel (taskAt ts)) x)))
     by true h = cc (h, piece-stored (e .item) (e .piece))
     by false h = h
+
+-- what a layout shows of what was placed, it shows of each name
+module _ (ts : List Task) (apart : Apart (λ t. t .name) ts) (l : List (Placed ℕ)) (low : Each (λ e. e .item < length ts) l) (y : Layout) (shows : LayoutShows y l) where
+  shows-name : (n : Name) (q : ℕ) → q < 16 → map pieceOf (ofPlace (placeOf 1 n ts) (map (λ i. getD (y .pieces) i blank) (numbersOn y q))) ≡ shareOn byName n q (map (relabel (taskAt ts)) l)
+  shows-name n q core =
+      ap (λ (z : List Stored). map pieceOf (ofPlace (placeOf 1 n ts) z)) (shows .numbers q core)
+      ∙ (shown n ts apart (onCore q l) (each-only (λ (e : Placed ℕ). e .item < length ts) (λ e. eqb (e .on) q) l low)
+      ∙ ap (λ (z : List (Placed Task)). map (λ e. e .piece) (ofKey byName n z)) (sym (only-map (λ (e : Placed Task). eqb (e .on) q) (relabel (taskAt ts)) l)))
 
 -- ---- a held plan
 
@@ -97,9 +105,6 @@ held-told s held =
       stand = st;
       log = map (relabel (taskAt (tasksHeld s))) l;
       walks = sym (walked-tasks m c (tasksHeld s)) ∙ ap (relabelled (taskAt (tasksHeld s))) planned;
-      shows = λ name q low.
-          ap (λ (z : List Stored). map pieceOf (ofPlace (placeOf 1 name (tasksHeld s)) z)) (shows .numbers q low)
-          ∙ (shown name (tasksHeld s) apart (onCore q l) (each-only (λ (e : Placed ℕ). e .item < length (tasksHeld s)) (λ e. eqb (e .on) q) l (placed-places m c n ts faultless st l planned))
-          ∙ ap (λ (z : List (Placed Task)). map (λ e. e .piece) (ofKey byName name z)) (sym (only-map (λ (e : Placed Task). eqb (e .on) q) (relabel (taskAt (tasksHeld s))) l)));
+      shows = shows-name (tasksHeld s) apart l (placed-places m c n ts faultless st l planned) (s .layout) shows;
       sorts = record { apart = apart; good = each-imp (λ t. Sized (wholePiece (t .times))) Timed (λ t size. omega (arith, size .budget-some, size .budget-fits)) (tasksHeld s) (sane .timed) };
     }

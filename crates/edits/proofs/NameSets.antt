@@ -8,7 +8,7 @@
 --   place-none, place-unnamed    the place of a name that no task has
 --   faults-known, faults-none    no fault down a list, told by its tasks
 --   place-name             the place of a name is the place of the task that has it
-use mathlib.Core.Path.{_≡_, refl, sym, ap, _∙_, subst}
+use mathlib.Core.Path.{_≡_, refl, sym, ap, _∙_}
 use mathlib.Core.Bool.{Bool, true, false, cond}
 use mathlib.Core.Logic.{_⊎_, inl, inr}
 use mathlib.Core.List.{List, [], _∷_, _++_}
@@ -23,7 +23,7 @@ use Rattle.demand.proofs.Sums.{each-imp, each-snoc, each-front, each-last}
 use Rattle.task.specs.declared.Name.{Name}
 use Rattle.task.specs.declared.Task.{Task}
 use Rattle.task.specs.Names.{formed, sameName}
-use Rattle.task.specs.Tasks.{wholePiece, placeOf, past, taskAt, rule, orElse, faultOf, firstFault}
+use Rattle.task.specs.Tasks.{wholePiece, placeOf, past, taskAt, rule, faultOf, firstFault}
 use Rattle.task.proofs.NameLaws.{same-name-exact, same-name-refl}
 use Rattle.task.proofs.TaskLaws.{fault-free, rule-fine, or-else-fine}
 use Rattle.walks.specs.Lists.{Lacks, Apart}

@@ -11,8 +11,8 @@
 --   after-edits            after any sequence of edits, refusals among them, a held plan is held, of the same machine and costs
 --   after-edits-afresh     so it equals the plan worked out afresh from the tasks then held
 --   edit-before            an accepted edit keeps the pieces of each task before the edited one in each packing order, old and new, that holds it
---   edit-after             and where at a later task in each of those the walks come to the same state, of that task and all later ones: a state is
---                          a core and the row on it, so this is to stand at the same core with the same row
+--   edit-after             and where at a later task in each of those the walks come to the same state, of that task and all later ones
+--   same-stand             a state is a core and the row on it: two walks that stand at the same core with the same row come to the same state
 use mathlib.Core.Path.{_≡_, refl, sym, ap, _∙_, subst}
 use mathlib.Core.Logic.{_⊎_}
 use mathlib.Core.List.{List, [], _∷_}
@@ -24,12 +24,14 @@ use Rattle.task.specs.declared.Task.{Task}
 use Rattle.task.specs.declared.Machine.{Machine}
 use Rattle.task.specs.Tasks.{stateFault}
 use Rattle.plan.specs.declared.Plan.{Plan}
-use Rattle.walks.specs.Way.{fine, stuck, walkOf}
+use Rattle.walks.specs.Way.{Placed, fine, stuck, walkOver, walkOf}
 use Rattle.walks.specs.Edits.{edited}
 use Rattle.walks.specs.Kept.{Among, Behind, Meet}
+use Rattle.walks.specs.Halves.{Stand}
 use Rattle.walks.proofs.OrderLaws.{denser-lawful}
 use Rattle.walks.proofs.KeptLaws.{Around, kept-before, kept-after}
 use Rattle.walks.proofs.EditLaws.{edit-around}
+use Rattle.walks.proofs.HalvesLaws.{stands-meet}
 use Rattle.plan.specs.Walk.{wholeOf, taskWay, walked}
 use Rattle.plan.specs.Plan.{planOf}
 use Rattle.edits.specs.Edits.{byName, TaskEdit, tasksHeld, editFault, givenBack, editOf, accepted, Held, played}
@@ -81,6 +83,9 @@ after-edits-afresh es s held =
     ap (λ (m : Machine). planOf m (s .costs) n ts) (sym (now .1)) ∙ (ap (λ (c : Costs). planOf (played es s .machine) c n ts) (sym (now .2)) ∙ now .0)
 
 -- ---- what an accepted edit keeps
+
+pub same-stand : (m : Machine) (c : Costs) (p p′ : List Task) (s s′ : Stand) (l l′ : List (Placed Task)) → walkOver (taskWay m c) p ≡ fine s l → walkOver (taskWay m c) p′ ≡ fine s′ l′ → s .core ≡ s′ .core → s .row ≡ s′ .row → Meet (taskWay m c) p p′
+same-stand m c = stands-meet c (m .grain) (m .cores) wholeOf
 
 module _ (e : TaskEdit) (s : Plan) (held : Held s) (taken : editOf e s .number ≡ 0) where
   was : Told s

@@ -10,7 +10,7 @@ pub mod PlanLaws
 pub mod RowLaws
 pub mod GoingLaws
 pub mod JudgeLaws
-pub mod ShareLaws
+pub mod PlaceLaws
 pub mod ShowLaws
 pub mod WordLaws
 pub mod Theorems

@@ -9,6 +9,7 @@
 --   no-room-at            those before that task in packing order are placed, and where they end it has no place
 --   no-room-place         and it is one of the first n
 --   packing-order         the packing order has the place of each task, once
+--   packing-ranked        greater C/D first: none stands behind one that it beats, and ties stand by earlier task
 --   all-placed            every task is placed: whole on a core, or by its greatest split on a core and the next; nothing else is placed of it
 --   budgets-add           the budgets of a task's pieces add to C
 --   windows-add           their windows add to D
@@ -42,12 +43,13 @@ use Rattle.task.specs.declared.Task.{Task}
 use Rattle.task.specs.declared.Machine.{Machine}
 use Rattle.task.specs.Tasks.{wholePiece, taskAt, stateFault}
 use Rattle.task.proofs.TaskLaws.{Sane, state-sane}
-use Rattle.walks.specs.Lists.{sumBy}
+use Rattle.walks.specs.Lists.{Chain, sumBy}
+use Rattle.walks.specs.Order.{Precedes}
 use Rattle.walks.specs.Way.{Placed, placedAs, Ending, fine, stuck, onCore, rowOf}
 use Rattle.walks.specs.Shares.{Divides}
 use Rattle.walks.specs.Halves.{Stand, Shared, splitCount}
 use Rattle.walks.proofs.ListLaws.{each-middle, sum-map}
-use Rattle.walks.proofs.OrderLaws.{pack-every}
+use Rattle.walks.proofs.OrderLaws.{pack-every, pack-ranked, denser-lawful}
 use Rattle.walks.proofs.WayLaws.{SticksAt, sticks-at, walk-items}
 use Rattle.walks.proofs.SoundLaws.{Planned, Has, share-of, spots-within, few-on-core, apart-on, pieces-each}
 use Rattle.walks.proofs.HalvesLaws.{shared-firsts, shares-firsts, shared-free}
@@ -55,11 +57,11 @@ use Rattle.plan.specs.declared.Reply.{Reply}
 use Rattle.plan.specs.Walk.{wholeAt, placeWay, upto, walked}
 use Rattle.plan.specs.Layout.{layoutOn, none, blank}
 use Rattle.plan.specs.Plan.{refused, finished, unlessFault, planOf}
-use Rattle.plan.specs.Shares.{byPlace, denserAt, packed, Rearranged, ofTask}
+use Rattle.plan.specs.Places.{byPlace, denserAt, packed, Rearranged, ofTask}
 use Rattle.plan.specs.Shows.{LayoutShows, WordShows}
 use Rattle.plan.proofs.WalkLaws.{whole-kind, claims, walk-planned, only-seven}
 use Rattle.plan.proofs.PlanLaws.{sized-at, upto-each, fault-seven}
-use Rattle.plan.proofs.ShareLaws.{place-exact, rearranged}
+use Rattle.plan.proofs.PlaceLaws.{place-exact, upto-chain, rearranged}
 use Rattle.plan.proofs.ShowLaws.{Room, kept, kept-shows}
 use Rattle.plan.proofs.WordLaws.{word-shows}
 
@@ -152,6 +154,12 @@ module _ (m : Machine) (c : Costs) (n : ℕ) (ts : List Task) (faultless : state
 
   sized-order : Each (λ k. Sized (wholeAt (take n ts) k)) (packed (take n ts))
   sized-order = pack-every (denserAt (take n ts)) (λ k. Sized (wholeAt (take n ts) k)) (upto (length (take n ts))) (upto-each (λ k. Sized (wholeAt (take n ts) k)) (length (take n ts)) sized-place)
+
+  pub packing-ranked : Chain (Precedes (denserAt (take n ts)) (λ i j. i < j)) (packed (take n ts))
+  packing-ranked =
+      let places = upto (length (take n ts)) in
+      pack-ranked (λ k. 1 ≤ wholeAt (take n ts) k .window) (denserAt (take n ts)) (denser-lawful (wholeAt (take n ts))) (λ i j. i < j) places
+      (upto-each (λ k. 1 ≤ wholeAt (take n ts) k .window) (length (take n ts)) (λ k low. (let size = sized-place k low in omega (arith, size .budget-some, size .budget-fits)))) (upto-chain (length (take n ts)))
 
   abbrev timesOf : ℕ → Times
   timesOf k = taskAt (take n ts) k .times

@@ -20,7 +20,7 @@ use lib.ListN.{length}
 use Rattle.demand.specs.Sizes.{Each}
 use Rattle.walks.specs.Lists.{Lacks, Apart, keep}
 use Rattle.walks.specs.Way.{Placed}
-use Rattle.plan.specs.Shares.{ofTask}
+use Rattle.plan.specs.Places.{ofTask}
 use Rattle.plan.specs.Shows.{bitOf, WordShows}
 use Rattle.plan.proofs.Ones.{ones-or-fresh, bit-set, bit-kept-high, bit-kept-low}
 use Rattle.plan.proofs.ShowLaws.{wordOn}

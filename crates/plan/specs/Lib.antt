@@ -2,6 +2,6 @@
 pub mod Walk
 pub mod Layout
 pub mod Plan
-pub mod Shares
+pub mod Places
 pub mod Shows
 pub mod ways

@@ -15,7 +15,7 @@ use Rattle.plan.specs.declared.Stored.{Stored}
 use Rattle.plan.specs.declared.Layout.{Layout}
 use Rattle.walks.specs.Way.{Placed, onCore, rowOf}
 use Rattle.plan.specs.Layout.{stored, blank, pieceNumbered}
-use Rattle.plan.specs.Shares.{ofTask}
+use Rattle.plan.specs.Places.{ofTask}
 
 abbrev pub storedOf : Placed ℕ → Stored
 storedOf e = stored (e .item) (e .piece)

@@ -24,6 +24,7 @@
 --   afresh                          after any sequence of edits the plan equals the one worked out afresh from the tasks then held
 --   edit-made                       where an accepted edit has the tasks that it should
 --   kept-before, kept-after         what an accepted edit keeps
+--   same-state                      where kept-after asks for the same state, that is the same core with the same row
 -- Assumes nothing.
 use mathlib.Core.Path.{_≡_, refl, sym, _∙_}
 use mathlib.Core.Logic.{_⊎_, _↔_}
@@ -44,14 +45,14 @@ use Rattle.task.specs.declared.Task.{Task}
 use Rattle.task.specs.declared.Machine.{Machine}
 use Rattle.task.specs.Tasks.{taskAt}
 use Rattle.walks.specs.Lists.{sumBy}
-use Rattle.walks.specs.Way.{Placed, fine, stuck, onCore, rowOf}
+use Rattle.walks.specs.Way.{Placed, fine, stuck, walkOver, onCore, rowOf}
 use Rattle.walks.specs.Edits.{edited}
 use Rattle.walks.specs.Kept.{Among, Behind, Meet}
 use Rattle.walks.specs.Halves.{Stand, Shared}
 use Rattle.plan.specs.declared.Plan.{Plan}
 use Rattle.plan.specs.Walk.{wholeAt, taskWay, walked}
 use Rattle.plan.specs.Plan.{planOf}
-use Rattle.plan.specs.Shares.{ofTask}
+use Rattle.plan.specs.Places.{ofTask}
 use Rattle.plan.proofs.Theorems.{plan-comes, all-placed, budgets-add, windows-add, cores-pass, cores-keep-up}
 use Rattle.sheet.specs.Sheet.{top, sheetMost, readOf}
 use Rattle.sheet.specs.Fitted.{Fitted, linesOf}
@@ -64,7 +65,7 @@ use Rattle.listing.specs.Placed.{placedEntry}
 use Rattle.listing.proofs.Theorems.{listing-placed, header-counts, listing-determines}
 use Rattle.edits.specs.Edits.{byName, TaskEdit, tasksHeld, editOf, accepted, Held, played}
 use Rattle.edits.specs.Kept.{inOrder, Keeps, editedName, Ahead}
-use Rattle.edits.proofs.Theorems.{plan-held, edit-refused, edit-does, after-edits-afresh, edit-before, edit-after}
+use Rattle.edits.proofs.Theorems.{plan-held, edit-refused, edit-does, after-edits-afresh, edit-before, edit-after, same-stand}
 use Rattle.spardimple.specs.Bytes.{piecesOf, costsOf}
 use Rattle.spardimple.specs.Numbers.{said, replyOf, verdictNumber}
 use Rattle.spardimple.specs.Sheets.{refused, written, machineIn, costsIn, tasksIn, planIn, paperOf, refusal, toldPaper, listingNumber, listingLeft}
@@ -201,6 +202,10 @@ afresh es s = after-edits-afresh es s
 
 pub edit-made : (e : TaskEdit) (s : Plan) → editOf e s .number ≡ 0 → tasksHeld (editOf e s .plan) ≡ edited byName e (tasksHeld s)
 edit-made e s = edit-does e s
+
+pub same-state : (m : Machine) (c : Costs) (p p′ : List Task) (s s′ : Stand) (l l′ : List (Placed Task)) → walkOver (taskWay m c) p ≡ fine s l → walkOver (taskWay m c) p′ ≡ fine s′ l′
+    → s .core ≡ s′ .core → s .row ≡ s′ .row → Meet (taskWay m c) p p′
+same-state = same-stand
 
 module _ (e : TaskEdit) (s : Plan) (held : Held s) (taken : editOf e s .number ≡ 0) where
   pub kept-before : (b : Name) → Ahead (editedName e) b (tasksHeld s) → Ahead (editedName e) b (tasksHeld (editOf e s .plan)) → Keeps s (editOf e s .plan) b

@@ -1,7 +1,7 @@
 -- C=D as a way: one placement divides its task and leaves its cores passing. All the rest is `SoundLaws` and `KeptLaws`.
 -- Assumes nothing.
 --
---   stands-alike         the same core and the same row are the same state
+--   stands-meet          where two walks come to stand at the same core with the same row, they come to the same state
 --   from-one, from-stuck, from-both, from-next      document 01's four rules, in its order 1, 2, 3, 4
 --   from-seven, sticks-seven      no other number than 7 comes of them
 --   Right w              the whole piece w is within the sizes
@@ -33,15 +33,19 @@ use Rattle.demand.proofs.Sums.{each-snoc}
 use Rattle.demand.proofs.BusyLaws.{least-unique}
 use Rattle.demand.proofs.VerdictLaws.{verdict-empty}
 use Rattle.demand.proofs.SplitLaws.{Parts, split-parts, split-means, Free, tight-is-budget}
-use Rattle.walks.specs.Way.{Spot, Placed, placedAs, Landing, refuses, stuck, walkOver, rowOf}
+use Rattle.walks.specs.Way.{Spot, Placed, placedAs, Landing, refuses, fine, stuck, walkOver, rowOf}
 use Rattle.walks.specs.Shares.{Divides, Kinds, Shares, nil, more}
+use Rattle.walks.specs.Kept.{Meet}
 use Rattle.walks.specs.Halves.{Stand, inOne, inTwo, fromCore, halving, Shared, one-piece, two-pieces, splitCount, isFirst}
 use Rattle.walks.proofs.ListLaws.{sum-append}
 use Rattle.walks.proofs.WayLaws.{IfLands, sticks-at}
 use Rattle.walks.proofs.SoundLaws.{row-append, Claim, Sound}
 
-pub stands-alike : (s t : Stand) → s .core ≡ t .core → s .row ≡ t .row → s ≡ t
-stands-alike s t core row = let e : _≡_ {A = Stand} (record { core = s .core; row = s .row }) (record { core = t .core; row = t .row }) = cc in e
+module _ {A : Type 0} (c : Costs) (g m : ℕ) (whole : A → Piece) where
+  pub stands-meet : (p p′ : List A) (s s′ : Stand) (l l′ : List (Placed A)) → walkOver (halving c g m whole) p ≡ fine s l → walkOver (halving c g m whole) p′ ≡ fine s′ l′ → s .core ≡ s′ .core → s .row ≡ s′ .row → Meet (halving c g m whole) p p′
+  stands-meet p p′ s s′ l l′ old new core row =
+      let same : _≡_ {A = Stand} (record { core = s′ .core; row = s′ .row }) (record { core = s .core; row = s .row }) = cc in
+      record { at = s; old-log = l; new-log = l′; old-walk = old; new-walk = new ∙ ap (λ (t : Stand). fine t l′) same }
 
 -- ---- the four rules
 
@@ -140,7 +144,7 @@ module _ {A : Type 0} (c : Costs) (g m : ℕ) (costs : SizedCosts c) (w : Piece)
   row-other p q x never = row-append q log (record { on = p; item = a; piece = x } ∷ []) ∙ rw (ne-eqb p q never, append-nil)
 
   keeps-one : (p : ℕ) (row : List Piece) → Fit m done (record { core = p; row = row }) log → Fine c row → passes (verdictOf c (row ++ (w ∷ []))) ≡ true → IfLands Kept (inOne c g w p row)
-  keeps-one p row h fine e = (
+  keeps-one p row h has e = (
     record {
       here = row-here p row w (h .here);
       ahead = λ q g. row-other p q w (λ z. omega arith) ∙ h .ahead q g;
@@ -149,12 +153,12 @@ module _ {A : Type 0} (c : Costs) (g m : ℕ) (costs : SizedCosts c) (w : Piece)
     },
     record { kinds = rw (right .kind) Kinds.in-one; apart = (tt, tt); within = (h .below, tt); some = (right .size .budget-some, tt); budgets = omega arith; windows = omega arith },
     one-piece,
-    (rw (row-here p row w (h .here)) (record { sizes = each-snoc Sized row w (fine .sizes) (right .size); passing = passes-is (verdictOf c (row ++ (w ∷ []))) e }), tt),
+    (rw (row-here p row w (h .here)) (record { sizes = each-snoc Sized row w (has .sizes) (right .size); passing = passes-is (verdictOf c (row ++ (w ∷ []))) e }), tt),
   )
 
   keeps-two : (p : ℕ) (row : List Piece) (x v : ℕ) → Fit m done (record { core = p; row = row }) log → suc p < m → Fine c row → greatestSplit c g row w ≡ Cut x v → IfLands Kept (inTwo c g w p x v)
-  keeps-two p row x v h next fine e =
-      let parts = split-parts c g row w costs (fine .sizes) (right .size) x v e in
+  keeps-two p row x v h next has e =
+      let parts = split-parts c g row w costs (has .sizes) (right .size) x v e in
       let f = firstPiece w x v in
       let l = lastPiece c w x v in
       let pair : List (Placed A) = record { on = p; item = a; piece = f } ∷ record { on = suc p; item = a; piece = l } ∷ [] in
@@ -167,8 +171,8 @@ module _ {A : Type 0} (c : Costs) (g m : ℕ) (costs : SizedCosts c) (w : Piece)
           count = simp length-append (omega (arith, h .count));
         },
         halved p x v next parts,
-        two-pieces row (fine .sizes) (fine .passing) e,
-        (rw on-first (record { sizes = each-snoc Sized row f (fine .sizes) (parts .first-sized); passing = parts .first-passes }), (rw on-next (record { sizes = (parts .last-sized, tt); passing = parts .last-passes }), tt)),
+        two-pieces row (has .sizes) (has .passing) e,
+        (rw on-first (record { sizes = each-snoc Sized row f (has .sizes) (parts .first-sized); passing = parts .first-passes }), (rw on-next (record { sizes = (parts .last-sized, tt); passing = parts .last-passes }), tt)),
       )
     where
       halved : (p x v : ℕ) → suc p < m → Parts c row w x v → Divides m w (record { on = p; piece = firstPiece w x v } ∷ record { on = suc p; piece = lastPiece c w x v } ∷ [])
@@ -182,19 +186,19 @@ module _ {A : Type 0} (c : Costs) (g m : ℕ) (costs : SizedCosts c) (w : Piece)
       }
 
   keeps-from : (n p : ℕ) (row : List Piece) → p + n + 1 ≡ m → Fit m done (record { core = p; row = row }) log → Fine c row → IfLands Kept (fromCore c g w n p row)
-  keeps-from zero p row left h fine = by (passes (verdictOf c (row ++ (w ∷ [])))) refl
+  keeps-from zero p row left h has = by (passes (verdictOf c (row ++ (w ∷ [])))) refl
     where
       by : (t : Bool) → passes (verdictOf c (row ++ (w ∷ []))) ≡ t → IfLands Kept (elim t [ true ↦ inOne c g w p row | false ↦ refuses 7 ])
-      by true e = keeps-one p row h fine e
+      by true e = keeps-one p row h has e
       by false e = tt
-  keeps-from (suc n) p row left h fine = by (passes (verdictOf c (row ++ (w ∷ [])))) refl (greatestSplit c g row w) refl (keeps-from n (suc p) [] (omega arith) next (fine-empty c))
+  keeps-from (suc n) p row left h has = by (passes (verdictOf c (row ++ (w ∷ [])))) refl (greatestSplit c g row w) refl (keeps-from n (suc p) [] (omega arith) next (fine-empty c))
     where
       next : Fit m done (record { core = suc p; row = [] }) log
       next = record { here = h .ahead (suc p) (omega arith); ahead = λ q g. h .ahead q (omega arith); below = omega arith; count = omega (arith, h .count) }
 
       by : (t : Bool) → passes (verdictOf c (row ++ (w ∷ []))) ≡ t → (u : Split) → greatestSplit c g row w ≡ u → IfLands Kept (fromCore c g w n (suc p) []) → IfLands Kept (elim t [ true ↦ inOne c g w p row | false ↦ (elim u [ Cut x v ↦ inTwo c g w p x v | Nowhere ↦ fromCore c g w n (suc p) [] ]) ])
-      by true e u s rec = keeps-one p row h fine e
-      by false e (Cut x v) s rec = keeps-two p row x v h (omega arith) fine s
+      by true e u s rec = keeps-one p row h has e
+      by false e (Cut x v) s rec = keeps-two p row x v h (omega arith) has s
       by false e Nowhere s rec = rec
 
 pub halving-sound : {A : Type 0} (c : Costs) (g m : ℕ) (whole : A → Piece) → SizedCosts c → 1 ≤ m → Sound (halving c g m whole) (halves c g m whole)

@@ -1,8 +1,9 @@
--- Laws of `Each`, `Apart`, `only` and `sumBy`.
+-- Laws of `Each`, `Apart`, `Chain`, `only` and `sumBy`.
 -- Assumes nothing.
 --
 --   each-join, each-parts, each-only, each-middle     what holds of each, of two lists, of those that pass a test, of one
 --   apart-end, apart-snoc, apart-less      keys that are apart, of a list's end, with one more, with one less
+--   chain-snoc                 one more at the end
 --   only-append, only-none, only-all, only-map     those that pass a test, of two lists, none, all, and of what a list is made into
 --   sum-append, sum-map        a sum over two lists, and over what a list is made into
 use mathlib.Core.Path.{_≡_, refl, sym, ap}
@@ -12,7 +13,7 @@ use Prim.Native.Nat.{ℕ, _+_}
 use native.Mathlib.Omega.{arith}
 use Rattle.demand.specs.Sizes.{Each}
 use Rattle.demand.proofs.Sums.{each-snoc}
-use Rattle.walks.specs.Lists.{Lacks, Apart, keep, only, sumBy}
+use Rattle.walks.specs.Lists.{Lacks, Apart, Chain, keep, only, sumBy}
 
 -- ---- Each
 
@@ -52,6 +53,12 @@ module _ {A K : Type 0} (key : A → K) where
   apart-less (b ∷ k) a l h =
       let parts = each-parts (λ c. key c ≡ key b → ⊥) k (a ∷ l) (h .0) in
       (each-join (λ c. key c ≡ key b → ⊥) k l (parts .0) (parts .1 .1), apart-less k a l (h .1))
+
+-- ---- Chain
+
+pub chain-snoc : {A : Type 0} (R : A → A → Type 0) (l : List A) (b : A) → Chain R l → Each (λ a. R a b) l → Chain R (l ++ (b ∷ []))
+chain-snoc R [] b h new = (tt, tt)
+chain-snoc R (a ∷ l) b h new = (each-snoc (R a) l b (h .0) (new .0), chain-snoc R l b (h .1) (new .1))
 
 -- ---- only
 

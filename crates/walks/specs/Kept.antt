@@ -23,9 +23,9 @@ module _ {A K : Type 0} (N : Keyed A K) where
   abbrev pub Before : K → K → List A → Type 0
   Before k b l = (p q : List A) (a : A) → l ≡ p ++ (a ∷ q) → N .key a ≡ k → Among b p
 
-  pub record Behind (k : K) (l p : List A) (b : A) (r : List A) : Type 0 where
-    pub order : l ≡ p ++ (b ∷ r)
-    pub later : Among k (b ∷ r) → ⊥
+pub record Behind {A K : Type 0} (N : Keyed A K) (k : K) (l p : List A) (b : A) (r : List A) : Type 0 where
+  pub order : l ≡ p ++ (b ∷ r)
+  pub later : Among N k (b ∷ r) → ⊥
 
 pub record Meet {A : Type 0} (W : Way A) (p p′ : List A) : Type 0 where
   pub at : W .State
