@@ -27,7 +27,7 @@ use Rattle.task.specs.Tasks.{wholePiece, placeOf, past, taskAt, rule, faultOf, 
 use Rattle.task.proofs.NameLaws.{same-name-exact, same-name-refl}
 use Rattle.task.proofs.TaskLaws.{fault-free, rule-fine, or-else-fine}
 use Rattle.walks.specs.Lists.{Lacks, Apart}
-use Rattle.walks.proofs.KeptLaws.{Exact, same-other}
+use Rattle.walks.proofs.KeyLaws.{Exact, same-other}
 use Rattle.edits.specs.Edits.{byName}
 
 abbrev pub Unnamed : Name → List Task → Type 0

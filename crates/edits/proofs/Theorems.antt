@@ -28,7 +28,7 @@ use Rattle.walks.specs.Way.{Placed, fine, stuck, walkOver, walkOf}
 use Rattle.walks.specs.Edits.{edited}
 use Rattle.walks.specs.Kept.{Among, Behind, Meet}
 use Rattle.walks.specs.Halves.{Stand}
-use Rattle.walks.proofs.OrderLaws.{denser-lawful}
+use Rattle.walks.proofs.DenserLaws.{denser-lawful}
 use Rattle.walks.proofs.KeptLaws.{Around, kept-before, kept-after}
 use Rattle.walks.proofs.EditLaws.{edit-around}
 use Rattle.walks.proofs.HalvesLaws.{stands-meet}

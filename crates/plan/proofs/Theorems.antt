@@ -49,7 +49,8 @@ use Rattle.walks.specs.Way.{Placed, placedAs, Ending, fine, stuck, onCore, rowO
 use Rattle.walks.specs.Shares.{Divides}
 use Rattle.walks.specs.Halves.{Stand, Shared, splitCount}
 use Rattle.walks.proofs.ListLaws.{each-middle, sum-map}
-use Rattle.walks.proofs.OrderLaws.{pack-every, pack-ranked, denser-lawful}
+use Rattle.walks.proofs.OrderLaws.{pack-every, pack-ranked}
+use Rattle.walks.proofs.DenserLaws.{denser-lawful}
 use Rattle.walks.proofs.WayLaws.{SticksAt, sticks-at, walk-items}
 use Rattle.walks.proofs.SoundLaws.{Planned, Has, share-of, spots-within, few-on-core, apart-on, pieces-each}
 use Rattle.walks.proofs.HalvesLaws.{shared-firsts, shares-firsts, shared-free}

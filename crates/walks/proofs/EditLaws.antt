@@ -15,7 +15,8 @@ use lib.ListN.{length}
 use Rattle.demand.specs.Sizes.{Each}
 use Rattle.walks.specs.Lists.{Apart}
 use Rattle.walks.specs.Edits.{Keyed, Edit, add, withdraw, retime, without, replaced, edited, editedKey}
-use Rattle.walks.proofs.KeptLaws.{Exact, Between, Around}
+use Rattle.walks.proofs.KeyLaws.{Exact}
+use Rattle.walks.proofs.KeptLaws.{Between, Around}
 
 module _ {A K : Type 0} (N : Keyed A K) where
   pub without-each : (P : A → Type 0) (k : K) (l : List A) → Each P l → Each P (without N k l)

@@ -31,7 +31,7 @@ use Rattle.walks.specs.Edits.{Keyed}
 use Rattle.walks.specs.Kept.{ofKey, Among}
 use Rattle.walks.proofs.ListLaws.{each-join, each-only, only-append, only-none, only-all}
 use Rattle.walks.proofs.WayLaws.{IfLands, over-keeps, shares-snoc, placed-each}
-use Rattle.walks.proofs.KeptLaws.{Exact, among-key, same-other, same-own}
+use Rattle.walks.proofs.KeyLaws.{Exact, among-key, same-other, same-own}
 
 -- ---- rows
 
