@@ -13,7 +13,7 @@ use native.Mathlib.Omega.{arith}
 use lib.ListN.{length}
 use Rattle.task.specs.declared.Task.{Task}
 use Rattle.plan.specs.declared.Plan.{Plan}
-use Rattle.edits.specs.Edits.{Edit, played}
+use Rattle.edits.specs.Edits.{TaskEdit, played}
 use Rattle.lines.specs.declared.Deed.{Deed}
 use Rattle.lines.specs.declared.Order.{Order}
 use Rattle.lines.specs.Lines.{newline}
@@ -81,7 +81,7 @@ reply-asked Deed.Retime t p = refl
 reply-asked Deed.List t p = refl
 reply-asked Deed.Other t p = refl
 
-played-append : (es fs : List Edit) (p : Plan) → played (es ++ fs) p ≡ played fs (played es p)
+played-append : (es fs : List TaskEdit) (p : Plan) → played (es ++ fs) p ≡ played fs (played es p)
 played-append [] fs p = refl
 played-append (e ∷ es) fs p = played-append es fs _
 

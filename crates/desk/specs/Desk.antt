@@ -15,7 +15,8 @@ use lib.ListN.{take, set, replicate}
 use Rattle.task.specs.declared.Task.{Task}
 use Rattle.plan.specs.declared.Plan.{Plan}
 use Rattle.plan.specs.declared.Reply.{Reply}
-use Rattle.edits.specs.Edits.{Edit, accepted, givenBack, editOf}
+use Rattle.walks.specs.Edits.{Edit}
+use Rattle.edits.specs.Edits.{accepted, givenBack, editOf}
 use Rattle.lines.specs.declared.Deed.{Deed}
 use Rattle.lines.specs.declared.Order.{Order}
 use Rattle.lines.specs.Lines.{newline}

@@ -8,7 +8,8 @@ use mathlib.Core.Path.{_≡_}
 use mathlib.Core.List.{List, [], _∷_, _++_}
 use Prim.Native.Nat.{ℕ}
 use Rattle.task.specs.declared.Task.{Task}
-use Rattle.edits.specs.Edits.{Edit}
+use Rattle.walks.specs.Edits.{Edit}
+use Rattle.edits.specs.Edits.{TaskEdit}
 use Rattle.lines.specs.declared.Deed.{Deed}
 use Rattle.lines.specs.Lines.{newline}
 use Rattle.lines.specs.Orders.{orderOf}
@@ -25,13 +26,13 @@ abbrev pub written : List (List ℕ) → List ℕ
 written [] = []
 written (l ∷ ls) = l ++ (newline ∷ written ls)
 
-abbrev pub editsBy : Deed → Task → List Edit
+abbrev pub editsBy : Deed → Task → List TaskEdit
 editsBy Deed.Add t = Edit.add t ∷ []
 editsBy Deed.Withdraw t = Edit.withdraw (t .name) ∷ []
 editsBy Deed.Retime t = Edit.retime t ∷ []
 editsBy Deed.List t = []
 editsBy Deed.Other t = []
 
-abbrev pub asked : List (List ℕ) → List Edit
+abbrev pub asked : List (List ℕ) → List TaskEdit
 asked [] = []
 asked (l ∷ ls) = editsBy (orderOf l .deed) (orderOf l .task) ++ asked ls

@@ -27,11 +27,14 @@ use Rattle.task.specs.declared.Machine.{Machine}
 use Rattle.task.specs.Tasks.{tasksMost, rule, firstFault, stateFault, sizedMachine}
 use Rattle.plan.specs.declared.Plan.{Plan}
 use Rattle.plan.specs.declared.Reply.{Reply}
-use Rattle.plan.specs.Walk.{Stand, Placed, fine, stuck}
-use Rattle.plan.specs.Plan.{noTask, padded, walked, refused, finished, unlessFault, planOf}
+use Rattle.walks.specs.Way.{Placed, fine, stuck}
+use Rattle.walks.specs.Edits.{edited}
+use Rattle.walks.specs.Halves.{Stand}
+use Rattle.plan.specs.Walk.{walked}
+use Rattle.plan.specs.Plan.{noTask, padded, refused, finished, unlessFault, planOf}
 use Rattle.plan.proofs.Theorems.{plan-faultless, plan-or-stuck}
-use Rattle.edits.proofs.FaultLaws.{lists-known, lists-faultless}
-use Rattle.edits.specs.Edits.{Edit, tasksIn, editFault, edited, givenBack, unless, settled, replanned, editOf, accepted, Held}
+use Rattle.edits.proofs.FaultLaws.{rightful-known, rightful-faultless}
+use Rattle.edits.specs.Edits.{byName, TaskEdit, tasksHeld, editFault, givenBack, backAt, settled, replanned, editOf, accepted, Held}
 
 pub plan-same : (m : Machine) (c : Costs) (n : ℕ) (xs ys : List Task) → take n xs ≡ take n ys → planOf m c n xs ≡ planOf m c n ys
 unfolding planOf stateFault
@@ -40,7 +43,7 @@ plan-same m c n xs ys e = ap (λ (z : List Task). unlessFault (rule (sizedMachin
 pub record Made (m : Machine) (c : Costs) (ts : List Task) (s : Plan) : Type 0 where
   pub machine-is : s .machine ≡ m
   pub costs-is : s .costs ≡ c
-  pub tasks-are : tasksIn s ≡ ts
+  pub tasks-are : tasksHeld s ≡ ts
   pub held : Held s
 
 module _ (m : Machine) (c : Costs) (ts : List Task) where
@@ -63,14 +66,14 @@ module _ (m : Machine) (c : Costs) (ts : List Task) where
       us : List Task
       us = take (length ts) ts
 
-      by : ((st : Stand) × (l : List (Placed ℕ)) × (walked m c us ≡ fine st l) × (planOf m c (length ts) ts ≡ finished m c us (fine st l))) ⊎ ((k : ℕ) × (walked m c us ≡ stuck k) × (planOf m c (length ts) ts ≡ refused 7 (suc k))) → (s : Plan) × (planOf m c (length ts) ts ≡ accepted s) × Made m c ts s
+      by : ((st : Stand) × (l : List (Placed ℕ)) × (walked m c us ≡ fine st l) × (planOf m c (length ts) ts ≡ finished m c us (fine st l))) ⊎ ((k : ℕ) × (walked m c us ≡ stuck k 7) × (planOf m c (length ts) ts ≡ refused 7 (suc k))) → (s : Plan) × (planOf m c (length ts) ts ≡ accepted s) × Made m c ts s
       by (inl r) = (let e : planOf m c (length ts) ts ≡ finished m c ts (fine (r .0) (r .1)) = r .3 ∙ ap (λ (z : List Task). finished m c z (fine (r .0) (r .1))) (take-length ts) in (finished m c ts (fine (r .0) (r .1)) .plan, e, made-of (r .0) (r .1) e))
       by (inr r) = absurd (omega (arith, sym number ∙ ap (λ (z : Reply). z .number) (r .2)))
 
 -- the plan of the first n of a list is the plan of those
 plan-cut : (m : Machine) (c : Costs) (n : ℕ) (ts : List Task) → stateFault m c n ts ≡ 0 → planOf m c (length (take n ts)) (take n ts) ≡ planOf m c n ts
 unfolding planOf
-plan-cut m c n ts faultless = rw (lists-faultless m c (take n ts) (lists-known m c n ts faultless), faultless, take-length (take n ts))
+plan-cut m c n ts faultless = rw (rightful-faultless m c (take n ts) (rightful-known m c n ts faultless), faultless, take-length (take n ts))
 
 pub plan-holds : (m : Machine) (c : Costs) (n : ℕ) (ts : List Task) → planOf m c n ts .number ≡ 0 → Held (planOf m c n ts .plan)
 plan-holds m c n ts number =
@@ -95,43 +98,43 @@ module _ (s : Plan) (ts : List Task) where
       by true e = (let r = plan-made (s .machine) (s .costs) ts (eqb-true (planned .number) 0 e) in inl (eqb-true (planned .number) 0 e, subst (λ (z : Reply). Made (s .machine) (s .costs) ts (z .plan)) (sym (r .1)) (r .2)))
       by false e = inr (eqb-false (planned .number) 0 e, refl)
 
-  unless-answered : (k : ℕ) (r : Reply) → Answered s ts r → Answered s ts (unless k s r)
-  unless-answered zero r a = a
-  unless-answered (suc k) r a = inr ((λ z. omega arith), refl)
+  back-answered : (k : ℕ) (r : Reply) → Answered s ts r → Answered s ts (backAt k s r)
+  back-answered zero r a = a
+  back-answered (suc k) r a = inr ((λ z. omega arith), refl)
 
-pub edit-answered : (e : Edit) (s : Plan) → Answered s (edited e (tasksIn s)) (editOf e s)
+pub edit-answered : (e : TaskEdit) (s : Plan) → Answered s (edited byName e (tasksHeld s)) (editOf e s)
 unfolding editOf
 edit-answered e s =
-    let ts = edited e (tasksIn s) in
-    unless-answered s ts (stateFault (s .machine) (s .costs) (s .tasks .count) (s .tasks .list)) (unless (editFault e (tasksIn s)) s (replanned s ts))
-    (unless-answered s ts (editFault e (tasksIn s)) (replanned s ts) (settled-answered s ts))
+    let ts = edited byName e (tasksHeld s) in
+    back-answered s ts (stateFault (s .machine) (s .costs) (s .tasks .count) (s .tasks .list)) (backAt (editFault e (tasksHeld s)) s (replanned s ts))
+    (back-answered s ts (editFault e (tasksHeld s)) (replanned s ts) (settled-answered s ts))
 
-pub edit-made : (e : Edit) (s : Plan) → editOf e s .number ≡ 0 → Made (s .machine) (s .costs) (edited e (tasksIn s)) (editOf e s .plan)
+pub edit-made : (e : TaskEdit) (s : Plan) → editOf e s .number ≡ 0 → Made (s .machine) (s .costs) (edited byName e (tasksHeld s)) (editOf e s .plan)
 edit-made e s number = by (edit-answered e s)
   where
-    by : Answered s (edited e (tasksIn s)) (editOf e s) → Made (s .machine) (s .costs) (edited e (tasksIn s)) (editOf e s .plan)
+    by : Answered s (edited byName e (tasksHeld s)) (editOf e s) → Made (s .machine) (s .costs) (edited byName e (tasksHeld s)) (editOf e s .plan)
     by (inl r) = r .1
     by (inr r) = absurd (r .0 number)
 
-pub edit-back : (e : Edit) (s : Plan) → (editOf e s .number ≡ 0 → ⊥) → editOf e s .plan ≡ s
+pub edit-back : (e : TaskEdit) (s : Plan) → (editOf e s .number ≡ 0 → ⊥) → editOf e s .plan ≡ s
 edit-back e s some = by (edit-answered e s)
   where
-    by : Answered s (edited e (tasksIn s)) (editOf e s) → editOf e s .plan ≡ s
+    by : Answered s (edited byName e (tasksHeld s)) (editOf e s) → editOf e s .plan ≡ s
     by (inl r) = absurd (some (r .0))
     by (inr r) = r .1
 
 -- whatever it answers
-pub edit-keeps : (e : Edit) (s : Plan) → (editOf e s .plan .machine ≡ s .machine) × (editOf e s .plan .costs ≡ s .costs) × (Held s → Held (editOf e s .plan))
+pub edit-keeps : (e : TaskEdit) (s : Plan) → (editOf e s .plan .machine ≡ s .machine) × (editOf e s .plan .costs ≡ s .costs) × (Held s → Held (editOf e s .plan))
 edit-keeps e s = by (edit-answered e s)
   where
-    by : Answered s (edited e (tasksIn s)) (editOf e s) → (editOf e s .plan .machine ≡ s .machine) × (editOf e s .plan .costs ≡ s .costs) × (Held s → Held (editOf e s .plan))
+    by : Answered s (edited byName e (tasksHeld s)) (editOf e s) → (editOf e s .plan .machine ≡ s .machine) × (editOf e s .plan .costs ≡ s .costs) × (Held s → Held (editOf e s .plan))
     by (inl r) = (r .1 .machine-is, r .1 .costs-is, λ h. r .1 .held)
     by (inr r) = (ap (λ (z : Plan). z .machine) (r .1), ap (λ (z : Plan). z .costs) (r .1), λ h. subst Held (sym (r .1)) h)
 
 -- ---- only 7 comes of the walk
 
 abbrev pub Ends : Plan → List Task → Reply → Type 0
-Ends s ts r = (r .number ≡ 0) ⊎ ((k : ℕ) × (walked (s .machine) (s .costs) ts ≡ stuck k) × (r ≡ givenBack s 7 (suc k)))
+Ends s ts r = (r .number ≡ 0) ⊎ ((k : ℕ) × (walked (s .machine) (s .costs) ts ≡ stuck k 7) × (r ≡ givenBack s 7 (suc k)))
 
 pub replanned-ends : (s : Plan) (ts : List Task) → stateFault (s .machine) (s .costs) (length ts) ts ≡ 0 → Ends s ts (replanned s ts)
 replanned-ends s ts faultless = by (plan-or-stuck m c (length ts) ts faultless)
@@ -145,10 +148,10 @@ replanned-ends s ts faultless = by (plan-or-stuck m c (length ts) ts faultless)
     us : List Task
     us = take (length ts) ts
 
-    by : ((st : Stand) × (l : List (Placed ℕ)) × (walked m c us ≡ fine st l) × (planOf m c (length ts) ts ≡ finished m c us (fine st l))) ⊎ ((k : ℕ) × (walked m c us ≡ stuck k) × (planOf m c (length ts) ts ≡ refused 7 (suc k))) → Ends s ts (settled s (planOf m c (length ts) ts))
+    by : ((st : Stand) × (l : List (Placed ℕ)) × (walked m c us ≡ fine st l) × (planOf m c (length ts) ts ≡ finished m c us (fine st l))) ⊎ ((k : ℕ) × (walked m c us ≡ stuck k 7) × (planOf m c (length ts) ts ≡ refused 7 (suc k))) → Ends s ts (settled s (planOf m c (length ts) ts))
     by (inl r) = inl (ap (λ (z : Reply). settled s z .number) (r .3))
-    by (inr r) = inr (r .0, subst (λ (z : List Task). walked m c z ≡ stuck (r .0)) (take-length ts) (r .1), ap (settled s) (r .2))
+    by (inr r) = inr (r .0, subst (λ (z : List Task). walked m c z ≡ stuck (r .0) 7) (take-length ts) (r .1), ap (settled s) (r .2))
 
-pub edit-goes : (e : Edit) (s : Plan) → stateFault (s .machine) (s .costs) (s .tasks .count) (s .tasks .list) ≡ 0 → editFault e (tasksIn s) ≡ 0 → editOf e s ≡ replanned s (edited e (tasksIn s))
+pub edit-goes : (e : TaskEdit) (s : Plan) → stateFault (s .machine) (s .costs) (s .tasks .count) (s .tasks .list) ≡ 0 → editFault e (tasksHeld s) ≡ 0 → editOf e s ≡ replanned s (edited byName e (tasksHeld s))
 unfolding editOf
 edit-goes e s faultless right = rw (faultless, right)

@@ -28,9 +28,10 @@ use Rattle.task.specs.Tasks.{tasksMost, wholePiece, placeOf, rule, stateFault}
 use Rattle.plan.specs.declared.Plan.{Plan}
 use Rattle.plan.specs.declared.Reply.{Reply}
 use Rattle.plan.specs.Plan.{planOf}
-use Rattle.edits.specs.Edits.{Edit, add, withdraw, retime, tasksIn, named, editFault, edited, givenBack, settled, editOf}
 use Rattle.task.specs.Tasks.{listOf}
-use Rattle.edits.specs.Listed.{Lists}
+use Rattle.walks.specs.Edits.{add, withdraw, retime, edited}
+use Rattle.edits.specs.Edits.{byName, TaskEdit, tasksHeld, named, editFault, givenBack, settled, editOf}
+use Rattle.edits.specs.ways.ListInArray.{Lists}
 
 -- ---- a rule, by the answer of the code
 
@@ -106,18 +107,18 @@ module _ (s : Plan) (r p : Reply) (is : r ≡ p) where
   pub settled-so : r .number ≡ 0 → r ≡ settled s p
   settled-so none = rw (← is, eq-eqb (r .number) 0 none)
 
-module _ (e : Edit) (s : Plan) where
+module _ (e : TaskEdit) (s : Plan) where
   pub edit-state : (k : ℕ) → k ≡ stateFault (s .machine) (s .costs) (s .tasks .count) (s .tasks .list) → (k ≡ 0 → ⊥) → givenBack s k 0 ≡ editOf e s
   unfolding editOf
   edit-state zero is some = absurd (some refl)
   edit-state (suc k) is some = rw (← is)
 
   module _ (sound : stateFault (s .machine) (s .costs) (s .tasks .count) (s .tasks .list) ≡ 0) where
-    pub edit-own : (k : ℕ) → k ≡ editFault e (tasksIn s) → (k ≡ 0 → ⊥) → givenBack s k 0 ≡ editOf e s
+    pub edit-own : (k : ℕ) → k ≡ editFault e (tasksHeld s) → (k ≡ 0 → ⊥) → givenBack s k 0 ≡ editOf e s
     unfolding editOf
     edit-own zero is some = absurd (some refl)
     edit-own (suc k) is some = rw (sound, ← is)
 
-    pub edit-made : editFault e (tasksIn s) ≡ 0 → (q : Tasks) → Lists q (edited e (tasksIn s)) → settled s (planOf (s .machine) (s .costs) (q .count) (q .list)) ≡ editOf e s
+    pub edit-made : editFault e (tasksHeld s) ≡ 0 → (q : Tasks) → Lists q (edited byName e (tasksHeld s)) → settled s (planOf (s .machine) (s .costs) (q .count) (q .list)) ≡ editOf e s
     unfolding editOf
-    edit-made fine q ok = rw (sound, fine) (ap (settled s) (plan-lists (s .machine) (s .costs) q (edited e (tasksIn s)) ok))
+    edit-made fine q ok = rw (sound, fine) (ap (settled s) (plan-lists (s .machine) (s .costs) q (edited byName e (tasksHeld s)) ok))

@@ -25,12 +25,15 @@ use Rattle.task.specs.declared.Machine.{Machine}
 use Rattle.task.specs.Names.{nameByte, formed, sameName}
 use Rattle.task.specs.Tasks.{wholePiece, sizedMachine, faultOf, stateFault}
 use Rattle.plan.specs.declared.Plan.{Plan}
-use Rattle.plan.specs.Order.{denser}
-use Rattle.plan.specs.Walk.{Stand, Placed, rulesFor}
+use Rattle.walks.specs.Way.{Placed}
+use Rattle.walks.specs.Edits.{retime, edited}
+use Rattle.walks.specs.Kept.{Among, Behind, Meet}
+use Rattle.walks.specs.Halves.{denser, Stand}
+use Rattle.plan.specs.Walk.{taskWay, walked}
 use Rattle.plan.specs.Layout.{none, putOf}
-use Rattle.plan.specs.Plan.{padded, walked, noPlan, planOf}
-use Rattle.edits.specs.Edits.{Edit, retime, tasksIn, editFault, edited, editOf, Held}
-use Rattle.edits.specs.Kept.{inOrder, Keeps, Among, Ahead, Behind, Meet}
+use Rattle.plan.specs.Plan.{padded, noPlan, planOf}
+use Rattle.edits.specs.Edits.{byName, TaskEdit, tasksHeld, editFault, editOf, Held}
+use Rattle.edits.specs.Kept.{inOrder, Keeps, Ahead}
 use Rattle.edits.proofs.Theorems.{plan-held, edit-does, edit-before, edit-after}
 
 -- a name of one letter, and a task that has it
@@ -55,7 +58,7 @@ changed = task 97 2 2 ∷ task 98 1 1 ∷ task 99 1 2 ∷ task 100 1 3 ∷ []
 unfoldable pub state : Plan
 state = planOf machine costs 4 tasks .plan
 
-unfoldable pub change : Edit
+unfoldable pub change : TaskEdit
 change = retime (task 98 1 1)
 
 -- ---- by computing
@@ -63,18 +66,18 @@ change = retime (task 98 1 1)
 pub record Computed : Type 0 where
   pub planned : planOf machine costs 4 tasks .number ≡ 0
   pub taken : editOf change state .number ≡ 0
-  pub holds : tasksIn state ≡ tasks
+  pub holds : tasksHeld state ≡ tasks
   pub machine-is : state .machine ≡ machine
   pub costs-are : state .costs ≡ costs
-  pub replaces : edited change tasks ≡ changed
+  pub replaces : edited byName change tasks ≡ changed
   pub order : inOrder tasks ≡ tasks
   pub order-changed : inOrder changed ≡ changed
-  pub meets : Meet machine costs (task 97 2 2 ∷ task 98 2 2 ∷ task 99 1 2 ∷ []) (task 97 2 2 ∷ task 98 1 1 ∷ task 99 1 2 ∷ [])
+  pub meets : Meet (taskWay machine costs) (task 97 2 2 ∷ task 98 2 2 ∷ task 99 1 2 ∷ []) (task 97 2 2 ∷ task 98 1 1 ∷ task 99 1 2 ∷ [])
 
 computed : Computed
-unfolding letter task costs machine tasks state change sized sizedCosts charge ipiCost charged coreOf stall ceil jobsDue interrupts blocking load demand leastLive leastHolding busyLoad busySum busyLength tightSum tightWindow lateJitter firstPiece lastPiece tightFirst bothPass greatestSplit verdict verdictOf nameByte formed sameName wholePiece sizedMachine faultOf stateFault denser rulesFor none putOf padded walked noPlan planOf changed editFault editOf pieceOf
+unfolding letter task costs machine tasks state change sized sizedCosts charge ipiCost charged coreOf stall ceil jobsDue interrupts blocking load demand leastLive leastHolding busyLoad busySum busyLength tightSum tightWindow lateJitter firstPiece lastPiece tightFirst bothPass greatestSplit verdict verdictOf nameByte formed sameName wholePiece sizedMachine faultOf stateFault denser none putOf padded walked noPlan planOf changed editFault editOf pieceOf
 computed =
-    let third : Stand = record { core = 2; left = 0; row = wholePiece (task 99 1 2 .times) ∷ [] } in
+    let third : Stand = record { core = 2; row = wholePiece (task 99 1 2 .times) ∷ [] } in
     let placed : (t : Task) → ℕ → Placed Task = λ t q. record { on = q; item = t; piece = wholePiece (t .times) } in
     record {
       planned = refl;
@@ -86,14 +89,11 @@ computed =
       order = refl;
       order-changed = refl;
       meets = record {
-        old = third;
-        new = third;
+        at = third;
         old-log = placed (task 97 2 2) 0 ∷ placed (task 98 2 2) 1 ∷ placed (task 99 1 2) 2 ∷ [];
         new-log = placed (task 97 2 2) 0 ∷ placed (task 98 1 1) 1 ∷ placed (task 99 1 2) 2 ∷ [];
         old-walk = refl;
         new-walk = refl;
-        same-core = refl;
-        same-row = refl;
       };
     }
 
@@ -103,8 +103,8 @@ held : Held state
 unfolding state
 held = plan-held machine costs 4 tasks (computed .planned)
 
-after : tasksIn (editOf change state .plan) ≡ changed
-after = edit-does change state (computed .taken) ∙ (ap (edited change) (computed .holds) ∙ computed .replaces)
+after : tasksHeld (editOf change state .plan) ≡ changed
+after = edit-does change state (computed .taken) ∙ (ap (edited byName change) (computed .holds) ∙ computed .replaces)
 
 -- two letters that differ
 other : (a b : ℕ) → (a ≡ b → ⊥) → letter a ≡ letter b → ⊥
@@ -112,20 +112,20 @@ unfolding letter
 other a b differ same = differ (let bytes : a ∷ replicate 23 0 ≡ b ∷ replicate 23 0 = ap (λ (n : Name). n .bytes) same in cc)
 
 -- the first of an order is before all others
-leads : (ts rest : List Task) → inOrder ts ≡ task 97 2 2 ∷ rest → Among (letter 97) ts → Ahead (letter 98) (letter 97) ts
+leads : (ts rest : List Task) → inOrder ts ≡ task 97 2 2 ∷ rest → Among byName (letter 97) ts → Ahead (letter 98) (letter 97) ts
 unfolding task
 leads ts rest order among = record { held = among; ahead = by }
   where
-    by : (p q : List Task) (a : Task) → inOrder ts ≡ p ++ (a ∷ q) → a .name ≡ letter 98 → Among (letter 97) p
+    by : (p q : List Task) (a : Task) → inOrder ts ≡ p ++ (a ∷ q) → a .name ≡ letter 98 → Among byName (letter 97) p
     by [] q a e own = (let first : task 97 2 2 ∷ rest ≡ a ∷ q = sym order ∙ e in let same : task 97 2 2 ≡ a = cc in absurd (other 97 98 (λ z. omega arith) (ap (λ (t : Task). t .name) same ∙ own)))
     by (t ∷ p) q a e own = (let first : task 97 2 2 ∷ rest ≡ t ∷ (p ++ (a ∷ q)) = sym order ∙ e in let same : task 97 2 2 ≡ t = cc in inl (ap (λ (u : Task). u .name) (sym same)))
 
 -- the last of them is behind the edited one
-trails : (ts p : List Task) → inOrder ts ≡ p ++ (task 100 1 3 ∷ []) → Behind (letter 98) ts p (task 100 1 3) []
+trails : (ts p : List Task) → inOrder ts ≡ p ++ (task 100 1 3 ∷ []) → Behind byName (letter 98) (inOrder ts) p (task 100 1 3) []
 unfolding task
 trails ts p order = record { order = order; later = by }
   where
-    by : Among (letter 98) (task 100 1 3 ∷ []) → ⊥
+    by : Among byName (letter 98) (task 100 1 3 ∷ []) → ⊥
     by (inl e) = other 100 98 (λ z. omega arith) e
     by (inr e) = e
 
@@ -140,9 +140,9 @@ pub last-keeps : Keeps state (editOf change state .plan) (letter 100)
 unfolding change tasks changed task
 last-keeps =
     edit-after change state held (computed .taken)
-    (subst (λ (ts : List Task). Behind (letter 98) ts (task 97 2 2 ∷ task 98 2 2 ∷ task 99 1 2 ∷ []) (task 100 1 3) []) (sym (computed .holds)) (trails tasks (task 97 2 2 ∷ task 98 2 2 ∷ task 99 1 2 ∷ []) (computed .order)))
-    (subst (λ (ts : List Task). Behind (letter 98) ts (task 97 2 2 ∷ task 98 1 1 ∷ task 99 1 2 ∷ []) (task 100 1 3) []) (sym after) (trails changed (task 97 2 2 ∷ task 98 1 1 ∷ task 99 1 2 ∷ []) (computed .order-changed)))
+    (subst (λ (ts : List Task). Behind byName (letter 98) (inOrder ts) (task 97 2 2 ∷ task 98 2 2 ∷ task 99 1 2 ∷ []) (task 100 1 3) []) (sym (computed .holds)) (trails tasks (task 97 2 2 ∷ task 98 2 2 ∷ task 99 1 2 ∷ []) (computed .order)))
+    (subst (λ (ts : List Task). Behind byName (letter 98) (inOrder ts) (task 97 2 2 ∷ task 98 1 1 ∷ task 99 1 2 ∷ []) (task 100 1 3) []) (sym after) (trails changed (task 97 2 2 ∷ task 98 1 1 ∷ task 99 1 2 ∷ []) (computed .order-changed)))
     refl
-    (subst (λ (m : Machine). Meet m (state .costs) (task 97 2 2 ∷ task 98 2 2 ∷ task 99 1 2 ∷ []) (task 97 2 2 ∷ task 98 1 1 ∷ task 99 1 2 ∷ [])) (sym (computed .machine-is))
-    (subst (λ (c : Costs). Meet machine c (task 97 2 2 ∷ task 98 2 2 ∷ task 99 1 2 ∷ []) (task 97 2 2 ∷ task 98 1 1 ∷ task 99 1 2 ∷ [])) (sym (computed .costs-are)) (computed .meets)))
+    (subst (λ (m : Machine). Meet (taskWay m (state .costs)) (task 97 2 2 ∷ task 98 2 2 ∷ task 99 1 2 ∷ []) (task 97 2 2 ∷ task 98 1 1 ∷ task 99 1 2 ∷ [])) (sym (computed .machine-is))
+    (subst (λ (c : Costs). Meet (taskWay machine c) (task 97 2 2 ∷ task 98 2 2 ∷ task 99 1 2 ∷ []) (task 97 2 2 ∷ task 98 1 1 ∷ task 99 1 2 ∷ [])) (sym (computed .costs-are)) (computed .meets)))
     (letter 100) (inl refl)

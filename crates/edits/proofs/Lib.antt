@@ -2,11 +2,8 @@
 pub mod ListLaws
 pub mod EditLaws
 pub mod NameSets
-pub mod TaskWalks
-pub mod KeptLaws
-pub mod TouchLaws
+pub mod HeldLaws
 pub mod FaultLaws
 pub mod AnswerLaws
-pub mod AroundLaws
 pub mod Theorems
 pub mod Examples

@@ -23,9 +23,10 @@ use Rattle.task.specs.declared.Task.{Task}
 use Rattle.task.specs.declared.Tasks.{Tasks}
 use Rattle.task.specs.Names.{sameName}
 use Rattle.task.specs.Tasks.{tasksMost, placeOf}
-use Rattle.edits.specs.Edits.{without, replaced}
 use Rattle.task.specs.Tasks.{listOf}
-use Rattle.edits.specs.Listed.{Lists, removed}
+use Rattle.walks.specs.Edits.{without, replaced}
+use Rattle.edits.specs.Edits.{byName}
+use Rattle.edits.specs.ways.ListInArray.{Lists, removed}
 
 -- ---- room, by the count of an array that is full at 64
 
@@ -40,8 +41,8 @@ module _ (q : Tasks) (long : length (q .list) ≡ tasksMost) where
 
 record Found (n : Name) (ts : List Task) (i : ℕ) : Type 0 where
   inside : i < length ts
-  less : without n ts ≡ removed i ts
-  put : (a : Task) → a .name ≡ n → replaced a ts ≡ set ts i a
+  less : without byName n ts ≡ removed i ts
+  put : (a : Task) → a .name ≡ n → replaced byName a ts ≡ set ts i a
 
 -- counted from k
 record From (k : ℕ) (n : Name) (ts : List Task) (p : ℕ) : Type 0 where
@@ -97,13 +98,13 @@ module _ (q : Tasks) (long : length (q .list) ≡ tasksMost) (few : q .count ≤
     pub place-low : k - 1 < q .count
     place-low = omega (arith, found .inside, whole)
 
-    pub lists-put : (t : Task) → t .name ≡ n → Lists (record { count = q .count; list = set (q .list) (k - 1) t }) (replaced t (listOf q))
+    pub lists-put : (t : Task) → t .name ≡ n → Lists (record { count = q .count; list = set (q .list) (k - 1) t }) (replaced byName t (listOf q))
     lists-put t name = record {
       count = sym (ap length (found .put t name) ∙ length-set (listOf q) (k - 1) t ∙ whole);
       items = take-set-lt (q .count) (q .list) (k - 1) t place-low ∙ sym (found .put t name);
     }
 
-    pub lists-less : (r : Tasks) → Lists r (removed (k - 1) (listOf q)) → Lists r (without n (listOf q))
+    pub lists-less : (r : Tasks) → Lists r (removed (k - 1) (listOf q)) → Lists r (without byName n (listOf q))
     lists-less r ok = rw (found .less) ok
 
 -- ---- one less: what stands behind place i moves up, j of them so far

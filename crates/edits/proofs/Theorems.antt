@@ -11,7 +11,8 @@
 --   after-edits            after any sequence of edits, refusals among them, a held plan is held, of the same machine and costs
 --   after-edits-afresh     so it equals the plan worked out afresh from the tasks then held
 --   edit-before            an accepted edit keeps the pieces of each task before the edited one in each packing order, old and new, that holds it
---   edit-after             and where at a later task in each of those the walks stand at the same core with the same row, of that task and all later ones
+--   edit-after             and where at a later task in each of those the walks come to the same state, of that task and all later ones
+--   same-stand             a state is a core and the row on it: two walks that stand at the same core with the same row come to the same state
 use mathlib.Core.Path.{_≡_, refl, sym, ap, _∙_, subst}
 use mathlib.Core.Logic.{_⊎_}
 use mathlib.Core.List.{List, [], _∷_}
@@ -23,49 +24,57 @@ use Rattle.task.specs.declared.Task.{Task}
 use Rattle.task.specs.declared.Machine.{Machine}
 use Rattle.task.specs.Tasks.{stateFault}
 use Rattle.plan.specs.declared.Plan.{Plan}
-use Rattle.plan.specs.Walk.{fine, stuck}
-use Rattle.plan.specs.Plan.{walked, planOf}
-use Rattle.edits.specs.Edits.{Edit, tasksIn, editFault, edited, givenBack, editOf, accepted, Held, played}
-use Rattle.edits.specs.Kept.{inOrder, standsAt, Keeps, editedName, Among, Ahead, Behind, Meet}
-use Rattle.edits.proofs.TaskWalks.{Told, held-told}
+use Rattle.walks.specs.Way.{Placed, fine, stuck, walkOver, walkOf}
+use Rattle.walks.specs.Edits.{edited}
+use Rattle.walks.specs.Kept.{Among, Behind, Meet}
+use Rattle.walks.specs.Halves.{Stand}
+use Rattle.walks.proofs.DenserLaws.{denser-lawful}
+use Rattle.walks.proofs.KeptLaws.{Around, kept-before, kept-after}
+use Rattle.walks.proofs.EditLaws.{edit-around}
+use Rattle.walks.proofs.HalvesLaws.{stands-meet}
+use Rattle.plan.specs.Walk.{wholeOf, taskWay, walked}
+use Rattle.plan.specs.Plan.{planOf}
+use Rattle.edits.specs.Edits.{byName, TaskEdit, tasksHeld, editFault, givenBack, editOf, accepted, Held, played}
+use Rattle.edits.specs.Kept.{inOrder, Keeps, editedName, Ahead}
+use Rattle.edits.proofs.NameSets.{name-exact}
+use Rattle.edits.proofs.HeldLaws.{Timed, Told, held-told}
 use Rattle.edits.proofs.AnswerLaws.{plan-holds, edit-made, edit-back, edit-keeps, Ends, replanned-ends, edit-goes}
-use Rattle.edits.proofs.FaultLaws.{lists-known, lists-faultless, edited-lists}
-use Rattle.edits.proofs.AroundLaws.{Around, edit-around, Sorts, kept-before, kept-behind}
+use Rattle.edits.proofs.FaultLaws.{rightful-known, rightful-faultless, edited-rightful}
 
 pub plan-held : (m : Machine) (c : Costs) (n : ℕ) (ts : List Task) → planOf m c n ts .number ≡ 0 → Held (planOf m c n ts .plan)
 plan-held m c n ts made = plan-holds m c n ts made
 
 -- ---- one edit
 
-pub edit-refused : (e : Edit) (s : Plan) → (editOf e s .number ≡ 0 → ⊥) → editOf e s .plan ≡ s
+pub edit-refused : (e : TaskEdit) (s : Plan) → (editOf e s .number ≡ 0 → ⊥) → editOf e s .plan ≡ s
 edit-refused e s refusal = edit-back e s refusal
 
-pub edit-does : (e : Edit) (s : Plan) → editOf e s .number ≡ 0 → tasksIn (editOf e s .plan) ≡ edited e (tasksIn s)
+pub edit-does : (e : TaskEdit) (s : Plan) → editOf e s .number ≡ 0 → tasksHeld (editOf e s .plan) ≡ edited byName e (tasksHeld s)
 edit-does e s taken = edit-made e s taken .tasks-are
 
-pub edit-same : (e : Edit) (s : Plan) → (editOf e s .plan .machine ≡ s .machine) × (editOf e s .plan .costs ≡ s .costs)
+pub edit-same : (e : TaskEdit) (s : Plan) → (editOf e s .plan .machine ≡ s .machine) × (editOf e s .plan .costs ≡ s .costs)
 edit-same e s = (edit-keeps e s .0, edit-keeps e s .1)
 
-pub edit-held : (e : Edit) (s : Plan) → editOf e s .number ≡ 0 → Held (editOf e s .plan)
+pub edit-held : (e : TaskEdit) (s : Plan) → editOf e s .number ≡ 0 → Held (editOf e s .plan)
 edit-held e s taken = edit-made e s taken .held
 
 -- ---- where no rule is broken
 
-pub edit-faultless : (e : Edit) (s : Plan) → stateFault (s .machine) (s .costs) (s .tasks .count) (s .tasks .list) ≡ 0 → editFault e (tasksIn s) ≡ 0 → stateFault (s .machine) (s .costs) (length (edited e (tasksIn s))) (edited e (tasksIn s)) ≡ 0
-edit-faultless e s faultless right = lists-faultless (s .machine) (s .costs) (edited e (tasksIn s)) (edited-lists (s .machine) (s .costs) e (tasksIn s) (lists-known (s .machine) (s .costs) (s .tasks .count) (s .tasks .list) faultless) right)
+pub edit-faultless : (e : TaskEdit) (s : Plan) → stateFault (s .machine) (s .costs) (s .tasks .count) (s .tasks .list) ≡ 0 → editFault e (tasksHeld s) ≡ 0 → stateFault (s .machine) (s .costs) (length (edited byName e (tasksHeld s))) (edited byName e (tasksHeld s)) ≡ 0
+edit-faultless e s faultless right = rightful-faultless (s .machine) (s .costs) (edited byName e (tasksHeld s)) (edited-rightful (s .machine) (s .costs) e (tasksHeld s) (rightful-known (s .machine) (s .costs) (s .tasks .count) (s .tasks .list) faultless) right)
 
-pub edit-or-stuck : (e : Edit) (s : Plan) → stateFault (s .machine) (s .costs) (s .tasks .count) (s .tasks .list) ≡ 0 → editFault e (tasksIn s) ≡ 0 → (editOf e s .number ≡ 0) ⊎ ((k : ℕ) × (walked (s .machine) (s .costs) (edited e (tasksIn s)) ≡ stuck k) × (editOf e s ≡ givenBack s 7 (suc k)))
-edit-or-stuck e s faultless right = subst (Ends s (edited e (tasksIn s))) (sym (edit-goes e s faultless right)) (replanned-ends s (edited e (tasksIn s)) (edit-faultless e s faultless right))
+pub edit-or-stuck : (e : TaskEdit) (s : Plan) → stateFault (s .machine) (s .costs) (s .tasks .count) (s .tasks .list) ≡ 0 → editFault e (tasksHeld s) ≡ 0 → (editOf e s .number ≡ 0) ⊎ ((k : ℕ) × (walked (s .machine) (s .costs) (edited byName e (tasksHeld s)) ≡ stuck k 7) × (editOf e s ≡ givenBack s 7 (suc k)))
+edit-or-stuck e s faultless right = subst (Ends s (edited byName e (tasksHeld s))) (sym (edit-goes e s faultless right)) (replanned-ends s (edited byName e (tasksHeld s)) (edit-faultless e s faultless right))
 
 -- ---- any sequence of edits
 
-pub after-edits : (es : List Edit) (s : Plan) → Held s → Held (played es s) × (played es s .machine ≡ s .machine) × (played es s .costs ≡ s .costs)
+pub after-edits : (es : List TaskEdit) (s : Plan) → Held s → Held (played es s) × (played es s .machine ≡ s .machine) × (played es s .costs ≡ s .costs)
 after-edits [] s held = (held, refl, refl)
 after-edits (e ∷ es) s held =
     let next = after-edits es (editOf e s .plan) (edit-keeps e s .2 held) in
     (next .0, next .1 ∙ edit-same e s .0, next .2 ∙ edit-same e s .1)
 
-pub after-edits-afresh : (es : List Edit) (s : Plan) → Held s → planOf (s .machine) (s .costs) (played es s .tasks .count) (played es s .tasks .list) ≡ accepted (played es s)
+pub after-edits-afresh : (es : List TaskEdit) (s : Plan) → Held s → planOf (s .machine) (s .costs) (played es s .tasks .count) (played es s .tasks .list) ≡ accepted (played es s)
 unfolding Held
 after-edits-afresh es s held =
     let now = after-edits es s held in
@@ -75,36 +84,36 @@ after-edits-afresh es s held =
 
 -- ---- what an accepted edit keeps
 
-module _ (e : Edit) (s : Plan) (held : Held s) (taken : editOf e s .number ≡ 0) where
+pub same-stand : (m : Machine) (c : Costs) (p p′ : List Task) (s s′ : Stand) (l l′ : List (Placed Task)) → walkOver (taskWay m c) p ≡ fine s l → walkOver (taskWay m c) p′ ≡ fine s′ l′ → s .core ≡ s′ .core → s .row ≡ s′ .row → Meet (taskWay m c) p p′
+same-stand m c = stands-meet c (m .grain) (m .cores) wholeOf
+
+module _ (e : TaskEdit) (s : Plan) (held : Held s) (taken : editOf e s .number ≡ 0) where
   was : Told s
   was = held-told s held
 
   is : Told (editOf e s .plan)
   is = held-told (editOf e s .plan) (edit-held e s taken)
 
-  around : Around (editedName e) (tasksIn s) (tasksIn (editOf e s .plan))
-  around = subst (Around (editedName e) (tasksIn s)) (sym (edit-does e s taken)) (edit-around e (tasksIn s))
+  around : Around byName (editedName e) (tasksHeld s) (tasksHeld (editOf e s .plan))
+  around = subst (Around byName (editedName e) (tasksHeld s)) (sym (edit-does e s taken)) (edit-around byName name-exact e (tasksHeld s))
 
   -- the walk after the edit, on the machine and at the costs of before
-  walks : standsAt (s .machine) (s .costs) (inOrder (tasksIn (editOf e s .plan))) ≡ fine (is .stand) (is .log)
+  walks : walkOf (taskWay (s .machine) (s .costs)) (tasksHeld (editOf e s .plan)) ≡ fine (is .stand) (is .log)
   walks =
-      let order = inOrder (tasksIn (editOf e s .plan)) in
-      ap (λ (m : Machine). standsAt m (s .costs) order) (sym (edit-same e s .0)) ∙ (ap (λ (c : Costs). standsAt (editOf e s .plan .machine) c order) (sym (edit-same e s .1)) ∙ is .walks)
+      let tasks = tasksHeld (editOf e s .plan) in
+      ap (λ (m : Machine). walkOf (taskWay m (s .costs)) tasks) (sym (edit-same e s .0)) ∙ (ap (λ (c : Costs). walkOf (taskWay (editOf e s .plan .machine) c) tasks) (sym (edit-same e s .1)) ∙ is .walks)
 
-  sorts : {p : Plan} → Told p → Sorts (tasksIn p)
-  sorts t = record { apart = t .apart; timed = t .timed }
-
-  pub edit-before : (b : Name) → Ahead (editedName e) b (tasksIn s) → Ahead (editedName e) b (tasksIn (editOf e s .plan)) → Keeps s (editOf e s .plan) b
+  pub edit-before : (b : Name) → Ahead (editedName e) b (tasksHeld s) → Ahead (editedName e) b (tasksHeld (editOf e s .plan)) → Keeps s (editOf e s .plan) b
   unfolding Keeps
   edit-before b old new q low =
       was .shows b q low
-      ∙ (kept-before (s .machine) (s .costs) (was .some) around (sorts was) (sorts is) (was .walks) walks b (old .ahead) (new .ahead) q
+      ∙ (kept-before (taskWay (s .machine) (s .costs)) Timed (denser-lawful wholeOf) byName name-exact around (was .sorts) (is .sorts) (was .walks) walks b (old .ahead) (new .ahead) q
       ∙ sym (is .shows b q low))
 
-  pub edit-after : {p r p′ r′ : List Task} {b b′ : Task} → Behind (editedName e) (tasksIn s) p b r → Behind (editedName e) (tasksIn (editOf e s .plan)) p′ b′ r′ → b .name ≡ b′ .name → Meet (s .machine) (s .costs) p p′ →
-      (d : Name) → Among d (b ∷ r) → Keeps s (editOf e s .plan) d
+  pub edit-after : {p r p′ r′ : List Task} {b b′ : Task} → Behind byName (editedName e) (inOrder (tasksHeld s)) p b r → Behind byName (editedName e) (inOrder (tasksHeld (editOf e s .plan))) p′ b′ r′ → b .name ≡ b′ .name → Meet (taskWay (s .machine) (s .costs)) p p′ →
+      (d : Name) → Among byName d (b ∷ r) → Keeps s (editOf e s .plan) d
   unfolding Keeps
   edit-after old new same meet d among q low =
       was .shows d q low
-      ∙ (kept-behind (s .machine) (s .costs) (was .some) around (sorts was) (sorts is) (was .walks) walks old new same meet d among q
+      ∙ (kept-after (taskWay (s .machine) (s .costs)) Timed (denser-lawful wholeOf) byName name-exact around (was .sorts) (is .sorts) (was .walks) walks old new same meet d among q
       ∙ sym (is .shows d q low))

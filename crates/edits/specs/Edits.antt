@@ -1,15 +1,15 @@
 -- Edits on a held plan: document 01, "Edits on a held plan" and "Refusal numbers".
 --
---   Edit                 a task to add, a name to withdraw, a name to retime
---   tasksIn s            the tasks that the state s holds
+--   byName               tasks are known by their names
+--   TaskEdit             a task to add, a name to withdraw, or a task with other times for the one of its name
+--   tasksHeld s          the tasks that the state s holds
 --   editFault e ts       what is wrong with the edit e of the tasks ts before any walk: 8, then 3, then 4 or 5, then 6; or 0
---   edited e ts          the tasks after it: one more at the end, one less, or one with other times in its place
 --   editOf e s           the answer: the state's own faults first, then the edit's, then 7; each gives the state back; else the new plan
 --   Held s               a held plan: exactly what the walk over its own machine, costs and task list gives
 --   played es s          the state after the edits es, refusals among them
 use mathlib.Core.Path.{_≡_}
 use mathlib.Core.Bool.{Bool, cond, not}
-use mathlib.Core.List.{List, [], _∷_, _++_}
+use mathlib.Core.List.{List, [], _∷_}
 use Prim.Native.Nat.{ℕ, zero, suc}
 use lib.Dec.{eqb, ltb}
 use lib.ListN.{length}
@@ -18,17 +18,19 @@ use Rattle.task.specs.declared.Name.{Name}
 use Rattle.task.specs.declared.Task.{Task}
 use Rattle.task.specs.Names.{formed, sameName}
 use Rattle.task.specs.Tasks.{tasksMost, wholePiece, listOf, placeOf, rule, stateFault}
+use Rattle.walks.specs.Edits.{Keyed, Edit, add, withdraw, retime, edited}
 use Rattle.plan.specs.declared.Plan.{Plan}
 use Rattle.plan.specs.declared.Reply.{Reply}
 use Rattle.plan.specs.Plan.{planOf}
 
-pub data Edit : Type 0 where
-  add : Task → Edit
-  withdraw : Name → Edit
-  retime : Task → Edit
+abbrev pub byName : Keyed Task Name
+byName = record { key = λ t. t .name; same = sameName }
 
-abbrev pub tasksIn : Plan → List Task
-tasksIn s = listOf (s .tasks)
+abbrev pub TaskEdit : Type 0
+TaskEdit = Edit Task Name
+
+abbrev pub tasksHeld : Plan → List Task
+tasksHeld s = listOf (s .tasks)
 
 -- ---- what is wrong with an edit
 
@@ -36,7 +38,7 @@ tasksIn s = listOf (s .tasks)
 abbrev pub named : Name → List Task → Bool
 named n ts = not (eqb (placeOf 1 n ts) 0)
 
-unfoldable pub editFault : Edit → List Task → ℕ
+unfoldable pub editFault : TaskEdit → List Task → ℕ
 editFault (add t) ts =
     rule (formed (t .name)) 8
     (rule (sized (wholePiece (t .times))) 3
@@ -53,30 +55,16 @@ editFault (retime t) ts =
     (rule (named (t .name) ts) 5
     0))
 
--- ---- the tasks after it
-
-abbrev pub without : Name → List Task → List Task
-without n [] = []
-without n (t ∷ ts) = cond (sameName n (t .name)) ts (t ∷ without n ts)
-
-abbrev pub replaced : Task → List Task → List Task
-replaced a [] = []
-replaced a (t ∷ ts) = cond (sameName (a .name) (t .name)) (a ∷ ts) (t ∷ replaced a ts)
-
-abbrev pub edited : Edit → List Task → List Task
-edited (add t) ts = ts ++ (t ∷ [])
-edited (withdraw n) ts = without n ts
-edited (retime t) ts = replaced t ts
-
 -- ---- the answer
 
 -- a refusal gives the state back
 abbrev pub givenBack : Plan → ℕ → ℕ → Reply
 givenBack s n k = record { number = n; carries = k; plan = s }
 
-abbrev pub unless : ℕ → Plan → Reply → Reply
-unless zero s r = r
-unless (suc n) s r = givenBack s (suc n) 0
+-- and so does a fault
+abbrev pub backAt : ℕ → Plan → Reply → Reply
+backAt zero s r = r
+backAt (suc n) s r = givenBack s (suc n) 0
 
 abbrev pub settled : Plan → Reply → Reply
 settled s r = cond (eqb (r .number) 0) r (givenBack s (r .number) (r .carries))
@@ -84,11 +72,11 @@ settled s r = cond (eqb (r .number) 0) r (givenBack s (r .number) (r .carries))
 abbrev pub replanned : Plan → List Task → Reply
 replanned s ts = settled s (planOf (s .machine) (s .costs) (length ts) ts)
 
-unfoldable pub editOf : Edit → Plan → Reply
+unfoldable pub editOf : TaskEdit → Plan → Reply
 editOf e s =
-    unless (stateFault (s .machine) (s .costs) (s .tasks .count) (s .tasks .list)) s
-    (unless (editFault e (tasksIn s)) s
-    (replanned s (edited e (tasksIn s))))
+    backAt (stateFault (s .machine) (s .costs) (s .tasks .count) (s .tasks .list)) s
+    (backAt (editFault e (tasksHeld s)) s
+    (replanned s (edited byName e (tasksHeld s))))
 
 -- ---- held plans
 
@@ -98,6 +86,6 @@ accepted s = record { number = 0; carries = 0; plan = s }
 unfoldable pub Held : Plan → Type 0
 Held s = planOf (s .machine) (s .costs) (s .tasks .count) (s .tasks .list) ≡ accepted s
 
-abbrev pub played : List Edit → Plan → Plan
+abbrev pub played : List TaskEdit → Plan → Plan
 played [] s = s
 played (e ∷ es) s = played es (editOf e s .plan)

@@ -1,4 +1,4 @@
--- What the contracts of `edits` cite; then what demand 3 speaks of.
+-- What an edit answers, then what demand 3 speaks of; and in `ways` how the code goes about it.
 pub mod Edits
-pub mod Listed
 pub mod Kept
+pub mod ways

@@ -17,7 +17,8 @@ use task::Times;
 use task::state_fault;
 ghost use mathlib.Core.Path.{_≡_};
 ghost use Rattle.plan.specs.Plan.{planOf};
-ghost use Rattle.edits.specs.Edits.{Edit, givenBack, settled, editOf};
+ghost use Rattle.walks.specs.Edits.{Edit};
+ghost use Rattle.edits.specs.Edits.{givenBack, settled, editOf};
 
 // A refusal gives the state back.
 fn give_back(state: Plan, number: u64, carries: usize) -> Reply

@@ -7,9 +7,10 @@ use task::well_formed;
 use task::whole_piece;
 ghost use mathlib.Core.Path.{_≡_};
 ghost use Prim.Native.Nat.{_<_, _≤_};
-ghost use Rattle.edits.specs.Edits.{add, withdraw, retime, editFault, edited};
 ghost use Rattle.task.specs.Tasks.{listOf};
-ghost use Rattle.edits.specs.Listed.{Lists, removed};
+ghost use Rattle.walks.specs.Edits.{add, withdraw, retime, edited};
+ghost use Rattle.edits.specs.Edits.{byName, editFault};
+ghost use Rattle.edits.specs.ways.ListInArray.{Lists, removed};
 
 // What is wrong with a task to add: 8, then 3, then 4, then 6, or 0.
 pub fn add_fault(task: Task, tasks: Tasks) -> u64
@@ -66,7 +67,7 @@ pub fn retime_fault(task: Task, tasks: Tasks) -> u64
 // One more at the end.
 pub fn append(tasks: Tasks, task: Task) -> Tasks
     requires { ⌜ (tasks .count ≤ 64) × (editFault (add task) (listOf tasks) ≡ 0) ⌝ }
-    ensures { λ r. ⌜ Lists r (edited (add task) (listOf tasks)) ⌝ }
+    ensures { λ r. ⌜ Lists r (edited byName (add task) (listOf tasks)) ⌝ }
 {
     let n = tasks.count;
     let mut next = tasks;
@@ -78,7 +79,7 @@ pub fn append(tasks: Tasks, task: Task) -> Tasks
 // The task in the place of the one of its name.
 pub fn replace(tasks: Tasks, task: Task) -> Tasks
     requires { ⌜ (tasks .count ≤ 64) × (editFault (retime task) (listOf tasks) ≡ 0) ⌝ }
-    ensures { λ r. ⌜ Lists r (edited (retime task) (listOf tasks)) ⌝ }
+    ensures { λ r. ⌜ Lists r (edited byName (retime task) (listOf tasks)) ⌝ }
 {
     let name = task.name;
     let k = place_of(name, tasks);
@@ -108,7 +109,7 @@ pub fn close_up(tasks: Tasks, i: usize) -> Tasks
 // The list without the task of that name.
 pub fn remove(tasks: Tasks, name: Name) -> Tasks
     requires { ⌜ (tasks .count ≤ 64) × (editFault (withdraw name) (listOf tasks) ≡ 0) ⌝ }
-    ensures { λ r. ⌜ Lists r (edited (withdraw name) (listOf tasks)) ⌝ }
+    ensures { λ r. ⌜ Lists r (edited byName (withdraw name) (listOf tasks)) ⌝ }
 {
     let k = place_of(name, tasks);
     let i = k - 1;

@@ -31,15 +31,15 @@ use Rattle.task.proofs.TaskLaws.{state-sane}
 use Rattle.plan.specs.declared.Layout.{Layout}
 use Rattle.plan.specs.declared.Plan.{Plan}
 use Rattle.plan.specs.declared.Reply.{Reply}
-use Rattle.plan.specs.Walk.{Stand, Placed, fine, keep, onCore, rowOf, rulesFor}
+use Rattle.walks.specs.Lists.{keep}
+use Rattle.walks.specs.Way.{Placed, fine, onCore, rowOf}
+use Rattle.walks.specs.Halves.{Stand}
+use Rattle.plan.specs.Walk.{walked}
 use Rattle.plan.specs.Layout.{pieceOf, blank}
-use Rattle.plan.specs.Plan.{wholeAt, padded, walked, finished, planOf}
-use Rattle.plan.specs.Shows.{storedOf, Shows}
-use Rattle.plan.proofs.WalkLaws.{Share, Shares, nil, more, each-join}
-use Rattle.plan.proofs.WalkLaws as walks
-use Rattle.plan.proofs.RuleLaws.{Fine, cut-parts}
+use Rattle.plan.specs.Plan.{padded, finished, planOf}
+use Rattle.plan.specs.Shows.{storedOf, LayoutShows}
 use Rattle.plan.proofs.GoingLaws.{piece-stored}
-use Rattle.plan.proofs.Theorems.{packing-order, sized-order, shared, plan-counts, plan-shows}
+use Rattle.plan.proofs.Theorems.{placed-places, placed-sized, plan-counts, plan-shows}
 use Rattle.listing.specs.Listing.{rowPieces, entryOf, rowEntries, entriesOn, entries}
 use Rattle.listing.specs.Placed.{placedEntry}
 
@@ -49,25 +49,14 @@ pub record Seated (k : ℕ) (e : Placed ℕ) : Type 0 where
   pub low : e .item < k
   pub size : Sized (e .piece)
 
-module _ (c : Costs) (g : ℕ) (w : ℕ → Piece) (k : ℕ) (costs : SizedCosts c) where
-  share-seated : {a : ℕ} {x : List (Placed ℕ)} → Share (rulesFor c g w) (Fine c) a x → a < k → Sized (w a) → Each (Seated k) x
-  unfolding rulesFor
-  share-seated walks.whole low size = (record { low = low; size = size }, tt)
-  share-seated {a} (walks.split {f = f} {l = l} {row = row} has e) low size =
-      let cut = cut-parts c g costs row (w a) (has .sizes) size f l e in
-      (record { low = low; size = rw (cut .first-is) (cut .parts .first-sized) }, (record { low = low; size = rw (cut .last-is) (cut .parts .last-sized) }, tt))
-
-  shares-seated : {xs : List ℕ} {l : List (Placed ℕ)} → Shares (rulesFor c g w) (Fine c) xs l → Each (λ a. a < k) xs
-      → Each (λ a. Sized (w a)) xs → Each (Seated k) l
-  shares-seated nil low size = tt
-  shares-seated (more {k = x} {l = l} s r) low size = each-join (Seated k) x l (share-seated s (low .0) (size .0)) (shares-seated r (low .1) (size .1))
+seated-all : (k : ℕ) (l : List (Placed ℕ)) → Each (λ e. e .item < k) l → Each (λ e. Sized (e .piece)) l → Each (Seated k) l
+seated-all k [] low size = tt
+seated-all k (e ∷ l) low size = (record { low = low .0; size = size .0 }, seated-all k l (low .1) (size .1))
 
 module _ (m : Machine) (c : Costs) (n : ℕ) (ts : List Task) (faultless : stateFault m c n ts ≡ 0) (s : Stand) (l : List (Placed ℕ))
     (planned : walked m c (take n ts) ≡ fine s l) where
   pub all-seated : Each (Seated (length (take n ts))) l
-  all-seated =
-      shares-seated c (m .grain) (wholeAt (take n ts)) (length (take n ts)) (state-sane m c n ts faultless .costs)
-      (shared m c n ts faultless s l planned) (packing-order (take n ts) .below) (sized-order m c n ts faultless)
+  all-seated = seated-all (length (take n ts)) l (placed-places m c n ts faultless s l planned) (placed-sized m c n ts faultless s l planned)
 
 -- ---- what is on a core
 
@@ -96,7 +85,7 @@ entry-placed p c ts q e costs list sizes seat on =
     cc (on, task, time, kind)
 
 -- a row of at most 64 is listed whole
-row-pieces : (y : Layout) (l : List (Placed ℕ)) (q : ℕ) → Shows y l → q < 16 → length (rowOf q l) ≤ 64 → rowPieces y q ≡ map storedOf (onCore q l)
+row-pieces : (y : Layout) (l : List (Placed ℕ)) (q : ℕ) → LayoutShows y l → q < 16 → length (rowOf q l) ≤ 64 → rowPieces y q ≡ map storedOf (onCore q l)
 unfolding rowPieces
 row-pieces y l q shows low short =
     let few : getD (y .lens) q 0 ≤ 64 = omega (arith, shows .lens q low) in

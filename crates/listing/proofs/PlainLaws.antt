@@ -30,11 +30,13 @@ use Rattle.task.specs.Tasks.{taskAt, faultOf, firstFault, orElse, stateFault}
 use Rattle.task.proofs.TaskLaws.{state-sane, fault-form}
 use Rattle.lines.specs.Lines.{bytesOf, newline, tab}
 use Rattle.lines.proofs.FieldLaws.{both-left, both-right}
-use Rattle.plan.specs.Walk.{Stand, Placed, fine, onCore}
+use Rattle.walks.specs.Way.{Placed, fine, onCore}
+use Rattle.walks.specs.Halves.{Stand}
+use Rattle.walks.proofs.ListLaws.{each-join}
 use Rattle.plan.specs.declared.Plan.{Plan}
-use Rattle.plan.specs.Plan.{walked, planOf}
+use Rattle.plan.specs.Walk.{walked}
+use Rattle.plan.specs.Plan.{planOf}
 use Rattle.plan.proofs.Theorems.{plan-counts}
-use Rattle.plan.proofs.WalkLaws.{each-join}
 use Rattle.listing.specs.Text.{ended, decimal}
 use Rattle.listing.specs.Listing.{Entry, spelling, rowEntries, entriesOn, entries, kindWord, figuresLine, entryLine, entryLines, header, listingOf}
 use Rattle.listing.specs.Placed.{placedEntry}

@@ -19,8 +19,10 @@ use Rattle.demand.specs.Sizes.{Each}
 use Rattle.task.specs.declared.Task.{Task}
 use Rattle.task.specs.declared.Machine.{Machine}
 use Rattle.task.specs.Tasks.{stateFault}
-use Rattle.plan.specs.Walk.{Stand, Placed, fine, onCore}
-use Rattle.plan.specs.Plan.{walked, planOf}
+use Rattle.walks.specs.Way.{Placed, fine, onCore}
+use Rattle.walks.specs.Halves.{Stand}
+use Rattle.plan.specs.Walk.{walked}
+use Rattle.plan.specs.Plan.{planOf}
 use Rattle.plan.proofs.Theorems.{plan-faultless, plan-comes}
 use Rattle.lines.specs.Lines.{isNumber, valueOf}
 use Rattle.listing.specs.Text.{decimal}

@@ -7,7 +7,7 @@ use Rattle.demand.specs.declared.Costs.{Costs}
 use Rattle.demand.specs.Charge.{charge}
 use Rattle.task.specs.declared.Task.{Task}
 use Rattle.task.specs.Tasks.{taskAt}
-use Rattle.plan.specs.Walk.{Placed}
+use Rattle.walks.specs.Way.{Placed}
 use Rattle.listing.specs.Listing.{Entry, spelling}
 
 unfoldable pub placedEntry : Costs → List Task → Placed ℕ → Entry

@@ -2,7 +2,7 @@
 -- Assumes nothing.
 --
 --   piece-stored              what is stored is the piece
---   told-length, told-seat    a row, and with one piece more
+--   row-length, row-seat    a row, and with one piece more
 --   seated-seat, seated-next  its numbers are of pieces placed
 --   both-put                  two pieces placed
 --   ask-fits, seat-fits, both-fit            there is room
@@ -10,7 +10,7 @@
 --   Under                     the task still to be placed: the core has moved on, what was placed has not
 --   one-done, stuck-done, both-done, next-under      document 01's four rules, in its order 1, 2, 3, 4
 use mathlib.Core.Path.{_≡_, refl, sym, ap, _∙_}
-use mathlib.Core.Bool.{Bool, true, false}
+use mathlib.Core.Bool.{false}
 use mathlib.Core.List.{List, [], _∷_, _++_, map, append-assoc}
 use mathlib.Core.Logic.{⊎-elim}
 use Prim.Native.Nat.{ℕ, zero, suc, _+_, _-_, _<_, _≤_}
@@ -34,9 +34,11 @@ use Rattle.demand.proofs.Sums.{each-snoc, each-imp}
 use Rattle.demand.proofs.Verdict as verdict-type
 use Rattle.plan.specs.declared.Going.{Going}
 use Rattle.plan.specs.Layout.{stored, pieceOf}
-use Rattle.plan.specs.Lent.{seatOf, placedAt, placedIn, Put}
-use Rattle.plan.specs.Walk.{Rules, Placed, Outcome, stuck, inOne, inTwo, place, Halves, halves, unsplit, splitAs, rulesFor}
-use Rattle.plan.specs.Going.{told, asked, seatedOf, nextOf, stickOf, Seated, AskFits, SeatFits, BothFit, Both, LandFits, Reach}
+use Rattle.plan.specs.ways.PlacedArray.{seatOf, placedAt, placedIn, Put}
+use Rattle.walks.specs.Way.{Placed, Landing, refuses, stuck, landed}
+use Rattle.walks.specs.Halves.{Stand, inOne, inTwo, fromCore}
+use Rattle.walks.proofs.HalvesLaws.{from-one, from-stuck, from-both, from-next}
+use Rattle.plan.specs.ways.WalkGoing.{piecesOfRow, firstRecords, seatedOf, nextOf, stickOf, Seated, AskFits, SeatFits, BothFit, Both, LandFits, Reach}
 use Rattle.plan.proofs.Lists.{take-put, map-snoc}
 use Rattle.plan.proofs.LentLaws.{put-in}
 use Rattle.plan.proofs.RowLaws.{asked-kept}
@@ -48,8 +50,8 @@ piece-stored k q =
 
 -- ---- the row
 
-pub told-length : (placed : List ℕ) (g : Going) → Seated g → g .row .len ≤ 64 → length (told placed (g .row)) ≡ g .row .len
-told-length placed g ok h = length-map (take (g .row .len) (g .row .numbers)) (λ (i : ℕ). placedAt placed i .piece) ∙ length-take-le (g .row .len) (g .row .numbers) (omega (arith, ok .size))
+pub row-length : (placed : List ℕ) (g : Going) → Seated g → g .row .len ≤ 64 → length (piecesOfRow placed (g .row)) ≡ g .row .len
+row-length placed g ok h = length-map (take (g .row .len) (g .row .numbers)) (λ (i : ℕ). placedAt placed i .piece) ∙ length-take-le (g .row .len) (g .row .numbers) (omega (arith, ok .size))
 
 -- a piece behind those placed changes none of them
 pieces-kept : (a : List ℕ) (n : ℕ) (e : Placed ℕ) (b : List ℕ) → Put a n e b → (l : List ℕ) → Each (λ i. i < n) l → map (λ (i : ℕ). placedAt b i .piece) l ≡ map (λ (i : ℕ). placedAt a i .piece) l
@@ -60,9 +62,9 @@ module _ (a : List ℕ) (g : Going) (k : ℕ) (q : Piece) (b : List ℕ) (ok : S
   longer : take (g .row .len + 1) (set (g .row .numbers) (g .row .len) (g .count)) ≡ take (g .row .len) (g .row .numbers) ++ (g .count ∷ [])
   longer = take-put (g .row .numbers) (g .row .len) (g .count) (omega (arith, ok .size))
 
-  pub told-seat : Put a (g .count) (seatOf (g .core) k q) b → told b (seatedOf g .row) ≡ told a (g .row) ++ (q ∷ [])
+  pub row-seat : Put a (g .count) (seatOf (g .core) k q) b → piecesOfRow b (seatedOf g .row) ≡ piecesOfRow a (g .row) ++ (q ∷ [])
   unfolding seatedOf
-  told-seat put =
+  row-seat put =
       ap (map (λ (i : ℕ). placedAt b i .piece)) longer
       ∙ (map-snoc (λ (i : ℕ). placedAt b i .piece) (take (g .row .len) (g .row .numbers)) (g .count)
       ∙ cc (pieces-kept a (g .count) (seatOf (g .core) k q) b put (take (g .row .len) (g .row .numbers)) (ok .below), ap (λ (z : Placed ℕ). z .piece) (put .there)))
@@ -89,21 +91,23 @@ both-put a mid b g one two k f l one-is two-is first last =
 
 -- ---- what the three ways to end reach
 
-module _ (placed : List ℕ) (h : Going) (k n : ℕ) (still : h .stuck ≡ 0) (ok : Seated h) (free : h .row .len < 64) (placed′ records : List ℕ) (records-size : length records ≡ 553) where
-  pub seat-reach : (q : Piece) → Put placed (h .count) (seatOf (h .core) k q) placed′ → Reach (placedIn placed (h .count)) placed′ records (seatedOf h) (inOne k n (h .core) (told placed (h .row)) q)
+module _ (c : Costs) (r : ℕ) (placed : List ℕ) (h : Going) (k : ℕ) (still : h .stuck ≡ 0) (ok : Seated h) (free : h .row .len < 64) (placed′ records : List ℕ) (records-size : length records ≡ 553) where
+  pub seat-reach : (q : Piece) → Put placed (h .count) (seatOf (h .core) k q) placed′ → Reach (placedIn placed (h .count)) placed′ records (seatedOf h) (landed k (inOne c r q (h .core) (piecesOfRow placed (h .row))))
   seat-reach q put = record {
     still = unfold seatedOf in still;
     core-is = unfold seatedOf in refl;
-    len-is = unfold seatedOf in simp length-append (omega (arith, told-length placed h ok (omega arith)));
-    row-is = told-seat placed h k q placed′ ok free put;
+    len-is = unfold seatedOf in simp length-append (omega (arith, row-length placed h ok (omega arith)));
+    row-is = row-seat placed h k q placed′ ok free put;
     placed-is = unfold seatedOf in put-in placed (h .count) (seatOf (h .core) k q) placed′ put;
     placed-size = put .size;
     records-size = records-size;
     seated = seated-seat placed h k q placed′ ok free;
   }
 
-  pub both-reach : (f l : Piece) → Both placed (h .count) (seatOf (h .core) k f) (seatOf (h .core + 1) k l) placed′ → Reach (placedIn placed (h .count)) placed′ records (seatedOf (nextOf (seatedOf h))) (inTwo k n (h .core) f l)
-  both-reach f l both =
+  pub both-reach : (w : Piece) (x v : ℕ) → Both placed (h .count) (seatOf (h .core) k (firstPiece w x v)) (seatOf (h .core + 1) k (lastPiece c w x v)) placed′ → Reach (placedIn placed (h .count)) placed′ records (seatedOf (nextOf (seatedOf h))) (landed k (inTwo c r w (h .core) x v))
+  both-reach w x v both =
+      let f = firstPiece w x v in
+      let l = lastPiece c w x v in
       let g = nextOf (seatedOf h) in
       let seated : Seated g = seated-next (seatedOf h) (seated-seat placed h k f (both .mid) ok free) in
       let none : g .row .len < 64 = unfold nextOf seatedOf in omega arith in
@@ -112,7 +116,7 @@ module _ (placed : List ℕ) (h : Going) (k n : ℕ) (still : h .stuck ≡ 0) (o
         still = unfold seatedOf nextOf in still;
         core-is = unfold seatedOf nextOf in add-one (h .core);
         len-is = unfold seatedOf nextOf in refl;
-        row-is = told-seat (both .mid) g k l placed′ seated none last ∙ (unfold nextOf seatedOf in refl);
+        row-is = row-seat (both .mid) g k l placed′ seated none last ∙ (unfold nextOf seatedOf in refl);
         placed-is = unfold seatedOf nextOf in (put-in (both .mid) (h .count + 1) (seatOf (h .core + 1) k l) placed′ (both .last)
             ∙ (ap (λ (z : List (Placed ℕ)). z ++ (seatOf (h .core + 1) k l ∷ [])) (put-in placed (h .count) (seatOf (h .core) k f) (both .mid) (both .first))
             ∙ (append-assoc (placedIn placed (h .count)) (seatOf (h .core) k f ∷ []) (seatOf (h .core + 1) k l ∷ []) ∙ ap (λ (p : ℕ). placedIn placed (h .count) ++ (seatOf (h .core) k f ∷ seatOf p k l ∷ [])) (add-one (h .core)))));
@@ -121,28 +125,11 @@ module _ (placed : List ℕ) (h : Going) (k n : ℕ) (still : h .stuck ≡ 0) (o
         seated = seated-seat (both .mid) g k l placed′ seated none;
       }
 
-pub stick-reach : (h : Going) (k : ℕ) (base : List (Placed ℕ)) (placed records : List ℕ) → Reach base placed records (stickOf h k) (stuck k)
+pub stick-reach : (h : Going) (k : ℕ) (base : List (Placed ℕ)) (placed records : List ℕ) → Reach base placed records (stickOf h k) (stuck k 7)
 unfolding stickOf
-stick-reach h k base placed records = add-one k
+stick-reach h k base placed records = (add-one k, refl)
 
--- ---- the rules, as the specification has them
-
-module _ {A : Type 0} (R : Rules A) (a : A) (p : ℕ) (row : List Piece) where
-  place-one : (n : ℕ) → R .fits (row ++ (R .whole a ∷ [])) ≡ true → place R a n p row ≡ inOne a n p row (R .whole a)
-  place-one zero e = ap (λ (t : Bool). elim t [ true ↦ inOne a zero p row (R .whole a) | false ↦ stuck a ]) e
-  place-one (suc n) e = ap (λ (t : Bool). elim t [ true ↦ inOne a (suc n) p row (R .whole a) | false ↦ (elim (R .cut row a) [ halves f l ↦ inTwo a n p f l | unsplit ↦ place R a n (suc p) [] ]) ]) e
-
-  place-stuck : R .fits (row ++ (R .whole a ∷ [])) ≡ false → place R a zero p row ≡ stuck a
-  place-stuck e = ap (λ (t : Bool). elim t [ true ↦ inOne a zero p row (R .whole a) | false ↦ stuck a ]) e
-
-  place-else : (n : ℕ) → R .fits (row ++ (R .whole a ∷ [])) ≡ false → place R a (suc n) p row ≡ elim (R .cut row a) [ halves f l ↦ inTwo a n p f l | unsplit ↦ place R a n (suc p) [] ]
-  place-else n e = ap (λ (t : Bool). elim t [ true ↦ inOne a (suc n) p row (R .whole a) | false ↦ (elim (R .cut row a) [ halves f l ↦ inTwo a n p f l | unsplit ↦ place R a n (suc p) [] ]) ]) e
-
-  place-both : (n : ℕ) (f l : Piece) → R .fits (row ++ (R .whole a ∷ [])) ≡ false → R .cut row a ≡ halves f l → place R a (suc n) p row ≡ inTwo a n p f l
-  place-both n f l e s = place-else n e ∙ ap (λ (t : Halves). elim t [ halves f l ↦ inTwo a n p f l | unsplit ↦ place R a n (suc p) [] ]) s
-
-  place-next : (n : ℕ) → R .fits (row ++ (R .whole a ∷ [])) ≡ false → R .cut row a ≡ unsplit → place R a (suc n) p row ≡ place R a n (suc p) []
-  place-next n e s = place-else n e ∙ ap (λ (t : Halves). elim t [ halves f l ↦ inTwo a n p f l | unsplit ↦ place R a n (suc p) [] ]) s
+-- ---- the four rules
 
 -- anything but a pass
 pub not-passes : (v : Verdict) → OneOf (1 ∷ 2 ∷ []) (tagOf verdict-type.the-type v) → passes v ≡ false
@@ -155,21 +142,18 @@ pub record Under (m : ℕ) (c : Costs) (r k : ℕ) (w : Piece) (placed₀ : List
   pub ok : LandFits m c placed records h k
   pub same : placed ≡ placed₀
   pub kept : h .count ≡ g .count
-  pub rest : place (rulesFor c r (λ (j : ℕ). w)) k (m - 1 - g .core) (g .core) (told placed₀ (g .row)) ≡ place (rulesFor c r (λ (j : ℕ). w)) k (m - 1 - h .core) (h .core) (told placed (h .row))
+  pub rest : fromCore c r w (m - 1 - g .core) (g .core) (piecesOfRow placed₀ (g .row)) ≡ fromCore c r w (m - 1 - h .core) (h .core) (piecesOfRow placed (h .row))
 
 module _ (m : ℕ) (c : Costs) (r k : ℕ) (w : Piece) (placed₀ : List ℕ) (g : Going) (placed records : List ℕ) (h : Going) (u : Under m c r k w placed₀ g placed records h) where
-  R : Rules ℕ
-  R = rulesFor c r (λ (j : ℕ). w)
-
   row : List Piece
-  row = told placed (h .row)
+  row = piecesOfRow placed (h .row)
 
   -- where the task is to be placed from g on
   abbrev Goal : List ℕ → List ℕ → Going → Type 0
-  Goal placed′ records′ x = Reach (placedIn placed₀ (g .count)) placed′ records′ x (place (rulesFor c r (λ (j : ℕ). w)) k (m - 1 - g .core) (g .core) (told placed₀ (g .row)))
+  Goal placed′ records′ x = Reach (placedIn placed₀ (g .count)) placed′ records′ x (landed k (fromCore c r w (m - 1 - g .core) (g .core) (piecesOfRow placed₀ (g .row))))
 
-  reached : (placed′ records′ : List ℕ) (x : Going) (o : Outcome ℕ) → place R k (m - 1 - h .core) (h .core) row ≡ o → Reach (placedIn placed (h .count)) placed′ records′ x o → Goal placed′ records′ x
-  unfolding R row
+  reached : (placed′ records′ : List ℕ) (x : Going) (o : Landing Stand) → fromCore c r w (m - 1 - h .core) (h .core) row ≡ o → Reach (placedIn placed (h .count)) placed′ records′ x (landed k o) → Goal placed′ records′ x
+  unfolding row
   reached placed′ records′ x o e there = rw (u .rest ∙ e, ← u .kept, ← u .same) there
 
   -- the row can be laid out
@@ -179,30 +163,26 @@ module _ (m : ℕ) (c : Costs) (r k : ℕ) (w : Piece) (placed₀ : List ℕ) (g
   pub seat-fits : SeatFits placed h
   seat-fits = record { room = omega (arith, u .ok .room, u .ok .core, u .ok .cores); free = u .ok .free; size = u .ok .placed-size }
 
-  cut-is : (s : Split) → s ≡ greatestSplit c r row w → R .cut row k ≡ splitAs c w s
-  unfolding R rulesFor
-  cut-is s e = ap (splitAs c w) (sym e)
-
   -- the row is laid out
-  module _ (laid : List ℕ) (lies : asked laid (h .row .len) ≡ told placed (h .row)) (laid-size : length laid ≡ 553) where
+  module _ (laid : List ℕ) (lies : firstRecords laid (h .row .len) ≡ piecesOfRow placed (h .row)) (laid-size : length laid ≡ 553) where
     pub ask-fits : AskFits c laid (h .row .len)
     ask-fits = record { costs = u .ok .costs; free = u .ok .free; size = laid-size; sizes = rw lies (u .ok .sizes) }
 
     -- and the whole piece was judged behind it
-    module _ (v : Verdict) (verdict-is : v ≡ verdictOf c (asked laid (h .row .len) ++ (w ∷ []))) (more : List ℕ) (behind : asked more (h .row .len + 1) ≡ asked laid (h .row .len) ++ (w ∷ [])) (more-size : length more ≡ 553) where
-      fits-is : R .fits (row ++ (R .whole k ∷ [])) ≡ passes v
-      unfolding R rulesFor row
+    module _ (v : Verdict) (verdict-is : v ≡ verdictOf c (firstRecords laid (h .row .len) ++ (w ∷ []))) (more : List ℕ) (behind : firstRecords more (h .row .len + 1) ≡ firstRecords laid (h .row .len) ++ (w ∷ [])) (more-size : length more ≡ 553) where
+      fits-is : passes (verdictOf c (row ++ (w ∷ []))) ≡ passes v
+      unfolding row
       fits-is = ap (λ (l : List Piece). passes (verdictOf c (l ++ (w ∷ [])))) (sym lies) ∙ ap passes (sym verdict-is)
 
-      as-was : asked more (h .row .len) ≡ row
+      as-was : firstRecords more (h .row .len) ≡ row
       unfolding row
       as-was = asked-kept laid more (h .row .len) w (omega (arith, u .ok .free)) behind ∙ lies
 
       pub one-done : v ≡ Passes → (placed′ : List ℕ) → Put placed (h .count) (seatOf (h .core) k w) placed′ → Goal placed′ more (seatedOf h)
-      unfolding R rulesFor row
-      one-done e placed′ put = reached placed′ more (seatedOf h) (inOne k (m - 1 - h .core) (h .core) row w)
-          (place-one R k (h .core) row (m - 1 - h .core) (fits-is ∙ ap passes e))
-          (seat-reach placed h k (m - 1 - h .core) (u .ok .going) (u .ok .seated) (u .ok .free) placed′ more more-size w put)
+      unfolding row
+      one-done e placed′ put = reached placed′ more (seatedOf h) (inOne c r w (h .core) row)
+          (from-one c r w (h .core) row (m - 1 - h .core) (fits-is ∙ ap passes e))
+          (seat-reach c r placed h k (u .ok .going) (u .ok .seated) (u .ok .free) placed′ more more-size w put)
 
       pub ask-fits-still : AskFits c more (h .row .len)
       unfolding row
@@ -210,10 +190,9 @@ module _ (m : ℕ) (c : Costs) (r k : ℕ) (w : Piece) (placed₀ : List ℕ) (g
 
       module _ (fails : passes v ≡ false) where
         pub stuck-done : h .core + 1 ≡ m → (placed′ : List ℕ) → Goal placed′ more (stickOf h k)
-        unfolding R
         stuck-done last placed′ =
             let none : m - 1 - h .core ≡ zero = omega arith in
-            reached placed′ more (stickOf h k) (stuck k) (rw none (place-stuck R k (h .core) row (fits-is ∙ fails))) (stick-reach h k (placedIn placed (h .count)) placed′ more)
+            reached placed′ more (stickOf h k) (refuses 7) (rw none (from-stuck c r w (h .core) row (fits-is ∙ fails))) (stick-reach h k (placedIn placed (h .count)) placed′ more)
 
         module _ (on : h .core + 1 ≡ m → ⊥) where
           pub both-fit : BothFit placed h
@@ -222,16 +201,15 @@ module _ (m : ℕ) (c : Costs) (r k : ℕ) (w : Piece) (placed₀ : List ℕ) (g
           left : m - 1 - h .core ≡ suc (m - 1 - (h .core + 1))
           left = omega (arith, u .ok .core)
 
-          module _ (z : Split) (split-is : z ≡ greatestSplit c r (asked more (h .row .len)) w) where
+          module _ (z : Split) (split-is : z ≡ greatestSplit c r (firstRecords more (h .row .len)) w) where
             pub both-done : (x t : ℕ) → z ≡ Cut x t → (placed′ : List ℕ) → Both placed (h .count) (seatOf (h .core) k (firstPiece w x t)) (seatOf (h .core + 1) k (lastPiece c w x t)) placed′ → Goal placed′ more (seatedOf (nextOf (seatedOf h)))
-            unfolding R
             both-done x t s placed′ both =
-                reached placed′ more (seatedOf (nextOf (seatedOf h))) (inTwo k (m - 1 - (h .core + 1)) (h .core) (firstPiece w x t) (lastPiece c w x t))
-                (rw left (place-both R k (h .core) row (m - 1 - (h .core + 1)) (firstPiece w x t) (lastPiece c w x t) (fits-is ∙ fails) (cut-is z (rw as-was at split-is) ∙ ap (splitAs c w) s)))
-                (both-reach placed h k (m - 1 - (h .core + 1)) (u .ok .going) (u .ok .seated) (u .ok .free) placed′ more more-size (firstPiece w x t) (lastPiece c w x t) both)
+                reached placed′ more (seatedOf (nextOf (seatedOf h))) (inTwo c r w (h .core) x t)
+                (rw left (from-both c r w (h .core) row (m - 1 - (h .core + 1)) x t (fits-is ∙ fails) (sym (rw as-was at split-is) ∙ s)))
+                (both-reach c r placed h k (u .ok .going) (u .ok .seated) (u .ok .free) placed′ more more-size w x t both)
 
             pub next-under : z ≡ Nowhere → Under m c r k w placed₀ g placed more (nextOf h)
-            unfolding R nextOf row
+            unfolding nextOf row
             next-under s = record {
               ok = record {
                 costs = u .ok .costs;
@@ -248,5 +226,5 @@ module _ (m : ℕ) (c : Costs) (r k : ℕ) (w : Piece) (placed₀ : List ℕ) (g
               };
               same = u .same;
               kept = u .kept;
-              rest = u .rest ∙ rw (left, place-next R k (h .core) row (m - 1 - (h .core + 1)) (fits-is ∙ fails) (cut-is z (rw as-was at split-is) ∙ ap (splitAs c w) s), add-one (h .core));
+              rest = u .rest ∙ rw (left, from-next c r w (h .core) row (m - 1 - (h .core + 1)) (fits-is ∙ fails) (sym (rw as-was at split-is) ∙ s), add-one (h .core));
             }

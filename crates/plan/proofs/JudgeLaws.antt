@@ -28,18 +28,18 @@ use Rattle.demand.proofs.Sums.{each-snoc}
 use Rattle.demand.proofs.RunLaws.{taken-check, taken-answer}
 use Rattle.demand.specs.Records.{recordsOf}
 use Rattle.demand.proofs.RecordLaws.{records-length}
-use Rattle.plan.specs.Going.{asked, AskFits}
+use Rattle.plan.specs.ways.WalkGoing.{firstRecords, AskFits}
 
 module _ (c : Costs) (records : List ℕ) (n : ℕ) (q : Piece) (fits : AskFits c records n) (size : Sized q) where
   -- the records with the piece behind them
-  module _ (more : List ℕ) (behind : asked more (n + 1) ≡ asked records n ++ (q ∷ [])) where
-    judged-row : answerOf c (n + 1) (recordsOf more) ≡ Judged (verdictOf c (asked records n ++ (q ∷ [])))
+  module _ (more : List ℕ) (behind : firstRecords more (n + 1) ≡ firstRecords records n ++ (q ∷ [])) where
+    judged-row : answerOf c (n + 1) (recordsOf more) ≡ Judged (verdictOf c (firstRecords records n ++ (q ∷ [])))
     judged-row =
-        taken-answer c (n + 1) (recordsOf more) (record { few = omega (arith, fits .free); costs = fits .costs; each = rw behind (each-snoc Sized (asked records n) q (fits .sizes) size) })
+        taken-answer c (n + 1) (recordsOf more) (record { few = omega (arith, fits .free); costs = fits .costs; each = rw behind (each-snoc Sized (firstRecords records n) q (fits .sizes) size) })
         ∙ ap (λ (l : List Piece). Judged (verdictOf c l)) behind
 
     module _ (a : Answer) (answer-is : a ≡ answerOf c (n + 1) (recordsOf more)) where
-      pub judged-is : (v : Verdict) → a ≡ Judged v → v ≡ verdictOf c (asked records n ++ (q ∷ []))
+      pub judged-is : (v : Verdict) → a ≡ Judged v → v ≡ verdictOf c (firstRecords records n ++ (q ∷ []))
       judged-is v e = let f = sym e ∙ (answer-is ∙ judged-row) in cc f
 
       pub never-refused : (r : Refusal) → a ≡ Refused r → ⊥
@@ -47,18 +47,18 @@ module _ (c : Costs) (records : List ℕ) (n : ℕ) (q : Piece) (fits : AskFits 
 
   -- ---- the split
 
-  all : take (n + 1) (asked records n ++ (q ∷ [])) ≡ asked records n ++ (q ∷ [])
-  all = take-all (n + 1) (asked records n ++ (q ∷ [])) (rw length-append (omega (arith, length-take-le n (recordsOf records) (omega (arith, fits .free, records-length records)))))
+  all : take (n + 1) (firstRecords records n ++ (q ∷ [])) ≡ firstRecords records n ++ (q ∷ [])
+  all = take-all (n + 1) (firstRecords records n ++ (q ∷ [])) (rw length-append (omega (arith, length-take-le n (recordsOf records) (omega (arith, fits .free, records-length records)))))
 
-  fine : checkRun c (n + 1) (asked records n ++ (q ∷ [])) ≡ Fine
-  fine = taken-check c (n + 1) (asked records n ++ (q ∷ [])) (record { few = omega (arith, fits .free); costs = fits .costs; each = rw all (each-snoc Sized (asked records n) q (fits .sizes) size) })
+  fine : checkRun c (n + 1) (firstRecords records n ++ (q ∷ [])) ≡ Fine
+  fine = taken-check c (n + 1) (firstRecords records n ++ (q ∷ [])) (record { few = omega (arith, fits .free); costs = fits .costs; each = rw all (each-snoc Sized (firstRecords records n) q (fits .sizes) size) })
 
-  split-row : (r : ℕ) → splitOf c n (recordsOf records) q r ≡ Best (greatestSplit c r (asked records n) q)
+  split-row : (r : ℕ) → splitOf c n (recordsOf records) q r ≡ Best (greatestSplit c r (firstRecords records n) q)
   unfolding splitOf
-  split-row r = ap (λ (k : Check). splitted k (greatestSplit c r (asked records n) q)) fine
+  split-row r = ap (λ (k : Check). splitted k (greatestSplit c r (firstRecords records n) q)) fine
 
   module _ (r : ℕ) (a : Splitting) (answer-is : a ≡ splitOf c n (recordsOf records) q r) where
-    pub split-is : (s : Split) → a ≡ Best s → s ≡ greatestSplit c r (asked records n) q
+    pub split-is : (s : Split) → a ≡ Best s → s ≡ greatestSplit c r (firstRecords records n) q
     split-is s e = let f = sym e ∙ (answer-is ∙ split-row r) in cc f
 
     pub never-denied : (why : Refusal) → a ≡ Denied why → ⊥

@@ -19,8 +19,9 @@ use Rattle.demand.specs.declared.Piece.{Piece}
 use Rattle.demand.specs.Sizes.{Each}
 use Rattle.plan.specs.declared.Layout.{Layout}
 use Rattle.plan.specs.Layout.{putOf, layoutOn, none}
-use Rattle.plan.specs.Walk.{Placed, keep, onCore}
-use Rattle.plan.specs.Lent.{seatOf, placedAt, placedIn, Fitting}
+use Rattle.walks.specs.Lists.{keep}
+use Rattle.walks.specs.Way.{Placed, onCore}
+use Rattle.plan.specs.ways.PlacedArray.{seatOf, placedAt, placedIn, HasRoom}
 use Rattle.plan.proofs.LentLaws.{placed-more, placed-front, core-fits, place-fits, row-fits}
 
 pub layout-append : (s : Layout) (k l : List (Placed ℕ)) → layoutOn s (k ++ l) ≡ layoutOn (layoutOn s k) l
@@ -100,7 +101,7 @@ module _ (a : List ℕ) (s : Layout) (i : ℕ) (laid : Laying a s i) (p k : ℕ)
   }
 
   -- there is room for the next, where there is for all
-  module _ (n : ℕ) (fits : Fitting (placedIn a n)) (low : i < n) where
+  module _ (n : ℕ) (fits : HasRoom (placedIn a n)) (low : i < n) where
     pub core-room : p < 16
     core-room = rw (ap (λ (e : Placed ℕ). e .on) seat) (core-fits a n fits i low)
 

@@ -27,10 +27,11 @@ use Rattle.demand.proofs.Sums.{each-front, each-last}
 use Rattle.task.specs.declared.Times.{Times}
 use Rattle.task.specs.declared.Task.{Task}
 use Rattle.task.specs.Tasks.{past, taskAt}
-use Rattle.plan.specs.Walk.{Placed, onCore}
-use Rattle.plan.specs.Lent.{timesAt, Laid, Kept, seatOf, placedAt, placedIn, Put, Fitting}
+use Rattle.walks.specs.Way.{Placed, onCore}
+use Rattle.plan.specs.ways.TimesArray.{timesAt, Laid, OthersKept}
+use Rattle.plan.specs.ways.PlacedArray.{seatOf, placedAt, placedIn, Put, HasRoom}
 use Rattle.plan.proofs.Lists.{take-more}
-use Rattle.plan.proofs.WalkLaws.{on-append}
+use Rattle.walks.proofs.SoundLaws.{on-append}
 
 -- ---- numbers written from a place on
 
@@ -101,7 +102,7 @@ task-kept ts i j inside other =
       | no above ↦ (let over : i < j = omega arith in List·getD-eq-default (take i ts) past {n = j} (omega arith) ∙ sym (List·getD-eq-default (take (i + 1) ts) past {n = j} (omega arith)))
     ]
 
-pub laid-more : (a b : List ℕ) (ts : List Task) (i : ℕ) → i < length ts → Laid a (take i ts) → timesAt b i ≡ taskAt ts i .times → Kept i a b → Laid b (take (i + 1) ts)
+pub laid-more : (a b : List ℕ) (ts : List Task) (i : ℕ) → i < length ts → Laid a (take i ts) → timesAt b i ≡ taskAt ts i .times → OthersKept i a b → Laid b (take (i + 1) ts)
 laid-more a b ts i inside laid new kept j = elim (ℕ-discrete j i) [
   | yes same ↦ rw (same, getD-take (i + 1) ts i past (omega arith)) new
   | no other ↦ kept j other ∙ (laid j ∙ ap (λ (t : Task). t .times) (task-kept ts i j inside other))
@@ -182,7 +183,7 @@ module _ (a : List ℕ) where
   own-row : (i : ℕ) → length (onCore (placedAt a i .on) (placedIn a (suc i))) ≡ length (onCore (placedAt a i .on) (placedIn a i)) + 1
   own-row i = rw (on-append (placedAt a i .on) (placedIn a i) (placedAt a i ∷ []), length-append, eq-eqb (placedAt a i .on) (placedAt a i .on) refl)
 
-  module _ (n : ℕ) (fits : Fitting (placedIn a n)) (i : ℕ) (low : i < n) where
+  module _ (n : ℕ) (fits : HasRoom (placedIn a n)) (i : ℕ) (low : i < n) where
     pub core-fits : placedAt a i .on < 16
     core-fits = placed-each (λ e. e .on < 16) a n (fits .cores) i low
 

@@ -23,7 +23,6 @@ use Rattle.demand.specs.declared.Piece.{Piece}
 use Rattle.demand.specs.declared.Costs.{Costs}
 use Rattle.demand.specs.Sizes.{Sized, Each, sized, sizedCosts}
 use Rattle.demand.proofs.Sums.{each-imp}
-use Rattle.task.specs.declared.Times.{Times}
 use Rattle.task.specs.declared.Task.{Task}
 use Rattle.task.specs.declared.Tasks.{Tasks}
 use Rattle.task.specs.declared.Machine.{Machine}
@@ -33,25 +32,26 @@ use Rattle.task.proofs.TaskLaws.{Sane}
 use Rattle.plan.specs.declared.Layout.{Layout}
 use Rattle.plan.specs.declared.Going.{Going}
 use Rattle.plan.specs.declared.Reply.{Reply}
-use Rattle.plan.specs.Order.{pack, denserAt, denser, upto, Small}
-use Rattle.plan.specs.Walk.{Placed, Outcome, fine, stuck, walk, start, rulesFor}
+use Rattle.walks.specs.Order.{pack}
+use Rattle.walks.specs.Way.{Placed, Ending, fine, stuck, walkOver, walkOf}
+use Rattle.walks.specs.Halves.{Stand}
+use Rattle.walks.proofs.OrderLaws.{pack-every}
+use Rattle.walks.proofs.WayLaws.{walk-items}
+use Rattle.walks.proofs.SoundLaws.{spots-within, few-on-core}
+use Rattle.plan.specs.Walk.{wholeAt, wayFor, placeWay, upto, walked}
 use Rattle.plan.specs.Layout.{none, layoutOn}
-use Rattle.plan.specs.Plan.{padded, wholeAt, walked, refused, finished, planOf}
-use Rattle.plan.specs.Lent.{timesAt, Laid, denserIn, wholeIn, SmallIn, placedIn, Fitting}
-use Rattle.plan.specs.Going.{WalkFits, Reach}
+use Rattle.plan.specs.Plan.{padded, refused, finished, planOf}
+use Rattle.plan.specs.ways.TimesArray.{timesAt, Laid, wholeIn, denserIn, Small, SmallIn}
+use Rattle.plan.specs.ways.PlacedArray.{placedIn, HasRoom}
+use Rattle.plan.specs.ways.WalkGoing.{WalkFits, Reach}
 use Rattle.plan.proofs.LentLaws.{placed-length}
-use Rattle.plan.proofs.OrderLaws.{pack-every}
-use Rattle.plan.proofs.WalkLaws.{IfFine, Fit, fit, Spread, spread}
-use Rattle.plan.proofs.RuleLaws.{Fine, cd-sound}
+use Rattle.plan.proofs.WalkLaws.{claims, walk-planned}
 
 -- ---- the times of the tasks, where they are laid out
 
 module _ (times : List ℕ) (l : List Task) (laid : Laid times l) where
   wholes-laid : wholeIn times ≡ wholeAt l
   wholes-laid = fun-ext (λ i. ap wholePiece (laid i))
-
-  densers-laid : denserIn times ≡ denserAt l
-  densers-laid = fun-ext (λ i. fun-ext (λ j. ap (λ (a : Times). denser a (timesAt times j)) (laid i) ∙ ap (denser (taskAt l i .times)) (laid j)))
 
 -- ---- sizes
 
@@ -99,54 +99,53 @@ module _ (m : Machine) (c : Costs) (n : ℕ) (ts : List Task) (long : length ts 
     records-size = records-size;
   }
 
-  walked-is : walk (rulesFor c (m .grain) (wholeIn times)) (start (m .cores)) (take n order) ≡ walked m c (take n ts)
+  walked-is : walkOver (wayFor m c (wholeIn times)) (take n order) ≡ walked m c (take n ts)
   unfolding walked
-  walked-is = rw (packed, wholes-laid times (take n ts) laid, densers-laid times (take n ts) laid, whole)
+  walked-is = ap (walkOver (wayFor m c (wholeIn times))) packed ∙ (ap (λ (w : ℕ → Piece). walkOf (wayFor m c w) (upto n)) (wholes-laid times (take n ts) laid) ∙ ap (λ (k : ℕ). walkOf (placeWay m c (take n ts)) (upto k)) (sym whole))
 
   planned : stateFault m c n ts ≡ 0 → planOf m c n ts ≡ finished m c (take n ts) (walked m c (take n ts))
   unfolding planOf
   planned faultless = rw faultless
 
-  module _ (placed records : List ℕ) (g : Going) (there : Reach [] placed records g (walk (rulesFor c (m .grain) (wholeIn times)) (start (m .cores)) (take n order))) where
+  module _ (placed records : List ℕ) (g : Going) (there : Reach [] placed records g (walkOver (wayFor m c (wholeIn times)) (take n order))) where
     -- what a walk that did not stick placed has room in a plan
-    pub all-fits : length order ≡ 64 → Each (λ k. k < 64) (take n order) → g .stuck ≤ 0 → (g .count ≤ 79) × Fitting (placedIn placed (g .count))
-    all-fits size places going =
-        by (walk (rulesFor c (m .grain) (wholeIn times)) (start (m .cores)) (take n order)) there
-        (fit (rulesFor c (m .grain) (wholeIn times)) (λ k. Sized (wholeIn times k)) (Fine c) (cd-sound c (m .grain) (wholeIn times) (sane .costs)) (m .cores) (take n order) sizes (sane .cores-some))
-        (spread (rulesFor c (m .grain) (wholeIn times)) (λ k. k < 64) (m .cores) (take n order) places)
+    pub all-fits : length order ≡ 64 → Each (λ k. k < 64) (take n order) → g .stuck ≤ 0 → (g .count ≤ 79) × HasRoom (placedIn placed (g .count))
+    all-fits size places going = by (walkOver (wayFor m c (wholeIn times)) (take n order)) refl there
       where
         short : length (take n order) ≡ n
         short = length-take-le n order (omega (arith, sane .few))
 
-        by : (x : Outcome ℕ) → Reach [] placed records g x → IfFine (Fit (Fine c) (m .cores) (length (take n order))) x → IfFine (λ s l. Spread (λ k. k < 64) (length (take n order)) l) x → (g .count ≤ 79) × Fitting (placedIn placed (g .count))
-        by (fine s l) r f h = (
-          omega (arith, placed-length placed (g .count), ap length (r .placed-is), f .count, f .cores, sane .cores-fit, sane .few, short),
-          rw (r .placed-is) (record {
-            cores = each-imp (λ (e : Placed ℕ). e .on < m .cores) (λ (e : Placed ℕ). e .on < 16) (λ e low. omega (arith, sane .cores-fit)) l (f .seats);
-            places = h .items;
-            rows = λ q. omega (arith, h .rows q, sane .few, short);
-          }),
-        )
-        by (stuck k) r f h = absurd (omega (arith, r))
+        by : (x : Ending Stand ℕ) → walkOver (wayFor m c (wholeIn times)) (take n order) ≡ x → Reach [] placed records g x → (g .count ≤ 79) × HasRoom (placedIn placed (g .count))
+        by (fine s l) is r =
+            let p = walk-planned m c (timesAt times) (sane .costs) (sane .cores-some) (take n order) sizes s l is in
+            let share = claims m c (timesAt times) .Share in (
+              omega (arith, placed-length placed (g .count), ap length (r .placed-is), p .faithful .count, p .faithful .below, sane .cores-fit, sane .few, short),
+              rw (r .placed-is) (record {
+                cores = each-imp (λ (e : Placed ℕ). e .on < m .cores) (λ (e : Placed ℕ). e .on < 16) (λ e low. omega (arith, sane .cores-fit)) l (spots-within (m .cores) (wholeIn times) share (p .shares));
+                places = walk-items (wayFor m c (wholeIn times)) (λ k. k < 64) (wayFor m c (wholeIn times) .begin) s (take n order) l places is;
+                rows = λ q. omega (arith, few-on-core (m .cores) (wholeIn times) share q (p .shares), sane .few, short);
+              }),
+            )
+        by (stuck k j) is r = absurd (omega (arith, r .0))
 
     module _ (fault : stateFault m c n ts ≡ 0) where
       pub plan-stuck : 0 < g .stuck → refused 7 (g .stuck) ≡ planOf m c n ts
-      plan-stuck some = by (walk (rulesFor c (m .grain) (wholeIn times)) (start (m .cores)) (take n order)) there ∙ (ap (finished m c (take n ts)) walked-is ∙ sym (planned fault))
+      plan-stuck some = by (walkOver (wayFor m c (wholeIn times)) (take n order)) there ∙ (ap (finished m c (take n ts)) walked-is ∙ sym (planned fault))
         where
-          by : (x : Outcome ℕ) → Reach [] placed records g x → refused 7 (g .stuck) ≡ finished m c (take n ts) x
+          by : (x : Ending Stand ℕ) → Reach [] placed records g x → refused 7 (g .stuck) ≡ finished m c (take n ts) x
           by (fine s l) r = absurd (omega (arith, r .still))
-          by (stuck k) r = ap (refused 7) r
+          by (stuck k j) r = rw (r .0, r .1)
 
       pub plan-fine : g .stuck ≤ 0 → (clean : Tasks) → clean .count ≡ n → clean .list ≡ padded (take n ts) → (s : Layout) → s ≡ layoutOn none (placedIn placed (g .count)) →
           _≡_ {A = Reply} (record { number = 0; carries = 0; plan = record { machine = m; costs = c; tasks = clean; layout = s } }) (planOf m c n ts)
-      plan-fine going clean count list s laid-out = by (walk (rulesFor c (m .grain) (wholeIn times)) (start (m .cores)) (take n order)) there ∙ (ap (finished m c (take n ts)) walked-is ∙ sym (planned fault))
+      plan-fine going clean count list s laid-out = by (walkOver (wayFor m c (wholeIn times)) (take n order)) there ∙ (ap (finished m c (take n ts)) walked-is ∙ sym (planned fault))
         where
           tidied : clean ≡ record { count = length (take n ts); list = padded (take n ts) }
           tidied = (let e : _≡_ {A = Tasks} (record { count = clean .count; list = clean .list }) (record { count = length (take n ts); list = padded (take n ts) }) = cc (count ∙ sym whole, list) in e)
 
-          by : (x : Outcome ℕ) → Reach [] placed records g x → _≡_ {A = Reply} (record { number = 0; carries = 0; plan = record { machine = m; costs = c; tasks = clean; layout = s } }) (finished m c (take n ts) x)
+          by : (x : Ending Stand ℕ) → Reach [] placed records g x → _≡_ {A = Reply} (record { number = 0; carries = 0; plan = record { machine = m; costs = c; tasks = clean; layout = s } }) (finished m c (take n ts) x)
           by (fine t l) r = cc (laid-out, ap (layoutOn none) (r .placed-is), tidied)
-          by (stuck k) r = absurd (omega (arith, r))
+          by (stuck k j) r = absurd (omega (arith, r .0))
 
 pub no-fault : (m : Machine) (c : Costs) (n : ℕ) (ts : List Task) (k : ℕ) → k ≡ stateFault m c n ts → k ≡ 0 → stateFault m c n ts ≡ 0
 no-fault m c n ts k e none = sym e ∙ none

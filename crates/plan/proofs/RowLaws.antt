@@ -12,31 +12,31 @@ use lib.Seq.{length-take-le, take-take, take-append-le, take-all}
 use Rattle.demand.specs.declared.Piece.{Piece}
 use Rattle.demand.specs.Records.{recordsOf, putRecord}
 use Rattle.demand.proofs.RecordLaws.{records-length, put-length, records-put}
-use Rattle.plan.specs.Lent.{seatOf, placedAt}
-use Rattle.plan.specs.Walk.{Placed}
-use Rattle.plan.specs.Going.{asked}
+use Rattle.plan.specs.ways.PlacedArray.{seatOf, placedAt}
+use Rattle.walks.specs.Way.{Placed}
+use Rattle.plan.specs.ways.WalkGoing.{firstRecords}
 use Rattle.plan.proofs.Lists.{map-more}
 
-asked-length : (records : List ℕ) (n : ℕ) → n ≤ 79 → length (asked records n) ≡ n
+asked-length : (records : List ℕ) (n : ℕ) → n ≤ 79 → length (firstRecords records n) ≡ n
 asked-length records n h = length-take-le n (recordsOf records) (omega (arith, records-length records))
 
 -- one behind them leaves them as they were
-pub asked-kept : (a b : List ℕ) (n : ℕ) (q : Piece) → n < 79 → asked b (n + 1) ≡ asked a n ++ (q ∷ []) → asked b n ≡ asked a n
+pub asked-kept : (a b : List ℕ) (n : ℕ) (q : Piece) → n < 79 → firstRecords b (n + 1) ≡ firstRecords a n ++ (q ∷ []) → firstRecords b n ≡ firstRecords a n
 asked-kept a b n q h e =
     sym (take-take n (n + 1) (recordsOf b) (omega arith))
     ∙ (ap (take n) e
-    ∙ (take-append-le n (asked a n) (q ∷ []) (omega (arith, asked-length a n (omega arith)))
-    ∙ take-all n (asked a n) (omega (arith, asked-length a n (omega arith)))))
+    ∙ (take-append-le n (firstRecords a n) (q ∷ []) (omega (arith, asked-length a n (omega arith)))
+    ∙ take-all n (firstRecords a n) (omega (arith, asked-length a n (omega arith)))))
 
 module _ (a b : List ℕ) (n : ℕ) (q : Piece) (h : n < 79) (size : length a ≡ 553) (e : b ≡ putRecord a n q) where
-  pub asked-put : asked b (n + 1) ≡ asked a n ++ (q ∷ [])
+  pub asked-put : firstRecords b (n + 1) ≡ firstRecords a n ++ (q ∷ [])
   asked-put = rw e (records-put a n q h size)
 
   pub put-size : length b ≡ 553
   put-size = rw (e, put-length a n q h) size
 
-module _ (placed numbers : List ℕ) (i : ℕ) (inside : i < length numbers) (low : i < 79) (a b : List ℕ) (size : length a ≡ 553) (lies : asked a i ≡ map (λ (k : ℕ). placedAt placed k .piece) (take i numbers)) where
-  pub laid-piece : (p k : ℕ) (q : Piece) → seatOf p k q ≡ placedAt placed (getD numbers i 0) → b ≡ putRecord a i q → asked b (i + 1) ≡ map (λ (k : ℕ). placedAt placed k .piece) (take (i + 1) numbers)
+module _ (placed numbers : List ℕ) (i : ℕ) (inside : i < length numbers) (low : i < 79) (a b : List ℕ) (size : length a ≡ 553) (lies : firstRecords a i ≡ map (λ (k : ℕ). placedAt placed k .piece) (take i numbers)) where
+  pub laid-piece : (p k : ℕ) (q : Piece) → seatOf p k q ≡ placedAt placed (getD numbers i 0) → b ≡ putRecord a i q → firstRecords b (i + 1) ≡ map (λ (k : ℕ). placedAt placed k .piece) (take (i + 1) numbers)
   laid-piece p k q seat put =
       asked-put a b i q low size put
       ∙ (cc (lies, ap (λ (e : Placed ℕ). e .piece) seat)

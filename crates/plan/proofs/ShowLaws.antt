@@ -5,7 +5,6 @@
 --   Core s q x           core q of the layout s has the pieces x
 --   Size, Kept           the arrays' lengths; the layout has a log
 --   Room l               there is room for all that is placed
---   each-middle          what holds of each holds of one
 --   kept                 what was put is what the layout has
 --   kept-shows           and so shows
 use mathlib.Core.Path.{_≡_, refl, sym, ap, _∙_, subst}
@@ -23,11 +22,12 @@ use Rattle.demand.specs.declared.Piece.{Piece}
 use Rattle.demand.specs.Sizes.{Each}
 use Rattle.plan.specs.declared.Stored.{Stored}
 use Rattle.plan.specs.declared.Layout.{Layout}
-use Rattle.plan.specs.Walk.{Placed, onCore}
+use Rattle.walks.specs.Way.{Placed, onCore}
+use Rattle.walks.proofs.ListLaws.{each-middle}
+use Rattle.walks.proofs.SoundLaws.{on-here, on-other, on-append}
 use Rattle.plan.specs.Layout.{putOf, layoutOn, none, blank, pieceOf}
-use Rattle.plan.specs.Shows.{storedOf, numbersOn, Shows}
+use Rattle.plan.specs.Shows.{storedOf, numbersOn, LayoutShows}
 use Rattle.plan.proofs.Lists.{take-put, map-snoc}
-use Rattle.plan.proofs.WalkLaws.{on-here, on-other, on-append}
 use Rattle.plan.proofs.LayoutLaws.{put-count, zeros}
 use Rattle.plan.proofs.GoingLaws.{piece-stored}
 
@@ -124,10 +124,6 @@ pub record Room (log : List (Placed ℕ)) : Type 0 where
   pub seats : (q : ℕ) → length (onCore q log) ≤ 64
   pub cores : Each (λ e. e .on < 16) log
 
-pub each-middle : {B : Type 0} (P : B → Type 0) (k : List B) (e : B) (l : List B) → Each P (k ++ (e ∷ l)) → P e
-each-middle P [] e l h = h .0
-each-middle P (a ∷ k) e l h = each-middle P k e l (h .1)
-
 module _ (s : Layout) (k : List (Placed ℕ)) (e : Placed ℕ) (l : List (Placed ℕ)) (room : Room (k ++ (e ∷ l))) (old : Kept s k) where
   low : e .on < 16
   low = each-middle (λ (b : Placed ℕ). b .on < 16) k e l (room .cores)
@@ -196,7 +192,7 @@ module _ (s : Layout) (l : List (Placed ℕ)) (room : Room l) (has : Kept s l) w
   same-pieces [] = refl
   same-pieces (e ∷ x) = cc (piece-stored (e .item) (e .piece), same-pieces x)
 
-  pub kept-shows : Shows s l
+  pub kept-shows : LayoutShows s l
   kept-shows = record {
     count = has .count;
     pieces = has .pieces;

@@ -9,11 +9,12 @@
 --   no-room-at            those before that task in packing order are placed, and where they end it has no place
 --   no-room-place         and it is one of the first n
 --   packing-order         the packing order has the place of each task, once
---   sized-order, shared   what the walk was over is within the sizes, and what it placed is the shares of that, one after another
+--   packing-ranked        greater C/D first: none stands behind one that it beats, and ties stand by earlier task
 --   all-placed            every task is placed: whole on a core, or by its greatest split on a core and the next; nothing else is placed of it
 --   budgets-add           the budgets of a task's pieces add to C
 --   windows-add           their windows add to D
 --   free-is-budget        with all costs, J and P zero the window of a first piece is its budget, which is C=D
+--   placed-places, placed-sized      what is placed is of the tasks, and its pieces are within the sizes
 --   cores-pass            every core passes
 --   cores-keep-up         so no live length, however long, asks more of a core than itself
 --   task-pieces           a task has one piece, and a second exactly where it has a first piece: so first pieces count the tasks that are split
@@ -22,11 +23,12 @@
 --   words-show            a core's word has bit k set exactly when the task at place k has a piece there, and its ones are its pieces
 use mathlib.Core.Path.{_≡_, refl, sym, ap, _∙_, subst}
 use mathlib.Core.Logic.{_⊎_, inl, inr, _↔_}
-use mathlib.Core.List.{List, []}
+use mathlib.Core.List.{List, map}
 use Prim.Native.Nat.{ℕ, zero, suc, _+_, _-_, _≤_, _<_}
 use native.Mathlib.Omega.{arith}
 use lib.ListN.{length, take, getD, length-take, length-map}
-use Rattle.demand.specs.declared.Kind.the-variants.{Whole, First}
+use Rattle.demand.specs.declared.Kind.the-variants.{First}
+use Rattle.demand.specs.declared.Piece.{Piece}
 use Rattle.demand.specs.declared.Costs.{Costs}
 use Rattle.demand.specs.declared.Verdict.the-variants.{Passes}
 use Rattle.demand.specs.Sizes.{Sized, Each}
@@ -36,24 +38,33 @@ use Rattle.demand.specs.Verdict.{verdictOf}
 use Rattle.demand.proofs.Sums.{each-imp}
 use Rattle.demand.proofs.Judgement.{passes-all}
 use Rattle.demand.proofs.SplitLaws.{Free}
+use Rattle.task.specs.declared.Times.{Times}
 use Rattle.task.specs.declared.Task.{Task}
 use Rattle.task.specs.declared.Machine.{Machine}
 use Rattle.task.specs.Tasks.{wholePiece, taskAt, stateFault}
 use Rattle.task.proofs.TaskLaws.{Sane, state-sane}
+use Rattle.walks.specs.Lists.{Chain, sumBy}
+use Rattle.walks.specs.Order.{Precedes}
+use Rattle.walks.specs.Way.{Placed, placedAs, Ending, fine, stuck, onCore, rowOf}
+use Rattle.walks.specs.Shares.{Divides}
+use Rattle.walks.specs.Halves.{Stand, Shared, splitCount}
+use Rattle.walks.proofs.ListLaws.{each-middle, sum-map}
+use Rattle.walks.proofs.OrderLaws.{pack-every, pack-ranked}
+use Rattle.walks.proofs.DenserLaws.{denser-lawful}
+use Rattle.walks.proofs.WayLaws.{SticksAt, sticks-at, walk-items}
+use Rattle.walks.proofs.SoundLaws.{Planned, Has, share-of, spots-within, few-on-core, apart-on, pieces-each}
+use Rattle.walks.proofs.HalvesLaws.{shared-firsts, shares-firsts, shared-free}
 use Rattle.plan.specs.declared.Reply.{Reply}
-use Rattle.plan.specs.Order.{denserAt, upto}
-use Rattle.plan.specs.Walk.{Stand, Placed, Outcome, fine, stuck, onCore, rowOf}
+use Rattle.plan.specs.Walk.{wholeAt, placeWay, upto, walked}
 use Rattle.plan.specs.Layout.{layoutOn, none, blank}
-use Rattle.plan.specs.Plan.{wholeAt, walked, refused, finished, unlessFault, planOf}
-use Rattle.plan.specs.Shares.{packed, rulesOf, onFirst, Rearranged, ofTask, sumBy, firsts, Shared}
-use Rattle.plan.specs.Shows.{Shows, WordShows}
-use Rattle.plan.proofs.OrderLaws.{pack-every}
-use Rattle.plan.proofs.WalkLaws.{IfFine, Shares, shares, Fit, fit, SticksAt, sticks-at}
-use Rattle.plan.proofs.RuleLaws.{Fine, cd-sound}
+use Rattle.plan.specs.Plan.{refused, finished, unlessFault, planOf}
+use Rattle.plan.specs.Places.{byPlace, denserAt, packed, Rearranged, ofTask}
+use Rattle.plan.specs.Shows.{LayoutShows, WordShows}
+use Rattle.plan.proofs.WalkLaws.{whole-kind, claims, walk-planned, only-seven}
 use Rattle.plan.proofs.PlanLaws.{sized-at, upto-each, fault-seven}
-use Rattle.plan.proofs.ShareLaws.{rearranged, share-of, shared-of, shared-budgets, shared-windows, shared-free, shared-firsts, shares-firsts, row-short}
-use Rattle.plan.proofs.ShowLaws.{Room, kept, kept-shows, each-middle}
-use Rattle.plan.proofs.WordLaws.{apart-on, word-shows}
+use Rattle.plan.proofs.PlaceLaws.{place-exact, upto-chain, rearranged}
+use Rattle.plan.proofs.ShowLaws.{Room, kept, kept-shows}
+use Rattle.plan.proofs.WordLaws.{word-shows}
 
 -- ---- the packing order
 
@@ -66,12 +77,8 @@ pub record Counted (m n : ℕ) (l : List (Placed ℕ)) : Type 0 where
   pub pieces-fit : length l ≤ 79
   pub row : (q : ℕ) → length (rowOf q l) ≤ n
   pub row-fits : (q : ℕ) → length (rowOf q l) ≤ 64
-  pub splits : firsts l ≤ m - 1
+  pub splits : splitCount l ≤ m - 1
   pub cores : Each (λ e. e .on < m) l
-
-whole-kind : (ts : List Task) (k : ℕ) → wholeAt ts k .kind ≡ Whole
-unfolding wholePiece
-whole-kind ts k = refl
 
 -- ---- a state that breaks a rule has its own number
 
@@ -106,32 +113,37 @@ module _ (m : Machine) (c : Costs) (n : ℕ) (ts : List Task) (faultless : state
 
   -- ---- the reply
 
-  pub plan-or-stuck : ((s : Stand) × (l : List (Placed ℕ)) × (walked m c (take n ts) ≡ fine s l) × (planOf m c n ts ≡ finished m c (take n ts) (fine s l))) ⊎ ((k : ℕ) × (walked m c (take n ts) ≡ stuck k) × (planOf m c n ts ≡ refused 7 (suc k)))
+  -- no other number than 7 comes of the walk
+  sticks-with : (k j : ℕ) → walked m c (take n ts) ≡ stuck k j → j ≡ 7
+  unfolding walked
+  sticks-with k j e = only-seven m c (λ i. taskAt (take n ts) i .times) (packed (take n ts)) k j e
+
+  pub plan-or-stuck : ((s : Stand) × (l : List (Placed ℕ)) × (walked m c (take n ts) ≡ fine s l) × (planOf m c n ts ≡ finished m c (take n ts) (fine s l))) ⊎ ((k : ℕ) × (walked m c (take n ts) ≡ stuck k 7) × (planOf m c n ts ≡ refused 7 (suc k)))
   plan-or-stuck = by (walked m c (take n ts)) refl
     where
-      by : (o : Outcome ℕ) → walked m c (take n ts) ≡ o → ((s : Stand) × (l : List (Placed ℕ)) × (walked m c (take n ts) ≡ fine s l) × (planOf m c n ts ≡ finished m c (take n ts) (fine s l))) ⊎ ((k : ℕ) × (walked m c (take n ts) ≡ stuck k) × (planOf m c n ts ≡ refused 7 (suc k)))
+      by : (o : Ending Stand ℕ) → walked m c (take n ts) ≡ o → ((s : Stand) × (l : List (Placed ℕ)) × (walked m c (take n ts) ≡ fine s l) × (planOf m c n ts ≡ finished m c (take n ts) (fine s l))) ⊎ ((k : ℕ) × (walked m c (take n ts) ≡ stuck k 7) × (planOf m c n ts ≡ refused 7 (suc k)))
       by (fine s l) e = inl (s, l, e, ended ∙ ap (finished m c (take n ts)) e)
-      by (stuck k) e = inr (k, e, ended ∙ ap (finished m c (take n ts)) e)
+      by (stuck k j) e = (let so : walked m c (take n ts) ≡ stuck k 7 = e ∙ ap (stuck k) (sticks-with k j e) in inr (k, so, ended ∙ ap (finished m c (take n ts)) so))
 
   pub plan-comes : (planOf m c n ts .number ≡ 0) ↔ ((s : Stand) × (l : List (Placed ℕ)) × (walked m c (take n ts) ≡ fine s l))
   plan-comes = ((λ e. by (walked m c (take n ts)) refl (sym (ap (λ (r : Reply). r .number) ended) ∙ e)), (λ w. ap (λ (r : Reply). r .number) (ended ∙ ap (finished m c (take n ts)) (w .2))))
     where
-      by : (o : Outcome ℕ) → walked m c (take n ts) ≡ o → finished m c (take n ts) o .number ≡ 0 → (s : Stand) × (l : List (Placed ℕ)) × (walked m c (take n ts) ≡ fine s l)
+      by : (o : Ending Stand ℕ) → walked m c (take n ts) ≡ o → finished m c (take n ts) o .number ≡ 0 → (s : Stand) × (l : List (Placed ℕ)) × (walked m c (take n ts) ≡ fine s l)
       by (fine s l) e z = (s, l, e)
-      by (stuck k) e z = absurd (omega arith)
+      by (stuck k j) e z = absurd (omega (arith, sticks-with k j e))
 
-  pub no-room : (k : ℕ) → ((planOf m c n ts .number ≡ 7) × (planOf m c n ts .carries ≡ suc k)) ↔ (walked m c (take n ts) ≡ stuck k)
+  pub no-room : (k : ℕ) → ((planOf m c n ts .number ≡ 7) × (planOf m c n ts .carries ≡ suc k)) ↔ (walked m c (take n ts) ≡ stuck k 7)
   no-room k = ((λ e. by (walked m c (take n ts)) refl (sym (ap (λ (r : Reply). r .number) ended) ∙ e .0) (sym (ap (λ (r : Reply). r .carries) ended) ∙ e .1)), (λ w. (ap (λ (r : Reply). r .number) (ended ∙ ap (finished m c (take n ts)) w), ap (λ (r : Reply). r .carries) (ended ∙ ap (finished m c (take n ts)) w))))
     where
-      by : (o : Outcome ℕ) → walked m c (take n ts) ≡ o → finished m c (take n ts) o .number ≡ 7 → finished m c (take n ts) o .carries ≡ suc k → walked m c (take n ts) ≡ stuck k
+      by : (o : Ending Stand ℕ) → walked m c (take n ts) ≡ o → finished m c (take n ts) o .number ≡ 7 → finished m c (take n ts) o .carries ≡ suc k → walked m c (take n ts) ≡ stuck k 7
       by (fine s l) e z y = absurd (omega arith)
-      by (stuck j) e z y = (let same : j ≡ k = omega arith in e ∙ ap stuck same)
+      by (stuck j i) e z y = (let same : j ≡ k = omega arith in e ∙ (ap (λ (x : ℕ). stuck x i) same ∙ ap (stuck k) (sticks-with j i e)))
 
-  pub no-room-at : (k : ℕ) → walked m c (take n ts) ≡ stuck k → SticksAt (rulesOf m c (take n ts)) (onFirst m) [] (packed (take n ts)) k
+  pub no-room-at : (k : ℕ) → walked m c (take n ts) ≡ stuck k 7 → SticksAt (placeWay m c (take n ts)) (placeWay m c (take n ts) .begin) (packed (take n ts)) k 7
   unfolding walked
-  no-room-at k e = sticks-at (rulesOf m c (take n ts)) (packed (take n ts)) (onFirst m) [] k e
+  no-room-at k e = sticks-at (placeWay m c (take n ts)) (packed (take n ts)) (placeWay m c (take n ts) .begin) k 7 e
 
-  pub no-room-place : (k : ℕ) → walked m c (take n ts) ≡ stuck k → k < length (take n ts)
+  pub no-room-place : (k : ℕ) → walked m c (take n ts) ≡ stuck k 7 → k < length (take n ts)
   no-room-place k e =
       let at = no-room-at k e in
       each-middle (λ (j : ℕ). j < length (take n ts)) (at .before) k (at .after) (subst (Each (λ j. j < length (take n ts))) (at .order) (packing-order (take n ts) .below))
@@ -141,65 +153,79 @@ module _ (m : Machine) (c : Costs) (n : ℕ) (ts : List Task) (faultless : state
   sized-place : (k : ℕ) → k < length (take n ts) → Sized (wholeAt (take n ts) k)
   sized-place k low = sized-at (take n ts) (sane .timed) k low
 
-  pub sized-order : Each (λ k. Sized (wholeAt (take n ts) k)) (packed (take n ts))
+  sized-order : Each (λ k. Sized (wholeAt (take n ts) k)) (packed (take n ts))
   sized-order = pack-every (denserAt (take n ts)) (λ k. Sized (wholeAt (take n ts) k)) (upto (length (take n ts))) (upto-each (λ k. Sized (wholeAt (take n ts) k)) (length (take n ts)) sized-place)
 
-  module _ (s : Stand) (l : List (Placed ℕ)) (planned : walked m c (take n ts) ≡ fine s l) where
-    pub shared : Shares (rulesOf m c (take n ts)) (Fine c) (packed (take n ts)) l
-    unfolding walked
-    shared =
-        let sound = cd-sound c (m .grain) (wholeAt (take n ts)) (sane .costs) in
-        subst (IfFine (λ t k. Shares (rulesOf m c (take n ts)) (Fine c) (packed (take n ts)) k)) planned
-        (shares (rulesOf m c (take n ts)) (λ k. Sized (wholeAt (take n ts) k)) (Fine c) sound (packed (take n ts)) sized-order (onFirst m) (sound .empty))
+  pub packing-ranked : Chain (Precedes (denserAt (take n ts)) (λ i j. i < j)) (packed (take n ts))
+  packing-ranked =
+      let places = upto (length (take n ts)) in
+      pack-ranked (λ k. 1 ≤ wholeAt (take n ts) k .window) (denserAt (take n ts)) (denser-lawful (wholeAt (take n ts))) (λ i j. i < j) places
+      (upto-each (λ k. 1 ≤ wholeAt (take n ts) k .window) (length (take n ts)) (λ k low. (let size = sized-place k low in omega (arith, size .budget-some, size .budget-fits)))) (upto-chain (length (take n ts)))
 
-    fits : Fit (Fine c) (m .cores) (length (packed (take n ts))) s l
+  abbrev timesOf : ℕ → Times
+  timesOf k = taskAt (take n ts) k .times
+
+  module _ (s : Stand) (l : List (Placed ℕ)) (planned : walked m c (take n ts) ≡ fine s l) where
+    -- what every walk's plan is
+    facts : Planned (claims m c timesOf) (packed (take n ts)) s l
     unfolding walked
-    fits =
-        subst (IfFine (Fit (Fine c) (m .cores) (length (packed (take n ts))))) planned
-        (fit (rulesOf m c (take n ts)) (λ k. Sized (wholeAt (take n ts) k)) (Fine c) (cd-sound c (m .grain) (wholeAt (take n ts)) (sane .costs)) (m .cores) (packed (take n ts)) sized-order (sane .cores-some))
+    facts = walk-planned m c timesOf (sane .costs) (sane .cores-some) (packed (take n ts)) sized-order s l planned
+
+    -- a task's share
+    share : (k : ℕ) → k < length (take n ts) → Has byPlace place-exact (λ a l. Divides (m .cores) (wholeAt (take n ts) a) l × claims m c timesOf .Share a l) k l
+    share k low = (let order = packing-order (take n ts) in share-of byPlace place-exact (λ a l. Divides (m .cores) (wholeAt (take n ts) a) l × claims m c timesOf .Share a l) k (facts .shares) (order .once) (order .every k low))
 
     pub all-placed : (k : ℕ) → k < length (take n ts) → Shared c (m .grain) (wholeAt (take n ts) k) k (ofTask k l)
-    all-placed k low =
-        let order = packing-order (take n ts) in
-        shared-of c (m .grain) (wholeAt (take n ts)) k (share-of (rulesOf m c (take n ts)) (Fine c) k shared (order .once) (order .every k low))
+    all-placed k low = (let h = share k low in rw (h .is) (subst (λ (j : ℕ). Shared c (m .grain) (wholeAt (take n ts) j) j (map (placedAs (h .item)) (h .spots))) (h .own) (h .has .1)))
 
-    pub budgets-add : (k : ℕ) → k < length (take n ts) → sumBy (λ q. q .budget) (ofTask k l) ≡ taskAt (take n ts) k .times .worst
-    unfolding wholePiece
-    budgets-add k low = shared-budgets c (m .grain) (wholeAt (take n ts) k) k (sane .costs) (sized-place k low) (all-placed k low)
+    -- what is summed over a task's pieces
+    sum-of : (f : Piece → ℕ) (k : ℕ) (low : k < length (take n ts)) → sumBy (λ e. f (e .piece)) (ofTask k l) ≡ sumBy (λ e. f (e .piece)) (share k low .spots)
+    sum-of f k low = (let h = share k low in ap (sumBy (λ (e : Placed ℕ). f (e .piece))) (h .is) ∙ sum-map (λ (e : Placed ℕ). f (e .piece)) (placedAs (h .item)) (h .spots))
 
-    pub windows-add : (k : ℕ) → k < length (take n ts) → sumBy (λ q. q .window) (ofTask k l) ≡ taskAt (take n ts) k .times .deadline
+    pub budgets-add : (k : ℕ) → k < length (take n ts) → sumBy (λ e. e .piece .budget) (ofTask k l) ≡ taskAt (take n ts) k .times .worst
     unfolding wholePiece
-    windows-add k low = shared-windows c (m .grain) (wholeAt (take n ts) k) k (sane .costs) (sized-place k low) (all-placed k low)
+    budgets-add k low = (let h = share k low in sum-of (λ q. q .budget) k low ∙ (h .has .0 .budgets ∙ ap (λ (j : ℕ). taskAt (take n ts) j .times .worst) (h .own)))
+
+    pub windows-add : (k : ℕ) → k < length (take n ts) → sumBy (λ e. e .piece .window) (ofTask k l) ≡ taskAt (take n ts) k .times .deadline
+    unfolding wholePiece
+    windows-add k low = (let h = share k low in sum-of (λ q. q .window) k low ∙ (h .has .0 .windows ∙ ap (λ (j : ℕ). taskAt (take n ts) j .times .deadline) (h .own)))
 
     pub free-is-budget : (k : ℕ) → k < length (take n ts) → Free c (wholeAt (take n ts) k) → Each (λ e. e .piece .kind ≡ First → e .piece .window ≡ e .piece .budget) (ofTask k l)
-    free-is-budget k low free = shared-free c (m .grain) (wholeAt (take n ts) k) k (sane .costs) (sized-place k low) free (whole-kind (take n ts) k) (all-placed k low)
+    free-is-budget k low free = shared-free c (m .grain) (wholeAt (take n ts) k) k (sized-place k low) free (whole-kind (timesOf k)) (all-placed k low)
+
+    pub placed-places : Each (λ e. e .item < length (take n ts)) l
+    unfolding walked
+    placed-places = walk-items (placeWay m c (take n ts)) (λ k. k < length (take n ts)) (placeWay m c (take n ts) .begin) s (packed (take n ts)) l (packing-order (take n ts) .below) planned
+
+    pub placed-sized : Each (λ e. Sized (e .piece)) l
+    placed-sized = pieces-each Sized l (λ q. facts .rows q .sizes)
 
     -- ---- every core passes
 
     pub cores-pass : (q : ℕ) → verdictOf c (rowOf q l) ≡ Passes
-    cores-pass q = fits .rows q .passing
+    cores-pass q = facts .rows q .passing
 
     pub cores-keep-up : (q t : ℕ) → Live (coreOf c (rowOf q l)) t → demand (stall c) (coreOf c (rowOf q l)) t ≤ t
-    cores-keep-up q t live = passes-all c (rowOf q l) (fits .rows q .sizes) (cores-pass q) t live
+    cores-keep-up q t live = passes-all c (rowOf q l) (facts .rows q .sizes) (cores-pass q) t live
 
     -- ---- numbers
 
-    pub task-pieces : (k : ℕ) → k < length (take n ts) → length (ofTask k l) ≡ 1 + firsts (ofTask k l)
-    task-pieces k low = shared-firsts c (m .grain) (wholeAt (take n ts) k) k (whole-kind (take n ts) k) (all-placed k low)
+    pub task-pieces : (k : ℕ) → k < length (take n ts) → length (ofTask k l) ≡ 1 + splitCount (ofTask k l)
+    task-pieces k low = shared-firsts c (m .grain) (wholeAt (take n ts) k) k (whole-kind (timesOf k)) (all-placed k low)
 
     pub plan-counts : Counted (m .cores) (length (take n ts)) l
     plan-counts =
         let order = packing-order (take n ts) in
         let few : length (take n ts) ≤ 64 = omega (arith, length-take n ts, sane .few) in
-        let pieces : length l ≤ length (take n ts) + (m .cores - 1) = omega (arith, fits .count, fits .cores, order .long) in
-        let row : (q : ℕ) → length (rowOf q l) ≤ length (take n ts) = (λ q. omega (arith, length-map (onCore q l) (λ (e : Placed ℕ). e .piece), row-short (rulesOf m c (take n ts)) (Fine c) q shared, order .long)) in
+        let pieces : length l ≤ length (take n ts) + (m .cores - 1) = omega (arith, facts .faithful .count, facts .faithful .below, order .long) in
+        let row : (q : ℕ) → length (rowOf q l) ≤ length (take n ts) = (λ q. omega (arith, length-map (onCore q l) (λ (e : Placed ℕ). e .piece), few-on-core (m .cores) (wholeAt (take n ts)) (claims m c timesOf .Share) q (facts .shares), order .long)) in
         record {
           pieces = pieces;
           pieces-fit = omega (arith, sane .cores-fit);
           row = row;
           row-fits = λ q. omega (arith, row q);
-          splits = omega (arith, shares-firsts c (m .grain) (wholeAt (take n ts)) (whole-kind (take n ts)) shared, fits .count, fits .cores, order .long);
-          cores = fits .seats;
+          splits = omega (arith, shares-firsts c (m .grain) (m .cores) (wholeAt (take n ts)) (λ k. whole-kind (timesOf k)) (facts .shares), facts .faithful .count, facts .faithful .below, order .long);
+          cores = spots-within (m .cores) (wholeAt (take n ts)) (claims m c timesOf .Share) (facts .shares);
         }
 
     -- ---- rows and words
@@ -208,16 +234,16 @@ module _ (m : Machine) (c : Costs) (n : ℕ) (ts : List Task) (faultless : state
     room = record {
       pieces = plan-counts .pieces-fit;
       seats = λ q. omega (arith, plan-counts .row-fits q, length-map (onCore q l) (λ (e : Placed ℕ). e .piece));
-      cores = each-imp (λ (e : Placed ℕ). e .on < m .cores) (λ (e : Placed ℕ). e .on < 16) (λ e h. omega (arith, sane .cores-fit)) l (fits .seats);
+      cores = each-imp (λ (e : Placed ℕ). e .on < m .cores) (λ (e : Placed ℕ). e .on < 16) (λ e h. omega (arith, sane .cores-fit)) l (plan-counts .cores);
     }
 
     laid : planOf m c n ts .plan .layout ≡ layoutOn none l
     laid = ap (λ (r : Reply). r .plan .layout) (ended ∙ ap (finished m c (take n ts)) planned)
 
-    pub plan-shows : Shows (planOf m c n ts .plan .layout) l
+    pub plan-shows : LayoutShows (planOf m c n ts .plan .layout) l
     plan-shows = rw laid (kept-shows (layoutOn none l) l room (kept l room))
 
     pub words-show : (q : ℕ) → q < 16 → WordShows (getD (planOf m c n ts .plan .layout .words) q 0) (onCore q l)
     words-show q low =
         word-shows (getD (planOf m c n ts .plan .layout .words) q 0) (onCore q l) (rw laid (kept l room .core q low blank .word))
-        (apart-on (rulesOf m c (take n ts)) (Fine c) q shared (packing-order (take n ts) .once))
+        (apart-on (m .cores) (wholeAt (take n ts)) (claims m c timesOf .Share) q (λ k. k) (facts .shares) (packing-order (take n ts) .once))

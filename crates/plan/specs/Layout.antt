@@ -2,7 +2,7 @@
 -- that what is not used stays zero and two equal plans are equal structs.
 --
 --   stored k q           the piece q of the task at place k, as the plan keeps it
---   pieceAt ps i         the piece with the number i, as the verdict sees it
+--   pieceNumbered ps i   the piece with the number i, as the verdict sees it
 --   putOf s p k q        one piece more, on core p
 --   none                 nothing placed
 --   layoutOn s l         each piece of l in turn
@@ -18,7 +18,7 @@ use Rattle.demand.specs.declared.Piece.{Piece}
 use Rattle.demand.specs.Kinds.{kindNumber, kindOf}
 use Rattle.plan.specs.declared.Stored.{Stored}
 use Rattle.plan.specs.declared.Layout.{Layout}
-use Rattle.plan.specs.Walk.{Placed}
+use Rattle.walks.specs.Way.{Placed}
 
 abbrev pub stored : ℕ → Piece → Stored
 stored k q = record { task = k; kind = kindNumber (q .kind); budget = q .budget; window = q .window; period = q .period; jitter = q .jitter; preempt = q .preempt; migrate = q .migrate }
@@ -29,8 +29,8 @@ pieceOf s = record { kind = kindOf (s .kind); budget = s .budget; window = s .wi
 abbrev pub blank : Stored
 blank = record { task = 0; kind = 0; budget = 0; window = 0; period = 0; jitter = 0; preempt = 0; migrate = 0 }
 
-abbrev pub pieceAt : List Stored → ℕ → Piece
-pieceAt ps i = pieceOf (getD ps i blank)
+abbrev pub pieceNumbered : List Stored → ℕ → Piece
+pieceNumbered ps i = pieceOf (getD ps i blank)
 
 unfoldable pub putOf : Layout → ℕ → ℕ → Piece → Layout
 putOf s p k q = record {

@@ -1,9 +1,7 @@
--- What the contracts of `plan` cite, in document 01's order; then how the code carries a walk, and what the theorems speak of.
-pub mod Order
+-- What a plan is, in document 01's order; then what the theorems about a plan speak of; and in `ways` how the code goes about it.
 pub mod Walk
 pub mod Layout
 pub mod Plan
-pub mod Lent
-pub mod Going
-pub mod Shares
+pub mod Places
 pub mod Shows
+pub mod ways

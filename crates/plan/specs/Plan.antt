@@ -1,20 +1,19 @@
 -- The plan of a machine, costs and a task list, and the refusals before it: document 01, "The C=D walk", "Edits on a held plan", "Refusal numbers".
 --
 --   padded ts            the list in an array of 64, with zeros past its end
---   walked m c ts        the walk over the tasks ts in packing order, by their places
 --   planOf m c n ts      the answer for the first n of ts: 1, 2, 6, then at the first bad task 8, 3 or 4; 7 with the task's place; else the plan
 use mathlib.Core.List.{List, _++_}
 use Prim.Native.Nat.{ℕ, zero, suc, _-_}
 use lib.ListN.{take, length, replicate}
 use Rattle.demand.specs.declared.Costs.{Costs}
-use Rattle.demand.specs.declared.Piece.{Piece}
 use Rattle.task.specs.declared.Task.{Task}
 use Rattle.task.specs.declared.Machine.{Machine}
-use Rattle.task.specs.Tasks.{wholePiece, taskAt, stateFault, tasksMost}
+use Rattle.task.specs.Tasks.{stateFault, tasksMost}
 use Rattle.plan.specs.declared.Plan.{Plan}
 use Rattle.plan.specs.declared.Reply.{Reply}
-use Rattle.plan.specs.Order.{pack, denserAt, upto}
-use Rattle.plan.specs.Walk.{Outcome, fine, stuck, walk, start, rulesFor}
+use Rattle.walks.specs.Way.{Ending, fine, stuck}
+use Rattle.walks.specs.Halves.{Stand}
+use Rattle.plan.specs.Walk.{walked}
 use Rattle.plan.specs.Layout.{layoutOn, none}
 
 abbrev pub noTask : Task
@@ -22,13 +21,6 @@ noTask = record { name = record { len = 0; bytes = replicate 24 0 }; times = rec
 
 unfoldable pub padded : List Task → List Task
 padded ts = ts ++ replicate (tasksMost - length ts) noTask
-
--- the whole piece of the task at a place
-abbrev pub wholeAt : List Task → ℕ → Piece
-wholeAt ts i = wholePiece (taskAt ts i .times)
-
-unfoldable pub walked : Machine → Costs → List Task → Outcome ℕ
-walked m c ts = walk (rulesFor c (m .grain) (wholeAt ts)) (start (m .cores)) (pack (denserAt ts) (upto (length ts)))
 
 unfoldable pub noPlan : Plan
 noPlan = record {
@@ -41,9 +33,9 @@ noPlan = record {
 abbrev pub refused : ℕ → ℕ → Reply
 refused n k = record { number = n; carries = k; plan = noPlan }
 
-abbrev pub finished : Machine → Costs → List Task → Outcome ℕ → Reply
+abbrev pub finished : Machine → Costs → List Task → Ending Stand ℕ → Reply
 finished m c ts (fine s l) = record { number = 0; carries = 0; plan = record { machine = m; costs = c; tasks = record { count = length ts; list = padded ts }; layout = layoutOn none l } }
-finished m c ts (stuck k) = refused 7 (suc k)
+finished m c ts (stuck k n) = refused n (suc k)
 
 abbrev pub unlessFault : ℕ → Reply → Reply
 unlessFault zero r = r

@@ -2,7 +2,7 @@
 --
 --   storedOf e            what was placed, as the plan keeps it
 --   numbersOn s q         the numbers of the pieces on core q
---   Shows s l             the layout s has what was placed, l: each piece by its number, in placement order, and each core's row
+--   LayoutShows s l       the layout s has what was placed, l: each piece by its number, in placement order, and each core's row
 --   bitOf w k             bit k of a word
 --   WordShows w l         the word w has a bit for each task that l has a piece of, and no other
 use mathlib.Core.Path.{_≡_}
@@ -13,9 +13,9 @@ use lib.ListN.{length, take, drop, getD}
 use lib.Count.{ones}
 use Rattle.plan.specs.declared.Stored.{Stored}
 use Rattle.plan.specs.declared.Layout.{Layout}
-use Rattle.plan.specs.Walk.{Placed, onCore, rowOf}
-use Rattle.plan.specs.Layout.{stored, blank, pieceAt}
-use Rattle.plan.specs.Shares.{ofTask}
+use Rattle.walks.specs.Way.{Placed, onCore, rowOf}
+use Rattle.plan.specs.Layout.{stored, blank, pieceNumbered}
+use Rattle.plan.specs.Places.{ofTask}
 
 abbrev pub storedOf : Placed ℕ → Stored
 storedOf e = stored (e .item) (e .piece)
@@ -23,12 +23,12 @@ storedOf e = stored (e .item) (e .piece)
 abbrev pub numbersOn : Layout → ℕ → List ℕ
 numbersOn s q = take (getD (s .lens) q 0) (drop (q * 64) (s .rows))
 
-pub record Shows (s : Layout) (l : List (Placed ℕ)) : Type 0 where
+pub record LayoutShows (s : Layout) (l : List (Placed ℕ)) : Type 0 where
   pub count : s .count ≡ length l
   pub pieces : take (s .count) (s .pieces) ≡ map storedOf l
   pub lens : (q : ℕ) → q < 16 → getD (s .lens) q 0 ≡ length (rowOf q l)
   pub numbers : (q : ℕ) → q < 16 → map (λ i. getD (s .pieces) i blank) (numbersOn s q) ≡ map storedOf (onCore q l)
-  pub rows : (q : ℕ) → q < 16 → map (pieceAt (s .pieces)) (numbersOn s q) ≡ rowOf q l
+  pub rows : (q : ℕ) → q < 16 → map (pieceNumbered (s .pieces)) (numbersOn s q) ≡ rowOf q l
 
 abbrev pub bitOf : ℕ → ℕ → ℕ
 bitOf w k = w / 2 ^ k % 2

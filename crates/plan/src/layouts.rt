@@ -9,7 +9,7 @@ ghost use mathlib.Core.Path.{_≡_};
 ghost use Prim.Native.Nat.{_<_, _≤_, _^_};
 ghost use lib.Bits.{bitOr};
 ghost use Rattle.plan.specs.Layout.{stored, pieceOf, none, layoutOn};
-ghost use Rattle.plan.specs.Lent.{placedIn, Fitting};
+ghost use Rattle.plan.specs.ways.PlacedArray.{placedIn, HasRoom};
 
 // A piece of the task at place k, as the plan keeps it.
 pub fn store(k: usize, q: Piece) -> Stored
@@ -75,7 +75,7 @@ pub fn empty() -> Layout
 
 // The first n that were placed, one piece at a time.
 pub fn layout_of(placed: &[u64; 711], n: usize) -> Layout
-    requires { ⌜ (n ≤ 79) × Fitting (placedIn (now placed) n) ⌝ }
+    requires { ⌜ (n ≤ 79) × HasRoom (placedIn (now placed) n) ⌝ }
     ensures { λ r. ⌜ r ≡ layoutOn none (placedIn (now (placed .entry)) n) ⌝ }
 {
     let mut s = empty();

@@ -4,7 +4,7 @@ mod orders;
 mod rows;
 mod seats;
 mod times;
-mod walks;
+mod walk;
 
 use demand::Costs;
 use demand::Piece;
@@ -18,7 +18,7 @@ use task::state_fault;
 use times::lay_times;
 use times::no_task;
 use times::tidy;
-use walks::walk_over;
+use walk::walk_over;
 ghost use mathlib.Core.Path.{_≡_};
 ghost use Rattle.plan.specs.Layout.{tasksOn, pieceOf};
 ghost use Rattle.plan.specs.Plan.{planOf, refused};

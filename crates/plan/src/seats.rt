@@ -6,7 +6,7 @@ use demand::kind_of;
 ghost use mathlib.Core.Path.{_≡_};
 ghost use Prim.Native.Nat.{_<_};
 ghost use lib.ListN.{length};
-ghost use Rattle.plan.specs.Lent.{seatOf, placedAt, Put};
+ghost use Rattle.plan.specs.ways.PlacedArray.{seatOf, placedAt, Put};
 
 fn wide(n: usize) -> u64
     ensures { λ r. ⌜ r ≡ n ⌝ }

@@ -6,7 +6,7 @@ use task::Times;
 ghost use mathlib.Core.Path.{_≡_};
 ghost use Prim.Native.Nat.{_<_, _≤_};
 ghost use lib.ListN.{take, length, replicate};
-ghost use Rattle.plan.specs.Lent.{timesAt, Laid, Kept};
+ghost use Rattle.plan.specs.ways.TimesArray.{timesAt, Laid, OthersKept};
 ghost use Rattle.plan.specs.Plan.{noTask, padded};
 
 pub fn no_task() -> Task
@@ -64,7 +64,7 @@ pub fn times_at(times: &[u64; 384], i: usize) -> Times
 // The times t go to place i.
 pub fn put_times(times: &mut [u64; 384], i: usize, t: Times)
     requires { ⌜ (i < 64) × (length (now times) ≡ 384) ⌝ }
-    ensures { λ r. ⌜ (timesAt (now (times .exit)) i ≡ t) × Kept i (now (times .entry)) (now (times .exit)) × (length (now (times .exit)) ≡ 384) ⌝ }
+    ensures { λ r. ⌜ (timesAt (now (times .exit)) i ≡ t) × OthersKept i (now (times .entry)) (now (times .exit)) × (length (now (times .exit)) ≡ 384) ⌝ }
 {
     let at = 6 * i;
     times[at] = t.worst;

@@ -23,8 +23,8 @@ use Rattle.demand.specs.Sizes.{Each}
 use Rattle.demand.specs.Answer.{Told}
 use Rattle.demand.proofs.Sums.{each-imp}
 use Rattle.plan.specs.declared.Reply.{Reply}
-use Rattle.plan.specs.Walk.{stuck}
-use Rattle.plan.specs.Plan.{walked}
+use Rattle.walks.specs.Way.{stuck}
+use Rattle.plan.specs.Walk.{walked}
 use Rattle.plan.proofs.Theorems.{plan-comes, no-room}
 use Rattle.lines.specs.Lines.{nameMost, nameOf}
 use Rattle.lines.proofs.LineLaws.{padded-length}
@@ -132,7 +132,7 @@ module _ (sheet : List ℕ) (whole : readOf sheet .number ≡ 0) where
   plans = planSheet (readOf sheet .sheet)
 
   abbrev sticks : ℕ → Type 0
-  sticks k = walked (machineIn sheet) (costsIn sheet) (tasksIn sheet) ≡ stuck k
+  sticks k = walked (machineIn sheet) (costsIn sheet) (tasksIn sheet) ≡ stuck k 7
 
   room : (k : ℕ) → ((plans .number ≡ 7) × (plans .carries ≡ suc k)) ↔ sticks k
   room k = no-room (machineIn sheet) (costsIn sheet) (readOf sheet .sheet .tasks .count) (readOf sheet .sheet .tasks .list) (breaks-no-rule sheet whole) k

@@ -24,6 +24,7 @@
 --   afresh                          after any sequence of edits the plan equals the one worked out afresh from the tasks then held
 --   edit-made                       where an accepted edit has the tasks that it should
 --   kept-before, kept-after         what an accepted edit keeps
+--   same-state                      where kept-after asks for the same state, that is the same core with the same row
 -- Assumes nothing.
 use mathlib.Core.Path.{_≡_, refl, sym, _∙_}
 use mathlib.Core.Logic.{_⊎_, _↔_}
@@ -43,10 +44,15 @@ use Rattle.task.specs.declared.Name.{Name}
 use Rattle.task.specs.declared.Task.{Task}
 use Rattle.task.specs.declared.Machine.{Machine}
 use Rattle.task.specs.Tasks.{taskAt}
+use Rattle.walks.specs.Lists.{sumBy}
+use Rattle.walks.specs.Way.{Placed, fine, stuck, walkOver, onCore, rowOf}
+use Rattle.walks.specs.Edits.{edited}
+use Rattle.walks.specs.Kept.{Among, Behind, Meet}
+use Rattle.walks.specs.Halves.{Stand, Shared}
 use Rattle.plan.specs.declared.Plan.{Plan}
-use Rattle.plan.specs.Walk.{Stand, Placed, fine, stuck, onCore, rowOf}
-use Rattle.plan.specs.Plan.{wholeAt, walked, planOf}
-use Rattle.plan.specs.Shares.{ofTask, sumBy, Shared}
+use Rattle.plan.specs.Walk.{wholeAt, taskWay, walked}
+use Rattle.plan.specs.Plan.{planOf}
+use Rattle.plan.specs.Places.{ofTask}
 use Rattle.plan.proofs.Theorems.{plan-comes, all-placed, budgets-add, windows-add, cores-pass, cores-keep-up}
 use Rattle.sheet.specs.Sheet.{top, sheetMost, readOf}
 use Rattle.sheet.specs.Fitted.{Fitted, linesOf}
@@ -57,9 +63,9 @@ use Rattle.sheet.proofs.RuleLaws.{breaks-no-rule}
 use Rattle.listing.specs.Listing.{rowEntries, entries, listingOf}
 use Rattle.listing.specs.Placed.{placedEntry}
 use Rattle.listing.proofs.Theorems.{listing-placed, header-counts, listing-determines}
-use Rattle.edits.specs.Edits.{Edit, tasksIn as tasksHeld, edited, editOf, accepted, Held, played}
-use Rattle.edits.specs.Kept.{Keeps, editedName, Among, Ahead, Behind, Meet}
-use Rattle.edits.proofs.Theorems.{plan-held, edit-refused, edit-does, after-edits-afresh, edit-before, edit-after}
+use Rattle.edits.specs.Edits.{byName, TaskEdit, tasksHeld, editOf, accepted, Held, played}
+use Rattle.edits.specs.Kept.{inOrder, Keeps, editedName, Ahead}
+use Rattle.edits.proofs.Theorems.{plan-held, edit-refused, edit-does, after-edits-afresh, edit-before, edit-after, same-stand}
 use Rattle.spardimple.specs.Bytes.{piecesOf, costsOf}
 use Rattle.spardimple.specs.Numbers.{said, replyOf, verdictNumber}
 use Rattle.spardimple.specs.Sheets.{refused, written, machineIn, costsIn, tasksIn, planIn, paperOf, refusal, toldPaper, listingNumber, listingLeft}
@@ -88,8 +94,7 @@ by-line sheet few k j = first-bad sheet few k j
 pub by-line-then : (sheet : List ℕ) → (readOf sheet .number ≡ 0 → ⊥) → paperOf sheet ≡ refused (readOf sheet .number) (readOf sheet .carries)
 by-line-then sheet = paper-unread sheet (readOf sheet) refl
 
-pub seven : (sheet : List ℕ) → readOf sheet .number ≡ 0 → (k : ℕ)
-    → (paperOf sheet ≡ refused 7 (suc k)) ↔ (walked (machineIn sheet) (costsIn sheet) (tasksIn sheet) ≡ stuck k)
+pub seven : (sheet : List ℕ) → readOf sheet .number ≡ 0 → (k : ℕ) → (paperOf sheet ≡ refused 7 (suc k)) ↔ (walked (machineIn sheet) (costsIn sheet) (tasksIn sheet) ≡ stuck k 7)
 seven sheet whole k = paper-seven sheet whole k
 
 pub ten : (sheet text : List ℕ) → paperOf sheet ≡ written text → (room : ℕ) → (toldPaper (paperOf sheet) room ≡ refusal 10 (length text)) ↔ (room < length text)
@@ -102,7 +107,7 @@ pub written-buffer : (sheet old : List ℕ) → toldPaper (paperOf sheet) (lengt
     → (text : List ℕ) × (paperOf sheet ≡ written text) × (listingLeft sheet old ≡ text ++ drop (length text) old)
 written-buffer sheet old = buffer-written sheet old
 
-pub refused-state : (e : Edit) (s : Plan) → (editOf e s .number ≡ 0 → ⊥) → editOf e s .plan ≡ s
+pub refused-state : (e : TaskEdit) (s : Plan) → (editOf e s .number ≡ 0 → ⊥) → editOf e s .plan ≡ s
 refused-state e s = edit-refused e s
 
 -- ---- demand 2: the verdict
@@ -139,8 +144,8 @@ pub record Promised (m : Machine) (c : Costs) (ts : List Task) (P : Plan) : Type
   pub log : List (Placed ℕ)
   pub walks : walked m c ts ≡ fine stand log
   pub placed : (k : ℕ) → k < length ts → Shared c (m .grain) (wholeAt ts k) k (ofTask k log)
-  pub budgets : (k : ℕ) → k < length ts → sumBy (λ q. q .budget) (ofTask k log) ≡ taskAt ts k .times .worst
-  pub windows : (k : ℕ) → k < length ts → sumBy (λ q. q .window) (ofTask k log) ≡ taskAt ts k .times .deadline
+  pub budgets : (k : ℕ) → k < length ts → sumBy (λ e. e .piece .budget) (ofTask k log) ≡ taskAt ts k .times .worst
+  pub windows : (k : ℕ) → k < length ts → sumBy (λ e. e .piece .window) (ofTask k log) ≡ taskAt ts k .times .deadline
   pub cores : (q : ℕ) → verdictOf c (rowOf q log) ≡ Passes
   pub ever : (q t : ℕ) → Live (coreOf c (rowOf q log)) t → demand (stall c) (coreOf c (rowOf q log)) t ≤ t
   pub lists : (q : ℕ) → q < 16 → rowEntries P q ≡ map (placedEntry c ts) (onCore q log)
@@ -202,18 +207,20 @@ begun-held sheet text is =
     plan-held (machineIn sheet) (costsIn sheet) (readOf sheet .sheet .tasks .count) (readOf sheet .sheet .tasks .list)
     (paper-read sheet text is .1)
 
-pub afresh : (es : List Edit) (s : Plan) → Held s
-    → planOf (s .machine) (s .costs) (played es s .tasks .count) (played es s .tasks .list) ≡ accepted (played es s)
+pub afresh : (es : List TaskEdit) (s : Plan) → Held s → planOf (s .machine) (s .costs) (played es s .tasks .count) (played es s .tasks .list) ≡ accepted (played es s)
 afresh es s = after-edits-afresh es s
 
-pub edit-made : (e : Edit) (s : Plan) → editOf e s .number ≡ 0 → tasksHeld (editOf e s .plan) ≡ edited e (tasksHeld s)
+pub edit-made : (e : TaskEdit) (s : Plan) → editOf e s .number ≡ 0 → tasksHeld (editOf e s .plan) ≡ edited byName e (tasksHeld s)
 edit-made e s = edit-does e s
 
-module _ (e : Edit) (s : Plan) (held : Held s) (taken : editOf e s .number ≡ 0) where
+pub same-state : (m : Machine) (c : Costs) (p p′ : List Task) (s s′ : Stand) (l l′ : List (Placed Task)) → walkOver (taskWay m c) p ≡ fine s l → walkOver (taskWay m c) p′ ≡ fine s′ l′
+    → s .core ≡ s′ .core → s .row ≡ s′ .row → Meet (taskWay m c) p p′
+same-state = same-stand
+
+module _ (e : TaskEdit) (s : Plan) (held : Held s) (taken : editOf e s .number ≡ 0) where
   pub kept-before : (b : Name) → Ahead (editedName e) b (tasksHeld s) → Ahead (editedName e) b (tasksHeld (editOf e s .plan)) → Keeps s (editOf e s .plan) b
   kept-before = edit-before e s held taken
 
-  pub kept-after : {p r p′ r′ : List Task} {b b′ : Task} → Behind (editedName e) (tasksHeld s) p b r
-      → Behind (editedName e) (tasksHeld (editOf e s .plan)) p′ b′ r′ → b .name ≡ b′ .name
-      → Meet (s .machine) (s .costs) p p′ → (d : Name) → Among d (b ∷ r) → Keeps s (editOf e s .plan) d
+  pub kept-after : {p r p′ r′ : List Task} {b b′ : Task} → Behind byName (editedName e) (inOrder (tasksHeld s)) p b r → Behind byName (editedName e) (inOrder (tasksHeld (editOf e s .plan))) p′ b′ r′ → b .name ≡ b′ .name
+      → Meet (taskWay (s .machine) (s .costs)) p p′ → (d : Name) → Among byName d (b ∷ r) → Keeps s (editOf e s .plan) d
   kept-after = edit-after e s held taken

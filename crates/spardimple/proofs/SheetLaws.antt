@@ -25,8 +25,10 @@ use Rattle.task.specs.declared.Machine.{Machine}
 use Rattle.task.specs.Tasks.{stateFault}
 use Rattle.task.proofs.TaskLaws.{state-sane}
 use Rattle.plan.specs.declared.Reply.{Reply}
-use Rattle.plan.specs.Plan.{walked, finished, planOf, refused as refusedPlan}
-use Rattle.plan.specs.Walk.{Stand, Placed, fine, stuck}
+use Rattle.walks.specs.Way.{Placed, fine, stuck}
+use Rattle.walks.specs.Halves.{Stand}
+use Rattle.plan.specs.Walk.{walked}
+use Rattle.plan.specs.Plan.{finished, planOf, refused as refusedPlan}
 use Rattle.plan.proofs.Theorems.{plan-or-stuck, no-room-place}
 use Rattle.sheet.specs.declared.Read.{Read}
 use Rattle.sheet.specs.Sheet.{readOf}
@@ -45,8 +47,7 @@ unless-some (suc n) k rest some = refl
 plan-small : (m : Machine) (c : Costs) (n : ℕ) (ts : List Task) → stateFault m c n ts ≡ 0 → (planOf m c n ts .number ≤ 7) × (planOf m c n ts .carries ≤ 64)
 plan-small m c n ts good = by (plan-or-stuck m c n ts good)
   where
-    by : ((s : Stand) × (l : List (Placed ℕ)) × (walked m c (take n ts) ≡ fine s l) × (planOf m c n ts ≡ finished m c (take n ts) (fine s l)))
-        ⊎ ((k : ℕ) × (walked m c (take n ts) ≡ stuck k) × (planOf m c n ts ≡ refusedPlan 7 (suc k)))
+    by : ((s : Stand) × (l : List (Placed ℕ)) × (walked m c (take n ts) ≡ fine s l) × (planOf m c n ts ≡ finished m c (take n ts) (fine s l))) ⊎ ((k : ℕ) × (walked m c (take n ts) ≡ stuck k 7) × (planOf m c n ts ≡ refusedPlan 7 (suc k)))
         → (planOf m c n ts .number ≤ 7) × (planOf m c n ts .carries ≤ 64)
     by (inl h) = rw (h .3) (omega arith, omega arith)
     by (inr h) = rw (h .2) (omega arith, omega (arith, no-room-place m c n ts good (h .0) (h .1), length-take n ts, state-sane m c n ts good .few))

@@ -3,7 +3,8 @@
 use mathlib.Core.Path.{_≡_, sym, _∙_}
 use Rattle.task.specs.Tasks.{stateFault}
 use Rattle.task.proofs.TaskLaws.{state-sane}
-use Rattle.edits.specs.Edits.{withdraw, tasksIn, editFault}
+use Rattle.walks.specs.Edits.{withdraw}
+use Rattle.edits.specs.Edits.{tasksHeld, editFault}
 use Rattle.edits.proofs.EditLaws.{edit-state, edit-own, edit-made}
 use borrow.Author.Needs.{needs}
 use Rattle.edits.proofs.withdraw.Statement.{statement}
@@ -13,7 +14,7 @@ use Rattle.edits.proofs.withdraw.Tie as tie
 sound : (c : tie.Else1) → stateFault (c .before .before .before .before .before .args .state .machine) (c .before .before .before .before .before .args .state .costs) (c .before .before .before .before .before .args .state .tasks .count) (c .before .before .before .before .before .args .state .tasks .list) ≡ 0
 sound c = sym (c .before .state-fault .ensures) ∙ c .if1 .left
 
-right : (c : tie.Else2) → editFault (withdraw (c .before .before .before .before .before .before .before .args .name)) (tasksIn (c .before .before .before .before .before .before .before .args .state)) ≡ 0
+right : (c : tie.Else2) → editFault (withdraw (c .before .before .before .before .before .before .before .args .name)) (tasksHeld (c .before .before .before .before .before .before .before .args .state)) ≡ 0
 right c = sym (c .before .withdraw-fault .ensures) ∙ c .if2 .left
 
 state-fault-requires : tie.Need-state-fault-requires

@@ -15,7 +15,7 @@ use Rattle.plan.proofs.orders.order_of.Reads as order-of-reads
 use Rattle.plan.proofs.refuse.Reads as refuse-reads
 use Rattle.plan.proofs.times.lay_times.Reads as lay-times-reads
 use Rattle.plan.proofs.times.tidy.Reads as tidy-reads
-use Rattle.plan.proofs.walks.walk_over.Reads as walk-over-reads
+use Rattle.plan.proofs.walk.walk_over.Reads as walk-over-reads
 use Rattle.task.proofs.state_fault.Reads as state-fault-reads
 
 -- told where it is near

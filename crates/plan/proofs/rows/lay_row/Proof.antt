@@ -5,8 +5,8 @@ use Prim.Native.Nat.{ℕ, _≤_, _-_, _<_}
 use native.Mathlib.Omega.{arith}
 use lib.ListN.{length, take}
 use Rattle.demand.proofs.Sums.{each-at}
-use Rattle.plan.specs.Lent.{placedAt}
-use Rattle.plan.specs.Going.{asked}
+use Rattle.plan.specs.ways.PlacedArray.{placedAt}
+use Rattle.plan.specs.ways.WalkGoing.{firstRecords}
 use Rattle.plan.proofs.RowLaws.{put-size, laid-piece}
 use borrow.Author.Needs.{needs}
 use Rattle.plan.proofs.rows.lay_row.Statement.{statement}
@@ -17,7 +17,7 @@ use Rattle.demand.proofs.put_record.Reads as put-record-reads
 use Rattle.plan.proofs.seats.seat_at.Reads as seat-at-reads
 
 abbrev Inv-loop : tie.InvT-loop
-Inv-loop records₀ placed row i₀ records i = (i ≤ row .len) × (asked records i ≡ map (λ (k : ℕ). placedAt placed k .piece) (take i (row .numbers))) × (length records ≡ 553)
+Inv-loop records₀ placed row i₀ records i = (i ≤ row .len) × (firstRecords records i ≡ map (λ (k : ℕ). placedAt placed k .piece) (take i (row .numbers))) × (length records ≡ 553)
 
 abbrev μ-loop : tie.MeasureT-loop
 μ-loop records₀ placed row i₀ records i = row .len - i

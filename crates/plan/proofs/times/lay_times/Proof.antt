@@ -4,7 +4,7 @@ use Prim.Native.Nat.{ℕ, _≤_, _-_}
 use native.Mathlib.Omega.{arith}
 use lib.ListN.{length, take, length-replicate}
 use Rattle.demand.proofs.RunLaws.{length-mapped}
-use Rattle.plan.specs.Lent.{Laid}
+use Rattle.plan.specs.ways.TimesArray.{Laid}
 use Rattle.plan.proofs.LentLaws.{laid-none, laid-more}
 use borrow.Author.Needs.{needs}
 use Rattle.plan.proofs.times.lay_times.Statement.{statement}

@@ -4,7 +4,7 @@ use mathlib.Core.List.{List}
 use Prim.Native.Nat.{ℕ, _*_}
 use native.Mathlib.Omega.{arith}
 use lib.ListN.{length-set}
-use Rattle.plan.specs.Lent.{timesAt}
+use Rattle.plan.specs.ways.TimesArray.{timesAt}
 use Rattle.plan.proofs.LentLaws.{sets-six, times-put, times-kept}
 use borrow.Author.Needs.{needs}
 use Rattle.plan.proofs.times.put_times.Statement.{statement}

@@ -1,5 +1,5 @@
 -- `times::times_at` meets its contract: six reads.
-use Rattle.plan.specs.Lent.{timesAt}
+use Rattle.plan.specs.ways.TimesArray.{timesAt}
 use borrow.Author.Needs.{needs}
 use Rattle.plan.proofs.times.times_at.Statement.{statement}
 use Rattle.plan.proofs.times.times_at.Tie as tie
