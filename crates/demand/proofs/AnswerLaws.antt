@@ -50,7 +50,8 @@ none-starts t live = live
 pub start-within : (c : Costs) (ps : List Piece) → Each Sized ps → (t₀ : ℕ) → Least (Live (coreOf c ps)) t₀ → t₀ ≤ timeMost
 unfolding coreOf charged
 start-within c [] sizes t₀ start = absurd (none-starts t₀ (start .here))
-start-within c (p ∷ ps) sizes t₀ start = omega (arith, least-le start (p .window) (first-live (charged c p) (coreOf c ps)), sizes .0 .window-fits, sizes .0 .period-fits)
+start-within c (p ∷ ps) sizes t₀ start =
+    omega (arith, least-le start (p .window) (first-live (charged c p) (coreOf c ps)), sizes .0 .window-fits, sizes .0 .period-fits)
 
 pub overloaded-within : (c : Costs) (ps : List Piece) → Each Sized ps → (t : ℕ) → verdictOf c ps ≡ Overloaded t → t ≤ lengthMost
 overloaded-within c ps sizes t e =
@@ -82,7 +83,8 @@ bad-within c n ps k e = few (leb n runMost) refl e
     fine true h f = place h f
     fine false h f = let z : _≡_ {A = ℕ} 0 1 = cc in absurd (omega arith)
 
-    few : (b : Bool) → leb n runMost ≡ b → cond b (cond (sizedCosts c) (badRecord (firstBad 1 (take n ps))) (Bad BadCosts)) (Bad TooMany) ≡ Bad (BadRecord k) → k ≤ lengthMost
+    few : (b : Bool) → leb n runMost ≡ b → cond b (cond (sizedCosts c) (badRecord (firstBad 1 (take n ps))) (Bad BadCosts)) (Bad TooMany)
+        ≡ Bad (BadRecord k) → k ≤ lengthMost
     few true h f = fine (sizedCosts c) (leb-true n runMost h) f
     few false h f = let z : _≡_ {A = ℕ} 0 1 = cc in absurd (omega arith)
 

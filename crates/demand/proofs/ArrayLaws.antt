@@ -26,7 +26,8 @@ module _ {A : Type 0} (f : ℕ → A) where
   firsts-at zero i d h = absurd (not-suc-le-zero h)
   firsts-at (suc n) i d h = elim (decLt i n) [
     | yes below ↦ List·getD-append (firsts f n) (f n ∷ []) d i (omega (arith, firsts-length n)) ∙ firsts-at n i d below
-    | no last ↦ (let e : i ≡ length (firsts f n) = omega (arith, firsts-length n) in rw e (getD-append-seam (firsts f n) (f n) [] d ∙ ap f (sym (firsts-length n))))
+    | no last ↦ (let e : i ≡ length (firsts f n) = omega (arith, firsts-length n) in
+        rw e (getD-append-seam (firsts f n) (f n) [] d ∙ ap f (sym (firsts-length n))))
   ]
 
   pub firsts-take : (n i : ℕ) → i ≤ n → take i (firsts f n) ≡ firsts f i
@@ -56,7 +57,8 @@ module _ (a : List ℕ) (at : ℕ) (vs : List ℕ) (room : at + length vs ≤ le
 
   sets-within : (k : ℕ) → k < at + length vs → getD (sets a at vs) k 0 ≡ getD (take at a ++ vs) k 0
   sets-within k h =
-      ap (λ (l : List ℕ). getD l k 0) (sets-eq vs a at room) ∙ List·getD-append (take at a ++ vs) (drop (at + length vs) a) 0 k (omega (arith, head-long, length-append (take at a) vs))
+      ap (λ (l : List ℕ). getD l k 0) (sets-eq vs a at room)
+      ∙ List·getD-append (take at a ++ vs) (drop (at + length vs) a) 0 k (omega (arith, head-long, length-append (take at a) vs))
 
   pub sets-before : (k : ℕ) → k < at → getD (sets a at vs) k 0 ≡ getD a k 0
   sets-before k h = sets-within k (omega arith) ∙ (List·getD-append (take at a) vs 0 k (omega (arith, head-long)) ∙ getD-take at a k 0 h)
@@ -66,7 +68,9 @@ module _ (a : List ℕ) (at : ℕ) (vs : List ℕ) (room : at + length vs ≤ le
       sets-within (at + k) (omega arith) ∙ subst (λ (m : ℕ). getD (take at a ++ vs) (m + k) 0 ≡ getD vs k 0) head-long (getD-append-add (take at a) vs k 0)
 
 -- seven numbers written one by one
-pub sets-seven : (a : List ℕ) (at u v w x y z o : ℕ) → set (set (set (set (set (set (set a at u) (at + 1) v) (at + 2) w) (at + 3) x) (at + 4) y) (at + 5) z) (at + 6) o ≡ sets a at (u ∷ v ∷ w ∷ x ∷ y ∷ z ∷ o ∷ [])
+pub sets-seven : (a : List ℕ) (at u v w x y z o : ℕ)
+    → set (set (set (set (set (set (set a at u) (at + 1) v) (at + 2) w) (at + 3) x) (at + 4) y) (at + 5) z) (at + 6) o
+    ≡ sets a at (u ∷ v ∷ w ∷ x ∷ y ∷ z ∷ o ∷ [])
 sets-seven a at u v w x y z o =
     let e1 : at + 1 ≡ suc at = omega arith in
     let e2 : at + 2 ≡ suc (suc at) = omega arith in

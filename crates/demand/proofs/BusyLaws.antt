@@ -49,11 +49,13 @@ module _ (f : ℕ → ℕ) (mono : (m n : ℕ) → m ≤ n → f m ≤ f n) wher
   climbing-finds top (suc steps) n some clear far =
       outer (leb n top) refl (λ up. climbing-finds top steps (f n) (omega arith) (clear-step n clear up) (omega arith))
     where
-      inner : (b : Bool) → leb (f n) n ≡ b → n ≤ top → (n < f n → Finds f top (climbing f top steps (f n))) → Finds f top (elim b [ true ↦ At n | false ↦ climbing f top steps (f n) ])
+      inner : (b : Bool) → leb (f n) n ≡ b → n ≤ top → (n < f n → Finds f top (climbing f top steps (f n)))
+          → Finds f top (elim b [ true ↦ At n | false ↦ climbing f top steps (f n) ])
       inner true e h more = (record { here = record { some = some; fits = leb-true (f n) n e }; none-below = clear }, h)
       inner false e h more = more (leb-false (f n) n e)
 
-      outer : (b : Bool) → leb n top ≡ b → (n < f n → Finds f top (climbing f top steps (f n))) → Finds f top (elim b [ true ↦ (elim (leb (f n) n) [ true ↦ At n | false ↦ climbing f top steps (f n) ]) | false ↦ Nothing ])
+      outer : (b : Bool) → leb n top ≡ b → (n < f n → Finds f top (climbing f top steps (f n)))
+          → Finds f top (elim b [ true ↦ (elim (leb (f n) n) [ true ↦ At n | false ↦ climbing f top steps (f n) ]) | false ↦ Nothing ])
       outer true e more = inner (leb (f n) n) refl (leb-true n top e) more
       outer false e more = λ k h p. clear k (omega (arith, leb-false n top e)) p
 

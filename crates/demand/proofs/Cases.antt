@@ -8,5 +8,6 @@ use Rattle.demand.specs.Verdict.{verdict, verdictOf}
 use Rattle.demand.specs.Cases.{piece, whole, costs, right, holds, rows}
 
 pub cases-hold : T (holds rows)
-unfolding piece whole costs right holds rows charge ipiCost charged coreOf stall ceil jobsDue interrupts blocking load demand leastLive leastHolding busyLoad busySum busyLength tightSum tightWindow verdict verdictOf
+unfolding piece whole costs right holds rows charge ipiCost charged coreOf stall ceil jobsDue interrupts blocking load demand leastLive
+    leastHolding busyLoad busySum busyLength tightSum tightWindow verdict verdictOf
 cases-hold = tt

@@ -65,7 +65,12 @@ charged-ranged c costs p ok = record {
   period-fits = ok .period-fits;
   window-fits = ok .window-fits;
   jitter-fits = ok .jitter-fits;
-  charge-fits = omega (arith, when-le (departs (p .kind)) {n = c .ipb + c .beto + c .migro} {m = 300000} (omega arith), when-le (arrives (p .kind)) {n = p .migrate} {m = 100000} (omega arith));
+  charge-fits =
+      omega (
+        arith,
+        when-le (departs (p .kind)) {n = c .ipb + c .beto + c .migro} {m = 300000} (omega arith),
+        when-le (arrives (p .kind)) {n = p .migrate} {m = 100000} (omega arith),
+      );
   release-fits = omega arith;
   ipi-fits = when-le (arrives (p .kind)) (omega arith);
   ipij-fits = omega arith;
@@ -156,6 +161,7 @@ pub core-snoc : (c : Costs) (ps : List Piece) (p : Piece) → coreOf c (ps ++ (p
 unfolding coreOf
 core-snoc c ps p = map-snoc (charged c) ps p
 
-pub core-more : (c : Costs) (ps : List Piece) (i : ℕ) (d : Piece) → i < length ps → coreOf c (take (i + 1) ps) ≡ coreOf c (take i ps) ++ (charged c (getD ps i d) ∷ [])
+pub core-more : (c : Costs) (ps : List Piece) (i : ℕ) (d : Piece) → i < length ps
+    → coreOf c (take (i + 1) ps) ≡ coreOf c (take i ps) ++ (charged c (getD ps i d) ∷ [])
 unfolding coreOf
 core-more c ps i d h = rw (add-one, take-suc ps i d) (map-snoc (charged c) (take i ps) (getD ps i d))

@@ -84,12 +84,15 @@ unfolding charged charge lastPiece lastExtra pieceOf
 last-charge c p x w = omega arith
 
 -- what holds of a core's pieces and of the first piece holds of both
-pub with-each : (P : Charged → Type 0) (c : Costs) (qs : List Charged) (p : Piece) (x w : ℕ) → Each P qs → P (charged c (firstPiece p x w)) → Each P (withFirst c qs p x w)
+pub with-each : (P : Charged → Type 0) (c : Costs) (qs : List Charged) (p : Piece) (x w : ℕ) → Each P qs → P (charged c (firstPiece p x w))
+    → Each P (withFirst c qs p x w)
 unfolding withFirst
 with-each P c qs p x w ok own = each-snoc P qs (charged c (firstPiece p x w)) ok own
 
-pub with-ranged : (c : Costs) (qs : List Charged) (p : Piece) (x w : ℕ) → SizedCosts c → Sized p → x ≤ p .budget → w ≤ p .window → Each Ranged qs → Each Ranged (withFirst c qs p x w)
-with-ranged c qs p x w costs ok less room each = with-each Ranged c qs p x w each (charged-ranged c costs (firstPiece p x w) (first-countable p x w ok less room))
+pub with-ranged : (c : Costs) (qs : List Charged) (p : Piece) (x w : ℕ) → SizedCosts c → Sized p → x ≤ p .budget → w ≤ p .window
+    → Each Ranged qs → Each Ranged (withFirst c qs p x w)
+with-ranged c qs p x w costs ok less room each =
+    with-each Ranged c qs p x w each (charged-ranged c costs (firstPiece p x w) (first-countable p x w ok less room))
 
 pub alone-ranged : (c : Costs) (p : Piece) (x w : ℕ) → SizedCosts c → Sized p → Each Ranged (lastAlone c p x w)
 unfolding lastAlone
@@ -105,7 +108,8 @@ pub first-interrupts : (c : Costs) (p : Piece) (x w t : ℕ) → interrupts (cha
 unfolding interrupts charged ipiCost firstPiece pieceOf
 first-interrupts c p x w t = refl
 
-sum-parts : (c : Costs) (qs : List Charged) (p : Piece) (x w t : ℕ) → tightSum (stall c) (withFirst c qs p x w) (charged c (firstPiece p x w)) t ≡ stall c + (x + extra c p) + calls c qs p t
+sum-parts : (c : Costs) (qs : List Charged) (p : Piece) (x w t : ℕ)
+    → tightSum (stall c) (withFirst c qs p x w) (charged c (firstPiece p x w)) t ≡ stall c + (x + extra c p) + calls c qs p t
 unfolding tightSum withFirst calls
 sum-parts c qs p x w t =
     omega (arith, first-charge c p x w, first-interrupts c p x w t, total-snoc (λ q. interrupts q t) qs (charged c (firstPiece p x w)))
@@ -122,14 +126,18 @@ pub calls-mono : (c : Costs) (qs : List Charged) (p : Piece) → Each Recurs qs 
 unfolding calls
 calls-mono c qs p recurs ok h = omega (arith, interrupts-all-mono qs recurs h, interrupts-mono (first-recurs c p 0 0 ok) h)
 
-tight-mono : (c : Costs) (qs : List Charged) (p : Piece) (x : ℕ) → Each Recurs qs → Sized p → (m n : ℕ) → m ≤ n → tightBeside c qs p x m ≤ tightBeside c qs p x n
+tight-mono : (c : Costs) (qs : List Charged) (p : Piece) (x : ℕ) → Each Recurs qs → Sized p → (m n : ℕ) → m ≤ n
+    → tightBeside c qs p x m ≤ tightBeside c qs p x n
 tight-mono c qs p x recurs ok m n h = omega (arith, tight-parts c qs p x m, tight-parts c qs p x n, calls-mono c qs p recurs ok h)
 
 -- the window of the first piece does not count
-sum-same : (c : Costs) (qs : List Charged) (p : Piece) (x w : ℕ) → tightSum (stall c) (withFirst c qs p x w) (charged c (firstPiece p x w)) ≡ tightBeside c qs p x
+sum-same : (c : Costs) (qs : List Charged) (p : Piece) (x w : ℕ)
+    → tightSum (stall c) (withFirst c qs p x w) (charged c (firstPiece p x w)) ≡ tightBeside c qs p x
 sum-same c qs p x w = fun-ext (λ t. sum-parts c qs p x w t ∙ sym (tight-parts c qs p x t))
 
-window-parts : (c : Costs) (qs : List Charged) (p : Piece) (x w top : ℕ) → tightWindow (stall c) (withFirst c qs p x w) (charged c (firstPiece p x w)) top ≡ later (p .jitter) (leastHolding (tightBeside c qs p x) (top - p .jitter))
+window-parts : (c : Costs) (qs : List Charged) (p : Piece) (x w top : ℕ)
+    → tightWindow (stall c) (withFirst c qs p x w) (charged c (firstPiece p x w)) top
+    ≡ later (p .jitter) (leastHolding (tightBeside c qs p x) (top - p .jitter))
 unfolding tightWindow charged firstPiece pieceOf
 window-parts c qs p x w top = ap (λ (f : ℕ → ℕ). later (p .jitter) (leastHolding f (top - p .jitter))) (sum-same c qs p x w)
 
@@ -139,14 +147,18 @@ module _ (c : Costs) (qs : List Charged) (p : Piece) (x : ℕ) (recurs : Each Re
   found-in Nothing none = λ t tight room. none t (omega arith) (tight .here)
 
   pub window-in : (w : ℕ) → TightIn c qs p x (tightWindow (stall c) (withFirst c qs p x w) (charged c (firstPiece p x w)) (p .window - 1))
-  window-in w = rw (window-parts c qs p x w (p .window - 1)) (found-in (leastHolding (tightBeside c qs p x) (p .window - 1 - p .jitter)) (least-holding-finds (tightBeside c qs p x) (tight-mono c qs p x recurs ok) (p .window - 1 - p .jitter)))
+  window-in w =
+      rw (window-parts c qs p x w (p .window - 1)) (found-in (leastHolding (tightBeside c qs p x) (p .window - 1 - p .jitter))
+      (least-holding-finds (tightBeside c qs p x) (tight-mono c qs p x recurs ok) (p .window - 1 - p .jitter)))
 
-last-window : (b : ℕ) (c : Costs) (qs : List Charged) (p : Piece) (x w : ℕ) → tightOfLast b (withFirst c qs p x w) (withFirst c qs p x w) ≡ tightWindow b (withFirst c qs p x w) (charged c (firstPiece p x w)) w
+last-window : (b : ℕ) (c : Costs) (qs : List Charged) (p : Piece) (x w : ℕ)
+    → tightOfLast b (withFirst c qs p x w) (withFirst c qs p x w) ≡ tightWindow b (withFirst c qs p x w) (charged c (firstPiece p x w)) w
 unfolding withFirst charged firstPiece pieceOf
 last-window b c qs p x w = tight-of-last b (qs ++ (charged c (firstPiece p x w) ∷ [])) qs (charged c (firstPiece p x w))
 
 -- as the code looks for it: behind the core, with the widest window that leaves the last piece one
-pub tight-in : (c : Costs) (qs : List Charged) (p : Piece) (x : ℕ) → Each Recurs qs → Sized p → (rs : List Charged) → rs ≡ withFirst c qs p x (p .window - 1) → (r : Found) → r ≡ tightOfLast (stall c) rs rs → TightIn c qs p x r
+pub tight-in : (c : Costs) (qs : List Charged) (p : Piece) (x : ℕ) → Each Recurs qs → Sized p → (rs : List Charged)
+    → rs ≡ withFirst c qs p x (p .window - 1) → (r : Found) → r ≡ tightOfLast (stall c) rs rs → TightIn c qs p x r
 tight-in c qs p x recurs ok rs laid r found =
     rw (found, laid, last-window (stall c) c qs p x (p .window - 1)) (window-in c qs p x recurs ok (p .window - 1))
 
@@ -159,12 +171,14 @@ module _ (c : Costs) (qs : List Charged) (p : Piece) (x : ℕ) where
   pub untight : TightIn c qs p x Nothing → (u : ℕ) → Fits c qs p x u → ⊥
   untight none u fits = none u (fits .tight) (fits .room)
 
-  pub fails-here : (t w : ℕ) → Tight c qs p x t → w ≡ p .jitter + t → (v : Verdict) → v ≡ verdict (stall c) (withFirst c qs p x w) → (v ≡ Passes → ⊥) → (u : ℕ) → Fits c qs p x u → ⊥
+  pub fails-here : (t w : ℕ) → Tight c qs p x t → w ≡ p .jitter + t → (v : Verdict) → v ≡ verdict (stall c) (withFirst c qs p x w)
+      → (v ≡ Passes → ⊥) → (u : ℕ) → Fits c qs p x u → ⊥
   fails-here t w tight at v judged fails u fits =
       let e : w ≡ p .jitter + u = omega (arith, tight-same c qs p x tight (fits .tight)) in
       fails (judged ∙ (ap (λ (n : ℕ). verdict (stall c) (withFirst c qs p x n)) e ∙ fits .here))
 
-  pub fails-there : (t w : ℕ) → Tight c qs p x t → w ≡ p .jitter + t → (v : Verdict) → v ≡ verdict (stall c) (lastAlone c p x w) → (v ≡ Passes → ⊥) → (u : ℕ) → Fits c qs p x u → ⊥
+  pub fails-there : (t w : ℕ) → Tight c qs p x t → w ≡ p .jitter + t → (v : Verdict) → v ≡ verdict (stall c) (lastAlone c p x w)
+      → (v ≡ Passes → ⊥) → (u : ℕ) → Fits c qs p x u → ⊥
   fails-there t w tight at v judged fails u fits =
       let e : w ≡ p .jitter + u = omega (arith, tight-same c qs p x tight (fits .tight)) in
       fails (judged ∙ (ap (λ (n : ℕ). verdict (stall c) (lastAlone c p x n)) e ∙ fits .there))
@@ -198,9 +212,12 @@ pub never-empty : (c : Costs) (p : Piece) (x w : ℕ) → lastAlone c p x w ≡ 
 unfolding lastAlone
 never-empty c p x w e = let z : _≡_ {A = ℕ} 0 1 = cc in omega arith
 
-pub last-undecided : (c : Costs) (p : Piece) (x y v w : ℕ) → Sized p → y ≤ x → verdict (stall c) (lastAlone c p x v) ≡ Undecided → verdict (stall c) (lastAlone c p y w) ≡ Passes → ⊥
+pub last-undecided : (c : Costs) (p : Piece) (x y v w : ℕ) → Sized p → y ≤ x → verdict (stall c) (lastAlone c p x v) ≡ Undecided
+    → verdict (stall c) (lastAlone c p y w) ≡ Passes → ⊥
 last-undecided c p x y v w ok h undecided pass =
-    let none = subst (λ (r : Verdict). Means (stall c) (lastAlone c p x v) r) undecided (verdict-means (stall c) (lastAlone c p x v) (last-recurs c p x v ok)) in
+    let none =
+    subst (λ (r : Verdict). Means (stall c) (lastAlone c p x v) r) undecided
+    (verdict-means (stall c) (lastAlone c p x v) (last-recurs c p x v ok)) in
     let span = subst (λ (r : Verdict). Means (stall c) (lastAlone c p y w) r) pass (verdict-means (stall c) (lastAlone c p y w) (last-recurs c p y w ok)) in
     ⊎-elim (λ e. never-empty c p y w e)
     (λ j. none (j .1) (j .2 .within) (record { some = j .2 .busy .here .some; fits = omega (arith, j .2 .busy .here .fits, busier c p x y v w (j .1) h) })) span

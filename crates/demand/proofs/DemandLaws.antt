@@ -53,7 +53,11 @@ jobs-due-add {q} pos s l = elim (decLt (s + l + q .jitter) (q .window)) [
   | no late ↦ elim (decLt (s + q .jitter) (q .window)) [
     | yes before ↦
         rw (jobs-due-some q (s + l) (omega arith), jobs-due-none q s before)
-        (omega (arith, ceil-one-more (s + l + q .jitter - q .window) {k = q .period} (pos .again), ceil-mono {a = s + l + q .jitter - q .window + 1} {b = l} {k = q .period} (pos .again) (omega arith)))
+        (omega (
+          arith,
+          ceil-one-more (s + l + q .jitter - q .window) {k = q .period} (pos .again),
+          ceil-mono {a = s + l + q .jitter - q .window + 1} {b = l} {k = q .period} (pos .again) (omega arith),
+        ))
     | no after ↦
         let e : s + l + q .jitter - q .window ≡ s + q .jitter - q .window + l = omega arith in
         rw (jobs-due-some q (s + l) (omega arith), jobs-due-some q s (omega arith), e)
@@ -130,7 +134,11 @@ module _ (qs : List Charged) (recurs : Each Recurs qs) where
   pub demand-add : (b s l : ℕ) → demand b qs (s + l) ≤ demand b qs s + busySum qs l
   unfolding demand busySum
   demand-add b s l =
-      omega (arith, blocking-falls b qs {t = s} {u = s + l} (omega arith), total-add Recurs (load (s + l)) (load s) (busyLoad l) (λ q pos. load-add pos s l) qs recurs)
+      omega (
+        arith,
+        blocking-falls b qs {t = s} {u = s + l} (omega arith),
+        total-add Recurs (load (s + l)) (load s) (busyLoad l) (λ q pos. load-add pos s l) qs recurs,
+      )
 
   pub demand-mono : (b : ℕ) {t u : ℕ} → t ≤ u → (largestWindow qs ≤ u → largestWindow qs ≤ t) → demand b qs t ≤ demand b qs u
   unfolding demand

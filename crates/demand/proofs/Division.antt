@@ -21,7 +21,8 @@ div-mono {a} {b} {k} pos h = le-div-iff-mul-le pos .1 (omega (arith, div-mul-le-
 pub div-add-ceil : (a b : ℕ) {k : ℕ} → 0 < k → (a + b) / k ≤ a / k + ceil b k
 unfolding ceil
 div-add-ceil a b {k} pos =
-    let below : (a + b) / k < a / k + (b + (k - 1)) / k + 1 = div-lt-iff-lt-mul pos .1 (omega (arith, lt-div-mul-add {a = a} pos, lt-div-mul-add {a = b + (k - 1)} pos)) in
+    let below : (a + b) / k < a / k + (b + (k - 1)) / k + 1 =
+    div-lt-iff-lt-mul pos .1 (omega (arith, lt-div-mul-add {a = a} pos, lt-div-mul-add {a = b + (k - 1)} pos)) in
     omega arith
 
 pub ceil-mono : {a b k : ℕ} → 0 < k → a ≤ b → ceil a k ≤ ceil b k

@@ -5,6 +5,7 @@
 --   kind-back             a kind by its number
 --   put-length            a record written leaves the array as long as it was
 --   records-put           it stands there, behind those before it
+--   records-next          one record more, of those that are to be there
 --   put-all-next, lent-records    records written one by one are those that are read
 use mathlib.Core.Path.{_≡_, refl, sym, ap, _∙_}
 use mathlib.Core.List.{List, [], _∷_, _++_, append-nil, append-assoc}
@@ -14,7 +15,7 @@ use native.Mathlib.Numerals.{add-one}
 use native.Mathlib.Omega.{arith}
 use borrow.Author.Tests.{le-leb, lt-leb}
 use lib.ListN.{length, take, drop, getD, replicate, length-replicate, drop-of-length-le}
-use lib.Seq.{sets, length-sets, take-all, drop-cons}
+use lib.Seq.{sets, length-sets, take-all, take-suc, drop-cons}
 use Rattle.demand.specs.declared.Kind.{Kind}
 use Rattle.demand.specs.declared.Kind.the-variants.{Whole, First, Last}
 use Rattle.demand.specs.declared.Piece.{Piece}
@@ -58,14 +59,31 @@ unfolding recordWithin
 record-within a i h = simp (lt-leb runMost i h)
 
 -- seven reads make a record
-pub record-read : (a : List ℕ) (i : ℕ) (k : Kind) → k ≡ kindOf (getD a (7 * i) 0) → record { kind = k; budget = getD a (7 * i + 1) 0; window = getD a (7 * i + 2) 0; period = getD a (7 * i + 3) 0; jitter = getD a (7 * i + 4) 0; preempt = getD a (7 * i + 5) 0; migrate = getD a (7 * i + 6) 0 } ≡ recordAt a i
+pub record-read : (a : List ℕ) (i : ℕ) (k : Kind) → k ≡ kindOf (getD a (7 * i) 0)
+    → record {
+      kind = k;
+      budget = getD a (7 * i + 1) 0;
+      window = getD a (7 * i + 2) 0;
+      period = getD a (7 * i + 3) 0;
+      jitter = getD a (7 * i + 4) 0;
+      preempt = getD a (7 * i + 5) 0;
+      migrate = getD a (7 * i + 6) 0;
+    } ≡ recordAt a i
 unfolding recordAt
 record-read a i k e = rw e
 
 record-same : (a b : List ℕ) (i : ℕ) → ((k : ℕ) → k < 7 * i + 7 → getD a k 0 ≡ getD b k 0) → recordAt a i ≡ recordAt b i
 unfolding recordAt
 record-same a b i same =
-    cc (same (7 * i) (omega arith), same (7 * i + 1) (omega arith), same (7 * i + 2) (omega arith), same (7 * i + 3) (omega arith), same (7 * i + 4) (omega arith), same (7 * i + 5) (omega arith), same (7 * i + 6) (omega arith))
+    cc (
+      same (7 * i) (omega arith),
+      same (7 * i + 1) (omega arith),
+      same (7 * i + 2) (omega arith),
+      same (7 * i + 3) (omega arith),
+      same (7 * i + 4) (omega arith),
+      same (7 * i + 5) (omega arith),
+      same (7 * i + 6) (omega arith),
+    )
 
 record-there : (a : List ℕ) (i : ℕ) (p : Piece) → 7 * i + 7 ≤ length a → recordAt (sets a (7 * i) (numbersOf p)) i ≡ p
 unfolding recordAt
@@ -74,7 +92,16 @@ record-there a i p room =
     let at : (k : ℕ) → k < 7 → getD b (7 * i + k) 0 ≡ getD (numbersOf p) k 0 = sets-there a (7 * i) (numbersOf p) room in
     let head : getD b (7 * i) 0 ≡ kindNumber (p .kind) = rw add-zero at (at 0 (omega arith)) in
     let kind : kindOf (getD b (7 * i) 0) ≡ p .kind = rw head (kind-back (p .kind)) in
-    let e : recordAt b i ≡ record { kind = p .kind; budget = p .budget; window = p .window; period = p .period; jitter = p .jitter; preempt = p .preempt; migrate = p .migrate } =
+    let e : recordAt b i
+    ≡ record {
+      kind = p .kind;
+      budget = p .budget;
+      window = p .window;
+      period = p .period;
+      jitter = p .jitter;
+      preempt = p .preempt;
+      migrate = p .migrate;
+    } =
     cc (kind, at 1 (omega arith), at 2 (omega arith), at 3 (omega arith), at 4 (omega arith), at 5 (omega arith), at 6 (omega arith)) in
     e
 
@@ -89,30 +116,41 @@ put-past a i p h = simp (le-leb runMost i h)
 pub put-length : (a : List ℕ) (i : ℕ) (p : Piece) → i < runMost → length (putRecord a i p) ≡ length a
 put-length a i p h = ap (λ (l : List ℕ). length l) (put-here a i p h) ∙ length-sets a (7 * i) (numbersOf p)
 
-pub records-put : (a : List ℕ) (i : ℕ) (p : Piece) → i < runMost → length a ≡ 7 * runMost → take (i + 1) (recordsOf (putRecord a i p)) ≡ take i (recordsOf a) ++ (p ∷ [])
+pub records-put : (a : List ℕ) (i : ℕ) (p : Piece) → i < runMost → length a ≡ 7 * runMost
+    → take (i + 1) (recordsOf (putRecord a i p)) ≡ take i (recordsOf a) ++ (p ∷ [])
 records-put a i p h long =
     let b = sets a (7 * i) (numbersOf p) in
     let room : 7 * i + 7 ≤ length a = omega arith in
-    let before : firsts (recordAt b) i ≡ firsts (recordAt a) i = firsts-same (recordAt b) (recordAt a) i (λ j under. record-same b a j (λ k low. sets-before a (7 * i) (numbersOf p) room k (omega arith))) in
+    let before : firsts (recordAt b) i ≡ firsts (recordAt a) i =
+    firsts-same (recordAt b) (recordAt a) i (λ j under. record-same b a j (λ k low. sets-before a (7 * i) (numbersOf p) room k (omega arith))) in
     let taken : take (i + 1) (recordsOf b) ≡ firsts (recordAt b) (suc i) = rw add-one (records-take b (suc i) h) in
     let ends : firsts (recordAt b) (suc i) ≡ firsts (recordAt a) i ++ (p ∷ []) = cc (before, record-there a i p room) in
     rw (put-here a i p h) (taken ∙ (ends ∙ ap (λ (l : List Piece). l ++ (p ∷ [])) (sym (records-take a i (omega arith)))))
 
 -- ---- records written one by one
 
+pub records-next : (a : List ℕ) (ps : List Piece) (i : ℕ) (p d : Piece) → i < runMost → length a ≡ 7 * runMost → i < length ps → p ≡ getD ps i d
+    → take i (recordsOf a) ≡ take i ps → take (i + 1) (recordsOf (putRecord a i p)) ≡ take (i + 1) ps
+records-next a ps i p d h long inside e so-far =
+    let more : take (i + 1) ps ≡ take i ps ++ (getD ps i d ∷ []) = rw add-one (take-suc ps i d inside) in
+    records-put a i p h long ∙ cc (so-far, e, more)
+
 -- one turn: the record at place i, and then those behind it
-pub put-all-next : (a : List ℕ) (ps : List Piece) (i : ℕ) (d : Piece) → i < length ps → putAll a i (drop i ps) ≡ putAll (putRecord a i (getD ps i d)) (i + 1) (drop (i + 1) ps)
+pub put-all-next : (a : List ℕ) (ps : List Piece) (i : ℕ) (d : Piece) → i < length ps
+    → putAll a i (drop i ps) ≡ putAll (putRecord a i (getD ps i d)) (i + 1) (drop (i + 1) ps)
 put-all-next a ps i d h = rw (drop-cons ps i d h) (ap (λ (n : ℕ). putAll (putRecord a i (getD ps i d)) (i + 1) (drop n ps)) (sym (add-one i)))
 
 pub put-all-end : (a : List ℕ) (ps : List Piece) (n : ℕ) → length ps ≤ n → putAll a n (drop n ps) ≡ a
 put-all-end a ps n h = rw (drop-of-length-le ps {i = n} h)
 
-put-all-read : (a : List ℕ) (i : ℕ) (ps : List Piece) → i + length ps ≤ runMost → length a ≡ 7 * runMost → take (i + length ps) (recordsOf (putAll a i ps)) ≡ take i (recordsOf a) ++ ps
+put-all-read : (a : List ℕ) (i : ℕ) (ps : List Piece) → i + length ps ≤ runMost → length a ≡ 7 * runMost
+    → take (i + length ps) (recordsOf (putAll a i ps)) ≡ take i (recordsOf a) ++ ps
 put-all-read a i [] few long = rw (add-zero, append-nil)
 put-all-read a i (p ∷ ps) few long =
     let e : i + length (p ∷ ps) ≡ i + 1 + length ps = omega arith in
     let more = put-all-read (putRecord a i p) (i + 1) ps (omega arith) (put-length a i p (omega arith) ∙ long) in
-    ap (λ (n : ℕ). take n (recordsOf (putAll (putRecord a i p) (i + 1) ps))) e ∙ (more ∙ (ap (λ (l : List Piece). l ++ ps) (records-put a i p (omega arith) long) ∙ append-assoc (take i (recordsOf a)) (p ∷ []) ps))
+    ap (λ (n : ℕ). take n (recordsOf (putAll (putRecord a i p) (i + 1) ps))) e
+    ∙ (more ∙ (ap (λ (l : List Piece). l ++ ps) (records-put a i p (omega arith) long) ∙ append-assoc (take i (recordsOf a)) (p ∷ []) ps))
 
 pub lent-records : (ps : List Piece) → length ps ≡ runMost → recordsOf (lentOf ps) ≡ ps
 unfolding lentOf

@@ -39,7 +39,8 @@ use Rattle.demand.specs.Verdict.{verdictOf}
 use Rattle.demand.specs.Answer.{firstBad, badRecord, checkRun, answerOf, figured, splitted}
 use Rattle.demand.proofs.Sums.{each-front, each-last}
 use Rattle.demand.proofs.ChargeLaws.{all-countable, core-ranged}
-use Rattle.demand.proofs.SizeLaws.{first-bad-good, first-bad-here, first-bad-none, first-bad-behind, first-bad-front, sized-costs-true, sized-is, sized-costs-is}
+use Rattle.demand.proofs.SizeLaws.{first-bad-good, first-bad-here, first-bad-none, first-bad-behind}
+use Rattle.demand.proofs.SizeLaws.{first-bad-front, sized-costs-true, sized-is, sized-costs-is}
 
 abbrev pub nobody : Piece
 nobody = record { kind = Whole; budget = 0; window = 0; period = 0; jitter = 0; preempt = 0; migrate = 0 }
@@ -49,7 +50,8 @@ pub length-mapped : (X Y : Type 0) (f : X → Y) (l : List X) (n : ℕ) → leng
 length-mapped X Y f l n e = sym (length-map l f) ∙ e
 
 module _ (n : ℕ) (ps : List Piece) (room : n ≤ length ps) where
-  pub bad-good : (i : ℕ) (d : Piece) → i < n → sized (getD ps i d) ≡ true → firstBad (i + 1) (drop i (take n ps)) ≡ firstBad (i + 1 + 1) (drop (i + 1) (take n ps))
+  pub bad-good : (i : ℕ) (d : Piece) → i < n → sized (getD ps i d) ≡ true
+      → firstBad (i + 1) (drop i (take n ps)) ≡ firstBad (i + 1 + 1) (drop (i + 1) (take n ps))
   bad-good i d h e = first-bad-good (take n ps) i d (omega (arith, length-take-le n ps room)) (rw (getD-take n ps i d h) e)
 
   pub bad-here : (i : ℕ) (d : Piece) → i < n → sized (getD ps i d) ≡ false → firstBad (i + 1) (drop i (take n ps)) ≡ i + 1

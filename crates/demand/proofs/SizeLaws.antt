@@ -64,30 +64,60 @@ tells-bounds [] = tt
 tells-bounds (b ∷ bs) = tells-both (Bounds bs) (b .0 ≤ b .1) (bounds bs) (leb (b .0) (b .1)) (tells-bounds bs) (tells-leb (b .0) (b .1))
 
 sized-bounds : Piece → List (ℕ × ℕ)
-sized-bounds p = (p .migrate, costMost) ∷ (p .preempt, costMost) ∷ (p .jitter, timeMost) ∷ (p .period, timeMost) ∷ (p .window, p .period) ∷ (p .budget, p .window) ∷ (1, p .budget) ∷ []
+sized-bounds p = (p .migrate, costMost) ∷ (p .preempt, costMost) ∷ (p .jitter, timeMost) ∷ (p .period, timeMost) ∷ (p .window, p .period)
+    ∷ (p .budget, p .window) ∷ (1, p .budget) ∷ []
 
 pub tells-sized : (p : Piece) → Tells (Sized p) (sized p)
 unfolding sized sized-bounds
 tells-sized p =
-    tells-as (Bounds (sized-bounds p)) (Sized p) (λ b. record { budget-some = omega arith; budget-fits = omega arith; window-fits = omega arith; period-fits = omega arith; jitter-fits = omega arith; preempt-fits = omega arith; migrate-fits = omega arith })
+    tells-as (Bounds (sized-bounds p)) (Sized p) (λ b. record {
+      budget-some = omega arith;
+      budget-fits = omega arith;
+      window-fits = omega arith;
+      period-fits = omega arith;
+      jitter-fits = omega arith;
+      preempt-fits = omega arith;
+      migrate-fits = omega arith;
+    })
     (λ s. search needs) (sized p) (tells-bounds (sized-bounds p))
 
 sized-costs-bounds : Costs → List (ℕ × ℕ)
-sized-costs-bounds c = (c .precision, costMost) ∷ (c .ipij, costMost) ∷ (c .ipio, costMost) ∷ (c .migro, costMost) ∷ (c .beto, costMost) ∷ (c .ipb, costMost) ∷ (c .tseto, costMost) ∷ (c .schedo, costMost) ∷ (c .relo, costMost) ∷ []
+sized-costs-bounds c = (c .precision, costMost) ∷ (c .ipij, costMost) ∷ (c .ipio, costMost) ∷ (c .migro, costMost) ∷ (c .beto, costMost)
+    ∷ (c .ipb, costMost) ∷ (c .tseto, costMost) ∷ (c .schedo, costMost) ∷ (c .relo, costMost) ∷ []
 
 pub tells-costs : (c : Costs) → Tells (SizedCosts c) (sizedCosts c)
 unfolding sizedCosts sized-costs-bounds
 tells-costs c =
-    tells-as (Bounds (sized-costs-bounds c)) (SizedCosts c) (λ b. record { relo-fits = omega arith; schedo-fits = omega arith; tseto-fits = omega arith; ipb-fits = omega arith; beto-fits = omega arith; migro-fits = omega arith; ipio-fits = omega arith; ipij-fits = omega arith; precision-fits = omega arith })
+    tells-as (Bounds (sized-costs-bounds c)) (SizedCosts c)
+    (λ b. record {
+      relo-fits = omega arith;
+      schedo-fits = omega arith;
+      tseto-fits = omega arith;
+      ipb-fits = omega arith;
+      beto-fits = omega arith;
+      migro-fits = omega arith;
+      ipio-fits = omega arith;
+      ipij-fits = omega arith;
+      precision-fits = omega arith;
+    })
     (λ s. search needs) (sizedCosts c) (tells-bounds (sized-costs-bounds c))
 
 countable-bounds : Piece → List (ℕ × ℕ)
-countable-bounds p = (p .migrate, costMost) ∷ (p .preempt, costMost) ∷ (p .jitter, timeMost) ∷ (p .period, timeMost) ∷ (1, p .period) ∷ (p .window, timeMost) ∷ (p .budget, timeMost) ∷ []
+countable-bounds p = (p .migrate, costMost) ∷ (p .preempt, costMost) ∷ (p .jitter, timeMost) ∷ (p .period, timeMost) ∷ (1, p .period)
+    ∷ (p .window, timeMost) ∷ (p .budget, timeMost) ∷ []
 
 pub tells-countable : (p : Piece) → Tells (Countable p) (countable p)
 unfolding countable countable-bounds
 tells-countable p =
-    tells-as (Bounds (countable-bounds p)) (Countable p) (λ b. record { budget-fits = omega arith; window-fits = omega arith; period-some = omega arith; period-fits = omega arith; jitter-fits = omega arith; preempt-fits = omega arith; migrate-fits = omega arith })
+    tells-as (Bounds (countable-bounds p)) (Countable p) (λ b. record {
+      budget-fits = omega arith;
+      window-fits = omega arith;
+      period-some = omega arith;
+      period-fits = omega arith;
+      jitter-fits = omega arith;
+      preempt-fits = omega arith;
+      migrate-fits = omega arith;
+    })
     (λ s. search needs) (countable p) (tells-bounds (countable-bounds p))
 
 pub countable-is : (p : Piece) (b : Bool) → Tells (Countable p) b → b ≡ countable p
@@ -125,9 +155,12 @@ module _ (ps : List Piece) (i : ℕ) (d : Piece) (inside : i < length ps) where
 
 pub first-bad-none : (k : ℕ) (ps : List Piece) → firstBad (suc k) ps ≡ 0 → Each Sized ps
 first-bad-none k [] e = tt
-first-bad-none k (p ∷ ps) e = look (sized p) refl (λ rest. first-bad-none (suc k) ps rest) (λ good. rw add-one at (sym (first-bad-step (suc k) p ps true good) ∙ e)) (λ bad. sym (first-bad-step (suc k) p ps false bad) ∙ e)
+first-bad-none k (p ∷ ps) e =
+    look (sized p) refl (λ rest. first-bad-none (suc k) ps rest) (λ good. rw add-one at (sym (first-bad-step (suc k) p ps true good) ∙ e))
+    (λ bad. sym (first-bad-step (suc k) p ps false bad) ∙ e)
   where
-    look : (b : Bool) → sized p ≡ b → (firstBad (suc (suc k)) ps ≡ 0 → Each Sized ps) → (sized p ≡ true → firstBad (suc (suc k)) ps ≡ 0) → (sized p ≡ false → suc k ≡ 0) → Each Sized (p ∷ ps)
+    look : (b : Bool) → sized p ≡ b → (firstBad (suc (suc k)) ps ≡ 0 → Each Sized ps) → (sized p ≡ true → firstBad (suc (suc k)) ps ≡ 0)
+        → (sized p ≡ false → suc k ≡ 0) → Each Sized (p ∷ ps)
     look true good rest more never = (sized-true p good, rest (more good))
     look false bad rest more never = absurd (omega (arith, never bad))
 
@@ -141,7 +174,8 @@ pub first-bad-front : (k j : ℕ) (ps qs : List Piece) → firstBad (suc k) ps �
 first-bad-front k j [] qs e = absurd (omega arith)
 first-bad-front k j (p ∷ ps) qs e = look (sized p) refl (λ rest. first-bad-front (suc k) j ps qs rest)
   where
-    look : (b : Bool) → sized p ≡ b → (firstBad (suc (suc k)) ps ≡ suc j → firstBad (suc (suc k)) (ps ++ qs) ≡ suc j) → firstBad (suc k) (p ∷ (ps ++ qs)) ≡ suc j
+    look : (b : Bool) → sized p ≡ b → (firstBad (suc (suc k)) ps ≡ suc j → firstBad (suc (suc k)) (ps ++ qs) ≡ suc j)
+        → firstBad (suc k) (p ∷ (ps ++ qs)) ≡ suc j
     look true good more =
         let rest : firstBad (suc (suc k)) ps ≡ suc j = rw add-one at (sym (first-bad-step (suc k) p ps true good) ∙ e) in
         first-bad-step (suc k) p (ps ++ qs) true good ∙ rw add-one (more rest)

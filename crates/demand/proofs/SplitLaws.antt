@@ -38,7 +38,9 @@ use Rattle.demand.proofs.ChargeLaws.{when-le, late-jitter-le, core-recu
 use Rattle.demand.proofs.SizeLaws.{tells-both}
 use Rattle.demand.proofs.BusyLaws.{least-unique}
 use Rattle.demand.proofs.VerdictLaws.{verdict-means, passes-forever}
-use Rattle.demand.proofs.ChargedSplitLaws.{window-in, untight, none-one, none-first, none-next, next-less, first-below, multiple-some, with-core, sum-core, first-verdict, last-verdict, allowed-fits, splits-of, last-charge, tight-parts, last-recurs}
+use Rattle.demand.proofs.ChargedSplitLaws.{window-in, untight, none-one, none-first, none-next, next-less, first-below}
+use Rattle.demand.proofs.ChargedSplitLaws.{multiple-some, with-core, sum-core, first-verdict, last-verdict, allowed-fits}
+use Rattle.demand.proofs.ChargedSplitLaws.{splits-of, last-charge, tight-parts, last-recurs}
 
 -- ---- the executable definition satisfies the meaning
 
@@ -48,9 +50,13 @@ passes-tells (Overloaded t) = λ e. let z : _≡_ {A = ℕ} 0 1 = cc in omega ar
 passes-tells Undecided = λ e. let z : _≡_ {A = ℕ} 0 1 = cc in omega arith
 
 module _ (c : Costs) (ps : List Piece) (p : Piece) where
-  both-tells : (x w : ℕ) → Tells ((verdictOf c (ps ++ (firstPiece p x w ∷ [])) ≡ Passes) × (verdictOf c (lastPiece c p x w ∷ []) ≡ Passes)) (bothPass c ps p x w)
+  both-tells : (x w : ℕ)
+      → Tells ((verdictOf c (ps ++ (firstPiece p x w ∷ [])) ≡ Passes) × (verdictOf c (lastPiece c p x w ∷ []) ≡ Passes)) (bothPass c ps p x w)
   unfolding bothPass
-  both-tells x w = tells-both (verdictOf c (ps ++ (firstPiece p x w ∷ [])) ≡ Passes) (verdictOf c (lastPiece c p x w ∷ []) ≡ Passes) (passes (verdictOf c (ps ++ (firstPiece p x w ∷ [])))) (passes (verdictOf c (lastPiece c p x w ∷ []))) (passes-tells (verdictOf c (ps ++ (firstPiece p x w ∷ [])))) (passes-tells (verdictOf c (lastPiece c p x w ∷ [])))
+  both-tells x w =
+      tells-both (verdictOf c (ps ++ (firstPiece p x w ∷ [])) ≡ Passes) (verdictOf c (lastPiece c p x w ∷ []) ≡ Passes)
+      (passes (verdictOf c (ps ++ (firstPiece p x w ∷ [])))) (passes (verdictOf c (lastPiece c p x w ∷ [])))
+      (passes-tells (verdictOf c (ps ++ (firstPiece p x w ∷ [])))) (passes-tells (verdictOf c (lastPiece c p x w ∷ [])))
 
   first-in : Each Sized ps → Sized p → (x : ℕ) → TightIn c (coreOf c ps) p x (tightFirst c ps p x)
   unfolding tightFirst
@@ -69,20 +75,41 @@ module _ (c : Costs) (g : ℕ) (ps : List Piece) (p : Piece) (each : Each Sized 
   chosen (suc k) less above =
       look (tightFirst c ps p (suc k * g)) (first-in c ps p each ok (suc k * g)) (λ none. chosen k (omega (arith, less)) (none-step k above none))
     where
-      both : (t w : ℕ) → Tight c (coreOf c ps) p (suc k * g) t → p .jitter + t + 1 ≤ p .window → w ≡ p .jitter + t → (b : Bool) → Tells ((verdictOf c (ps ++ (firstPiece p (suc k * g) w ∷ [])) ≡ Passes) × (verdictOf c (lastPiece c p (suc k * g) w ∷ []) ≡ Passes)) b → (((u : ℕ) → Fits c (coreOf c ps) p (suc k * g) u → ⊥) → Chosen c g (coreOf c ps) p (splitting c g ps p k)) → Chosen c g (coreOf c ps) p (elim b [ true ↦ Cut (suc k * g) w | false ↦ splitting c g ps p k ])
-      both t w tight room at true pass more =
-          (t, record { times = suc k; multiple = refl; some = multiple-some g p pos (suc k) (omega arith); less = less }, record { tight = tight; room = room; here = rw at at (sym (first-verdict c ps p (suc k * g) w) ∙ pass .0); there = rw at at (sym (last-verdict c ps p (suc k * g) w) ∙ pass .1) }, above, at)
+      both : (t w : ℕ) → Tight c (coreOf c ps) p (suc k * g) t → p .jitter + t + 1 ≤ p .window → w ≡ p .jitter + t → (b : Bool)
+          → Tells ((verdictOf c (ps ++ (firstPiece p (suc k * g) w ∷ [])) ≡ Passes) × (verdictOf c (lastPiece c p (suc k * g) w ∷ []) ≡ Passes)) b
+          → (((u : ℕ) → Fits c (coreOf c ps) p (suc k * g) u → ⊥) → Chosen c g (coreOf c ps) p (splitting c g ps p k))
+          → Chosen c g (coreOf c ps) p (elim b [ true ↦ Cut (suc k * g) w | false ↦ splitting c g ps p k ])
+      both t w tight room at true pass more = (
+        t,
+        record { times = suc k; multiple = refl; some = multiple-some g p pos (suc k) (omega arith); less = less },
+        record {
+          tight = tight;
+          room = room;
+          here = rw at at (sym (first-verdict c ps p (suc k * g) w) ∙ pass .0);
+          there = rw at at (sym (last-verdict c ps p (suc k * g) w) ∙ pass .1);
+        },
+        above,
+        at,
+      )
       both t w tight room at false fail more = more (λ u fits.
           let e : w ≡ p .jitter + u = omega (arith, least-unique tight (fits .tight)) in
           fail (first-verdict c ps p (suc k * g) w ∙ rw e (fits .here), last-verdict c ps p (suc k * g) w ∙ rw e (fits .there)))
 
-      look : (f : Found) → TightIn c (coreOf c ps) p (suc k * g) f → (((u : ℕ) → Fits c (coreOf c ps) p (suc k * g) u → ⊥) → Chosen c g (coreOf c ps) p (splitting c g ps p k)) → Chosen c g (coreOf c ps) p (elim f [ At w ↦ elim (bothPass c ps p (suc k * g) w) [ true ↦ Cut (suc k * g) w | false ↦ splitting c g ps p k ] | Nothing ↦ splitting c g ps p k ])
+      look : (f : Found) → TightIn c (coreOf c ps) p (suc k * g) f
+          → (((u : ℕ) → Fits c (coreOf c ps) p (suc k * g) u → ⊥) → Chosen c g (coreOf c ps) p (splitting c g ps p k))
+          → Chosen c g (coreOf c ps) p (elim f [
+            | At w ↦
+                elim (bothPass c ps p (suc k * g) w) [ true ↦ Cut (suc k * g) w | false ↦ splitting c g ps p k ]
+            | Nothing ↦ splitting c g ps p k
+          ])
       look (At w) found more = both (found .0) w (found .1) (found .2) (found .3) (bothPass c ps p (suc k * g) w) (both-tells c ps p (suc k * g) w) more
       look Nothing none more = more (untight c (coreOf c ps) p (suc k * g) none)
 
   some-means : Splits c g ps p (greatestSplit c g ps p)
   unfolding greatestSplit
-  some-means = splits-of c ps p g (splitting c g ps p ((p .budget - 1) / g)) (chosen ((p .budget - 1) / g) (first-below g p pos (ok .budget-some)) (none-first g p pos c (coreOf c ps)))
+  some-means =
+      splits-of c ps p g (splitting c g ps p ((p .budget - 1) / g))
+      (chosen ((p .budget - 1) / g) (first-below g p pos (ok .budget-some)) (none-first g p pos c (coreOf c ps)))
 
 -- a grain of 0 has no multiples that count
 pub split-none : (c : Costs) (ps : List Piece) (p : Piece) → greatestSplit c 0 ps p ≡ Nowhere
@@ -200,7 +227,8 @@ cut-parts c g ps p costs ok x w splits =
       last-passes = last-verdict c ps p x w ∙ there;
     }
 
-pub split-parts : (c : Costs) (g : ℕ) (ps : List Piece) (p : Piece) → SizedCosts c → Each Sized ps → Sized p → (x w : ℕ) → greatestSplit c g ps p ≡ Cut x w → Parts c ps p x w
+pub split-parts : (c : Costs) (g : ℕ) (ps : List Piece) (p : Piece) → SizedCosts c → Each Sized ps → Sized p → (x w : ℕ)
+    → greatestSplit c g ps p ≡ Cut x w → Parts c ps p x w
 split-parts c g ps p costs each ok x w e = cut-parts c g ps p costs ok x w (subst (λ (s : Split). Splits c g ps p s) e (split-means c g ps p each ok))
 
 -- ---- C=D
@@ -241,8 +269,11 @@ tight-is-budget c ps p free x some = record {
   none-below = λ k below holds. omega (arith, holds .fits, free-sum c ps p free x k);
 }
 
-pub tight-first-budget : (c : Costs) (ps : List Piece) (p : Piece) → Free c p → Each Sized ps → Sized p → (x : ℕ) → 1 ≤ x → x + 1 ≤ p .window → tightFirst c ps p x ≡ At x
-tight-first-budget c ps p free each ok x some room = look (tightFirst c ps p x) (first-in c ps p each ok x) (subst (λ (f : ℕ → ℕ). Least (Holds f) x) (sum-core c ps p x) (tight-is-budget c ps p free x some))
+pub tight-first-budget : (c : Costs) (ps : List Piece) (p : Piece) → Free c p → Each Sized ps → Sized p → (x : ℕ) → 1 ≤ x
+    → x + 1 ≤ p .window → tightFirst c ps p x ≡ At x
+tight-first-budget c ps p free each ok x some room =
+    look (tightFirst c ps p x) (first-in c ps p each ok x)
+    (subst (λ (f : ℕ → ℕ). Least (Holds f) x) (sum-core c ps p x) (tight-is-budget c ps p free x some))
   where
     look : (f : Found) → TightIn c (coreOf c ps) p x f → Tight c (coreOf c ps) p x x → f ≡ At x
     look (At w) found tight = ap At (omega (arith, found .3, free .jitter-none, least-unique (found .1) tight))

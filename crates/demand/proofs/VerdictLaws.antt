@@ -31,7 +31,8 @@ use Rattle.demand.proofs.BusyLaws.{least-le, least-unique, busy-length-
 
 -- ---- the descent
 
-pub calm-more : (b : ℕ) (qs : List Charged) → Each Recurs qs → (t low end : ℕ) → demand b qs t ≤ low → (largestWindow qs ≤ t → largestWindow qs ≤ low) → Calm b qs (t + 1) end → Calm b qs low end
+pub calm-more : (b : ℕ) (qs : List Charged) → Each Recurs qs → (t low end : ℕ) → demand b qs t ≤ low
+    → (largestWindow qs ≤ t → largestWindow qs ≤ low) → Calm b qs (t + 1) end → Calm b qs low end
 calm-more b qs recurs t low end fits side calm u from below = elim (decLt t u) [
   | yes above ↦ calm u (omega arith) below
   | no under ↦ omega (arith, demand-mono qs recurs b {t = u} {u = t} (omega arith) (λ w. omega (arith, side w)))
@@ -65,8 +66,14 @@ module _ (b : ℕ) (qs : List Charged) (a l : ℕ) where
         | no under ↦ (let e : u ≡ a + k = omega arith in rw e fine)
       ]
 
-      look : (o : Bool) → ltb (a + k) (demand b qs (a + k)) ≡ o → (demand b qs (a + k) ≤ a + k → Says b qs a l (scan b qs a k)) → Says b qs a l (elim o [ true ↦ Overloaded (a + k) | false ↦ scan b qs a k ])
-      look true e more = record { from = omega arith; below = omega arith; over = ltb-true (a + k) (demand b qs (a + k)) e; calm = λ u from below. calm u (omega arith) below }
+      look : (o : Bool) → ltb (a + k) (demand b qs (a + k)) ≡ o → (demand b qs (a + k) ≤ a + k → Says b qs a l (scan b qs a k))
+          → Says b qs a l (elim o [ true ↦ Overloaded (a + k) | false ↦ scan b qs a k ])
+      look true e more = record {
+        from = omega arith;
+        below = omega arith;
+        over = ltb-true (a + k) (demand b qs (a + k)) e;
+        calm = λ u from below. calm u (omega arith) below;
+      }
       look false e more = more (ltb-false (a + k) (demand b qs (a + k)) e)
 
   pub scan-says : Says b qs a l (scan b qs a l)
@@ -123,13 +130,16 @@ judged-undecided b qs {a} {l} span none = none l (span .within) (span .busy .her
 -- two spans of one core are the same, so what they say is
 spans-agree : (b : ℕ) (qs : List Charged) {a l c m : ℕ} → Judged qs a l → Judged qs c m → (v w : Verdict) → Says b qs a l v → Says b qs c m w → v ≡ w
 spans-agree b qs {a} {l} {c} {m} p q v w says other =
-    says-unique b qs a l v w says (subst (λ (x : ℕ). Says b qs x l w) (least-unique (q .start) (p .start)) (subst (λ (y : ℕ). Says b qs c y w) (least-unique (q .busy) (p .busy)) other))
+    says-unique b qs a l v w says (subst (λ (x : ℕ). Says b qs x l w) (least-unique (q .start) (p .start))
+    (subst (λ (y : ℕ). Says b qs c y w) (least-unique (q .busy) (p .busy)) other))
 
 pub verdict-unique : (b : ℕ) (qs : List Charged) (v w : Verdict) → Means b qs v → Means b qs w → v ≡ w
 verdict-unique b qs Passes Passes p q = refl
-verdict-unique b qs Passes (Overloaded u) p q = ⊎-elim (λ e. absurd (none-live qs (q .0) e (q .2 .start .here))) (λ h. spans-agree b qs (h .2) (q .2) Passes (Overloaded u) (h .3) (q .3)) p
+verdict-unique b qs Passes (Overloaded u) p q =
+    ⊎-elim (λ e. absurd (none-live qs (q .0) e (q .2 .start .here))) (λ h. spans-agree b qs (h .2) (q .2) Passes (Overloaded u) (h .3) (q .3)) p
 verdict-unique b qs Passes Undecided p q = absurd (⊎-elim (λ e. q 1 (omega arith) (none-busy qs e)) (λ h. judged-undecided b qs (h .2) q) p)
-verdict-unique b qs (Overloaded t) Passes p q = ⊎-elim (λ e. absurd (none-live qs (p .0) e (p .2 .start .here))) (λ h. spans-agree b qs (p .2) (h .2) (Overloaded t) Passes (p .3) (h .3)) q
+verdict-unique b qs (Overloaded t) Passes p q =
+    ⊎-elim (λ e. absurd (none-live qs (p .0) e (p .2 .start .here))) (λ h. spans-agree b qs (p .2) (h .2) (Overloaded t) Passes (p .3) (h .3)) q
 verdict-unique b qs (Overloaded t) (Overloaded u) p q = spans-agree b qs (p .2) (q .2) (Overloaded t) (Overloaded u) (p .3) (q .3)
 verdict-unique b qs (Overloaded t) Undecided p q = absurd (judged-undecided b qs (p .2) q)
 verdict-unique b qs Undecided Passes p q = absurd (⊎-elim (λ e. p 1 (omega arith) (none-busy qs e)) (λ h. judged-undecided b qs (h .2) p) q)

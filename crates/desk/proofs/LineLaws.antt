@@ -12,9 +12,9 @@ use native.Mathlib.Decide.{decLt, decLe}
 use native.Mathlib.Omega.{arith}
 use borrow.Author.Tests.{le-leb, lt-leb}
 use lib.ListN.{length, set, length-append}
-use Rattle.lines.specs.Lines.{padded}
+use Rattle.demand.specs.Lists.{padded}
 use Rattle.lines.specs.Orders.{orderOf}
-use Rattle.lines.proofs.LineLaws.{padded-none, padded-put, padded-take}
+use Rattle.demand.proofs.PaddedLaws.{padded-none, padded-put, padded-take}
 use Rattle.lines.proofs.LongLaws.{order-long}
 use Rattle.desk.specs.declared.Pending.{Pending}
 use Rattle.desk.specs.Desk.{lineRoom, fresh, withByte, orderIn}

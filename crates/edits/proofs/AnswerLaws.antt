@@ -14,7 +14,7 @@ use mathlib.Core.Path.{_≡_, refl, sym, ap, _∙_, subst}
 use mathlib.Core.Bool.{Bool, true, false, cond}
 use mathlib.Core.Logic.{_⊎_, inl, inr}
 use mathlib.Core.List.{List, []}
-use Prim.Native.Nat.{ℕ, zero, suc, _-_}
+use Prim.Native.Nat.{_≤_, ℕ, zero, suc, _-_}
 use native.Mathlib.Omega.{arith}
 use borrow.Author.Tests.{eqb-true, eqb-false}
 use lib.Dec.{eqb, leb}
@@ -24,21 +24,24 @@ use Rattle.demand.specs.declared.Costs.{Costs}
 use Rattle.demand.specs.Sizes.{sizedCosts}
 use Rattle.task.specs.declared.Task.{Task}
 use Rattle.task.specs.declared.Machine.{Machine}
-use Rattle.task.specs.Tasks.{tasksMost, rule, firstFault, stateFault, sizedMachine}
+use Rattle.task.specs.Tasks.{tasksMost, rule, firstFault, stateFault, sizedMachine, tasksOf}
 use Rattle.plan.specs.declared.Plan.{Plan}
 use Rattle.plan.specs.declared.Reply.{Reply}
 use Rattle.walks.specs.Way.{Placed, fine, stuck}
 use Rattle.walks.specs.Edits.{edited}
 use Rattle.walks.specs.Halves.{Stand}
 use Rattle.plan.specs.Walk.{walked}
-use Rattle.plan.specs.Plan.{noTask, padded, refused, finished, unlessFault, planOf}
+use Rattle.task.proofs.TaskLaws.{state-sane, tasks-listed}
+use Rattle.plan.specs.Plan.{refused, finished, unlessFault, planOf}
 use Rattle.plan.proofs.Theorems.{plan-faultless, plan-or-stuck}
 use Rattle.edits.proofs.FaultLaws.{rightful-known, rightful-faultless}
 use Rattle.edits.specs.Edits.{byName, TaskEdit, tasksHeld, editFault, givenBack, backAt, settled, replanned, editOf, accepted, Held}
 
 pub plan-same : (m : Machine) (c : Costs) (n : ℕ) (xs ys : List Task) → take n xs ≡ take n ys → planOf m c n xs ≡ planOf m c n ys
 unfolding planOf stateFault
-plan-same m c n xs ys e = ap (λ (z : List Task). unlessFault (rule (sizedMachine m) 1 (rule (sizedCosts c) 2 (rule (leb n tasksMost) 6 (firstFault [] z)))) (finished m c z (walked m c z))) e
+plan-same m c n xs ys e =
+    ap (λ (z : List Task). unlessFault (rule (sizedMachine m) 1 (rule (sizedCosts c) 2 (rule (leb n tasksMost) 6 (firstFault [] z))))
+    (finished m c z (walked m c z))) e
 
 pub record Made (m : Machine) (c : Costs) (ts : List Task) (s : Plan) : Type 0 where
   pub machine-is : s .machine ≡ m
@@ -47,27 +50,32 @@ pub record Made (m : Machine) (c : Costs) (ts : List Task) (s : Plan) : Type 0 w
   pub held : Held s
 
 module _ (m : Machine) (c : Costs) (ts : List Task) where
-  take-padded : take (length ts) (padded ts) ≡ ts
-  unfolding padded
-  take-padded = take-append-seam ts (replicate (tasksMost - length ts) noTask)
-
-  made-of : (st : Stand) (l : List (Placed ℕ)) → planOf m c (length ts) ts ≡ finished m c ts (fine st l) → Made m c ts (finished m c ts (fine st l) .plan)
+  made-of : length ts ≤ tasksMost → (st : Stand) (l : List (Placed ℕ)) → planOf m c (length ts) ts ≡ finished m c ts (fine st l)
+      → Made m c ts (finished m c ts (fine st l) .plan)
   unfolding Held
-  made-of st l e = record {
+  made-of few st l e = record {
     machine-is = refl;
     costs-is = refl;
-    tasks-are = take-padded;
-    held = plan-same m c (length ts) (padded ts) ts (take-padded ∙ sym (take-length ts)) ∙ e;
+    tasks-are = tasks-listed ts few;
+    held = plan-same m c (length ts) (tasksOf ts .list) ts (tasks-listed ts few ∙ sym (take-length ts)) ∙ e;
   }
 
   pub plan-made : planOf m c (length ts) ts .number ≡ 0 → (s : Plan) × (planOf m c (length ts) ts ≡ accepted s) × Made m c ts s
-  plan-made number = by (plan-or-stuck m c (length ts) ts (plan-faultless m c (length ts) ts number))
+  plan-made number = by (plan-or-stuck m c (length ts) ts faultless)
     where
+      faultless : stateFault m c (length ts) ts ≡ 0
+      faultless = plan-faultless m c (length ts) ts number
+
       us : List Task
       us = take (length ts) ts
 
-      by : ((st : Stand) × (l : List (Placed ℕ)) × (walked m c us ≡ fine st l) × (planOf m c (length ts) ts ≡ finished m c us (fine st l))) ⊎ ((k : ℕ) × (walked m c us ≡ stuck k 7) × (planOf m c (length ts) ts ≡ refused 7 (suc k))) → (s : Plan) × (planOf m c (length ts) ts ≡ accepted s) × Made m c ts s
-      by (inl r) = (let e : planOf m c (length ts) ts ≡ finished m c ts (fine (r .0) (r .1)) = r .3 ∙ ap (λ (z : List Task). finished m c z (fine (r .0) (r .1))) (take-length ts) in (finished m c ts (fine (r .0) (r .1)) .plan, e, made-of (r .0) (r .1) e))
+      by : ((st : Stand) × (l : List (Placed ℕ)) × (walked m c us ≡ fine st l) × (planOf m c (length ts) ts ≡ finished m c us (fine st l)))
+          ⊎ ((k : ℕ) × (walked m c us ≡ stuck k 7) × (planOf m c (length ts) ts ≡ refused 7 (suc k)))
+          → (s : Plan) × (planOf m c (length ts) ts ≡ accepted s) × Made m c ts s
+      by (inl r) =
+          (let e : planOf m c (length ts) ts ≡ finished m c ts (fine (r .0) (r .1)) = r .3
+          ∙ ap (λ (z : List Task). finished m c z (fine (r .0) (r .1))) (take-length ts) in
+          (finished m c ts (fine (r .0) (r .1)) .plan, e, made-of (state-sane m c (length ts) ts faultless .few) (r .0) (r .1) e))
       by (inr r) = absurd (omega (arith, sym number ∙ ap (λ (z : Reply). z .number) (r .2)))
 
 -- the plan of the first n of a list is the plan of those
@@ -95,7 +103,9 @@ module _ (s : Plan) (ts : List Task) where
       planned = planOf (s .machine) (s .costs) (length ts) ts
 
       by : (t : Bool) → eqb (planned .number) 0 ≡ t → Answered s ts (cond t planned (givenBack s (planned .number) (planned .carries)))
-      by true e = (let r = plan-made (s .machine) (s .costs) ts (eqb-true (planned .number) 0 e) in inl (eqb-true (planned .number) 0 e, subst (λ (z : Reply). Made (s .machine) (s .costs) ts (z .plan)) (sym (r .1)) (r .2)))
+      by true e =
+          (let r = plan-made (s .machine) (s .costs) ts (eqb-true (planned .number) 0 e) in
+          inl (eqb-true (planned .number) 0 e, subst (λ (z : Reply). Made (s .machine) (s .costs) ts (z .plan)) (sym (r .1)) (r .2)))
       by false e = inr (eqb-false (planned .number) 0 e, refl)
 
   back-answered : (k : ℕ) (r : Reply) → Answered s ts r → Answered s ts (backAt k s r)
@@ -124,10 +134,12 @@ edit-back e s some = by (edit-answered e s)
     by (inr r) = r .1
 
 -- whatever it answers
-pub edit-keeps : (e : TaskEdit) (s : Plan) → (editOf e s .plan .machine ≡ s .machine) × (editOf e s .plan .costs ≡ s .costs) × (Held s → Held (editOf e s .plan))
+pub edit-keeps : (e : TaskEdit) (s : Plan)
+    → (editOf e s .plan .machine ≡ s .machine) × (editOf e s .plan .costs ≡ s .costs) × (Held s → Held (editOf e s .plan))
 edit-keeps e s = by (edit-answered e s)
   where
-    by : Answered s (edited byName e (tasksHeld s)) (editOf e s) → (editOf e s .plan .machine ≡ s .machine) × (editOf e s .plan .costs ≡ s .costs) × (Held s → Held (editOf e s .plan))
+    by : Answered s (edited byName e (tasksHeld s)) (editOf e s)
+        → (editOf e s .plan .machine ≡ s .machine) × (editOf e s .plan .costs ≡ s .costs) × (Held s → Held (editOf e s .plan))
     by (inl r) = (r .1 .machine-is, r .1 .costs-is, λ h. r .1 .held)
     by (inr r) = (ap (λ (z : Plan). z .machine) (r .1), ap (λ (z : Plan). z .costs) (r .1), λ h. subst Held (sym (r .1)) h)
 
@@ -148,10 +160,13 @@ replanned-ends s ts faultless = by (plan-or-stuck m c (length ts) ts faultless)
     us : List Task
     us = take (length ts) ts
 
-    by : ((st : Stand) × (l : List (Placed ℕ)) × (walked m c us ≡ fine st l) × (planOf m c (length ts) ts ≡ finished m c us (fine st l))) ⊎ ((k : ℕ) × (walked m c us ≡ stuck k 7) × (planOf m c (length ts) ts ≡ refused 7 (suc k))) → Ends s ts (settled s (planOf m c (length ts) ts))
+    by : ((st : Stand) × (l : List (Placed ℕ)) × (walked m c us ≡ fine st l) × (planOf m c (length ts) ts ≡ finished m c us (fine st l)))
+        ⊎ ((k : ℕ) × (walked m c us ≡ stuck k 7) × (planOf m c (length ts) ts ≡ refused 7 (suc k)))
+        → Ends s ts (settled s (planOf m c (length ts) ts))
     by (inl r) = inl (ap (λ (z : Reply). settled s z .number) (r .3))
     by (inr r) = inr (r .0, subst (λ (z : List Task). walked m c z ≡ stuck (r .0) 7) (take-length ts) (r .1), ap (settled s) (r .2))
 
-pub edit-goes : (e : TaskEdit) (s : Plan) → stateFault (s .machine) (s .costs) (s .tasks .count) (s .tasks .list) ≡ 0 → editFault e (tasksHeld s) ≡ 0 → editOf e s ≡ replanned s (edited byName e (tasksHeld s))
+pub edit-goes : (e : TaskEdit) (s : Plan) → stateFault (s .machine) (s .costs) (s .tasks .count) (s .tasks .list) ≡ 0
+    → editFault e (tasksHeld s) ≡ 0 → editOf e s ≡ replanned s (edited byName e (tasksHeld s))
 unfolding editOf
 edit-goes e s faultless right = rw (faultless, right)

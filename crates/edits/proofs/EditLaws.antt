@@ -24,11 +24,10 @@ use Rattle.task.specs.declared.Task.{Task}
 use Rattle.task.specs.declared.Tasks.{Tasks}
 use Rattle.task.specs.declared.Machine.{Machine}
 use Rattle.task.specs.Names.{formed}
-use Rattle.task.specs.Tasks.{tasksMost, wholePiece, placeOf, rule, stateFault}
+use Rattle.task.specs.Tasks.{tasksMost, wholePiece, placeOf, rule, stateFault, listOf}
 use Rattle.plan.specs.declared.Plan.{Plan}
 use Rattle.plan.specs.declared.Reply.{Reply}
 use Rattle.plan.specs.Plan.{planOf}
-use Rattle.task.specs.Tasks.{listOf}
 use Rattle.walks.specs.Edits.{add, withdraw, retime, edited}
 use Rattle.edits.specs.Edits.{byName, TaskEdit, tasksHeld, named, editFault, givenBack, settled, editOf}
 use Rattle.edits.specs.ways.ListInArray.{Lists}
@@ -119,6 +118,7 @@ module _ (e : TaskEdit) (s : Plan) where
     edit-own zero is some = absurd (some refl)
     edit-own (suc k) is some = rw (sound, ← is)
 
-    pub edit-made : editFault e (tasksHeld s) ≡ 0 → (q : Tasks) → Lists q (edited byName e (tasksHeld s)) → settled s (planOf (s .machine) (s .costs) (q .count) (q .list)) ≡ editOf e s
+    pub edit-made : editFault e (tasksHeld s) ≡ 0 → (q : Tasks) → Lists q (edited byName e (tasksHeld s))
+        → settled s (planOf (s .machine) (s .costs) (q .count) (q .list)) ≡ editOf e s
     unfolding editOf
     edit-made fine q ok = rw (sound, fine) (ap (settled s) (plan-lists (s .machine) (s .costs) q (edited byName e (tasksHeld s)) ok))

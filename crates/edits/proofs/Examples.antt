@@ -31,7 +31,8 @@ use Rattle.walks.specs.Kept.{Among, Behind, Meet}
 use Rattle.walks.specs.Halves.{denser, Stand}
 use Rattle.plan.specs.Walk.{taskWay, walked}
 use Rattle.plan.specs.Layout.{none, putOf}
-use Rattle.plan.specs.Plan.{padded, noPlan, planOf}
+use Rattle.plan.specs.Plan.{noPlan, planOf}
+use Rattle.demand.specs.Lists.{padded}
 use Rattle.edits.specs.Edits.{byName, TaskEdit, tasksHeld, editFault, editOf, Held}
 use Rattle.edits.specs.Kept.{inOrder, Keeps, Ahead}
 use Rattle.edits.proofs.Theorems.{plan-held, edit-does, edit-before, edit-after}
@@ -75,7 +76,10 @@ pub record Computed : Type 0 where
   pub meets : Meet (taskWay machine costs) (task 97 2 2 ∷ task 98 2 2 ∷ task 99 1 2 ∷ []) (task 97 2 2 ∷ task 98 1 1 ∷ task 99 1 2 ∷ [])
 
 computed : Computed
-unfolding letter task costs machine tasks state change sized sizedCosts charge ipiCost charged coreOf stall ceil jobsDue interrupts blocking load demand leastLive leastHolding busyLoad busySum busyLength tightSum tightWindow lateJitter firstPiece lastPiece tightFirst bothPass greatestSplit verdict verdictOf nameByte formed sameName wholePiece sizedMachine faultOf stateFault denser none putOf padded walked noPlan planOf changed editFault editOf pieceOf
+unfolding letter task costs machine tasks state change sized sizedCosts charge ipiCost charged coreOf stall ceil jobsDue interrupts blocking
+    load demand leastLive leastHolding busyLoad busySum busyLength tightSum tightWindow lateJitter firstPiece lastPiece tightFirst bothPass
+    greatestSplit verdict verdictOf nameByte formed sameName wholePiece sizedMachine faultOf stateFault denser none putOf padded walked
+    noPlan planOf changed editFault editOf pieceOf
 computed =
     let third : Stand = record { core = 2; row = wholePiece (task 99 1 2 .times) ∷ [] } in
     let placed : (t : Task) → ℕ → Placed Task = λ t q. record { on = q; item = t; piece = wholePiece (t .times) } in
@@ -117,8 +121,12 @@ unfolding task
 leads ts rest order among = record { held = among; ahead = by }
   where
     by : (p q : List Task) (a : Task) → inOrder ts ≡ p ++ (a ∷ q) → a .name ≡ letter 98 → Among byName (letter 97) p
-    by [] q a e own = (let first : task 97 2 2 ∷ rest ≡ a ∷ q = sym order ∙ e in let same : task 97 2 2 ≡ a = cc in absurd (other 97 98 (λ z. omega arith) (ap (λ (t : Task). t .name) same ∙ own)))
-    by (t ∷ p) q a e own = (let first : task 97 2 2 ∷ rest ≡ t ∷ (p ++ (a ∷ q)) = sym order ∙ e in let same : task 97 2 2 ≡ t = cc in inl (ap (λ (u : Task). u .name) (sym same)))
+    by [] q a e own =
+        (let first : task 97 2 2 ∷ rest ≡ a ∷ q = sym order ∙ e in let same : task 97 2 2 ≡ a = cc in
+        absurd (other 97 98 (λ z. omega arith) (ap (λ (t : Task). t .name) same ∙ own)))
+    by (t ∷ p) q a e own =
+        (let first : task 97 2 2 ∷ rest ≡ t ∷ (p ++ (a ∷ q)) = sym order ∙ e in let same : task 97 2 2 ≡ t = cc in
+        inl (ap (λ (u : Task). u .name) (sym same)))
 
 -- the last of them is behind the edited one
 trails : (ts p : List Task) → inOrder ts ≡ p ++ (task 100 1 3 ∷ []) → Behind byName (letter 98) (inOrder ts) p (task 100 1 3) []
@@ -140,9 +148,13 @@ pub last-keeps : Keeps state (editOf change state .plan) (letter 100)
 unfolding change tasks changed task
 last-keeps =
     edit-after change state held (computed .taken)
-    (subst (λ (ts : List Task). Behind byName (letter 98) (inOrder ts) (task 97 2 2 ∷ task 98 2 2 ∷ task 99 1 2 ∷ []) (task 100 1 3) []) (sym (computed .holds)) (trails tasks (task 97 2 2 ∷ task 98 2 2 ∷ task 99 1 2 ∷ []) (computed .order)))
-    (subst (λ (ts : List Task). Behind byName (letter 98) (inOrder ts) (task 97 2 2 ∷ task 98 1 1 ∷ task 99 1 2 ∷ []) (task 100 1 3) []) (sym after) (trails changed (task 97 2 2 ∷ task 98 1 1 ∷ task 99 1 2 ∷ []) (computed .order-changed)))
+    (subst (λ (ts : List Task). Behind byName (letter 98) (inOrder ts) (task 97 2 2 ∷ task 98 2 2 ∷ task 99 1 2 ∷ []) (task 100 1 3) [])
+    (sym (computed .holds)) (trails tasks (task 97 2 2 ∷ task 98 2 2 ∷ task 99 1 2 ∷ []) (computed .order)))
+    (subst (λ (ts : List Task). Behind byName (letter 98) (inOrder ts) (task 97 2 2 ∷ task 98 1 1 ∷ task 99 1 2 ∷ []) (task 100 1 3) [])
+    (sym after) (trails changed (task 97 2 2 ∷ task 98 1 1 ∷ task 99 1 2 ∷ []) (computed .order-changed)))
     refl
-    (subst (λ (m : Machine). Meet (taskWay m (state .costs)) (task 97 2 2 ∷ task 98 2 2 ∷ task 99 1 2 ∷ []) (task 97 2 2 ∷ task 98 1 1 ∷ task 99 1 2 ∷ [])) (sym (computed .machine-is))
-    (subst (λ (c : Costs). Meet (taskWay machine c) (task 97 2 2 ∷ task 98 2 2 ∷ task 99 1 2 ∷ []) (task 97 2 2 ∷ task 98 1 1 ∷ task 99 1 2 ∷ [])) (sym (computed .costs-are)) (computed .meets)))
+    (subst (λ (m : Machine). Meet (taskWay m (state .costs)) (task 97 2 2 ∷ task 98 2 2 ∷ task 99 1 2 ∷ [])
+    (task 97 2 2 ∷ task 98 1 1 ∷ task 99 1 2 ∷ [])) (sym (computed .machine-is))
+    (subst (λ (c : Costs). Meet (taskWay machine c) (task 97 2 2 ∷ task 98 2 2 ∷ task 99 1 2 ∷ [])
+    (task 97 2 2 ∷ task 98 1 1 ∷ task 99 1 2 ∷ [])) (sym (computed .costs-are)) (computed .meets)))
     (letter 100) (inl refl)

@@ -49,7 +49,8 @@ rightful-known m c n ts e =
 
 pub rightful-faultless : (m : Machine) (c : Costs) (ts : List Task) → Rightful m c ts → stateFault m c (length ts) ts ≡ 0
 unfolding stateFault
-rightful-faultless m c ts l = rw (l .machine, l .costs, le-leb (length ts) tasksMost (l .few), take-length ts) (faults-none [] ts (l .clean) (across-none ts) (l .apart))
+rightful-faultless m c ts l =
+    rw (l .machine, l .costs, le-leb (length ts) tasksMost (l .few), take-length ts) (faults-none [] ts (l .clean) (across-none ts) (l .apart))
 
 -- ---- an edit that breaks no rule
 
@@ -79,7 +80,19 @@ edited-rightful m c (add t) ts l e =
       clean = each-snoc Clean ts t (l .clean) (a .0);
       apart = apart-snoc (λ u. u .name) ts t (l .apart) (not-named (t .name) ts (b .0));
     }
-edited-rightful m c (withdraw n) ts l e = record { machine = l .machine; costs = l .costs; few = omega (arith, l .few, without-short byName n ts); clean = without-each byName Clean n ts (l .clean); apart = without-apart byName n ts (l .apart) }
+edited-rightful m c (withdraw n) ts l e = record {
+  machine = l .machine;
+  costs = l .costs;
+  few = omega (arith, l .few, without-short byName n ts);
+  clean = without-each byName Clean n ts (l .clean);
+  apart = without-apart byName n ts (l .apart);
+}
 edited-rightful m c (retime t) ts l e =
     let a = clean-edit t (rule (named (t .name) ts) 5 0) e in
-    record { machine = l .machine; costs = l .costs; few = omega (arith, l .few, replaced-long byName t ts); clean = replaced-each byName Clean t (a .0) ts (l .clean); apart = replaced-apart byName name-exact t ts (l .apart) }
+    record {
+      machine = l .machine;
+      costs = l .costs;
+      few = omega (arith, l .few, replaced-long byName t ts);
+      clean = replaced-each byName Clean t (a .0) ts (l .clean);
+      apart = replaced-apart byName name-exact t ts (l .apart);
+    }

@@ -33,7 +33,7 @@ use Rattle.plan.specs.declared.Plan.{Plan}
 use Rattle.plan.specs.declared.Reply.{Reply}
 use Rattle.plan.specs.declared.Layout.{Layout}
 use Rattle.plan.specs.Walk.{wholeOf, taskWay, upto, walked}
-use Rattle.plan.specs.Layout.{blank, pieceOf}
+use Rattle.plan.specs.Layout.{blank, keptPiece}
 use Rattle.plan.specs.Shows.{storedOf, numbersOn, LayoutShows}
 use Rattle.plan.proofs.GoingLaws.{piece-stored}
 use Rattle.plan.proofs.Theorems.{plan-faultless, plan-comes, plan-shows, placed-places}
@@ -45,7 +45,8 @@ use Rattle.edits.proofs.NameSets.{place-name, faults-known}
 
 map-upto : (ts : List Task) (n : ℕ) → n ≤ length ts → map (taskAt ts) (upto n) ≡ take n ts
 map-upto ts zero h = refl
-map-upto ts (suc n) h = map-append (taskAt ts) (upto n) (n ∷ []) ∙ (ap (λ (z : List Task). z ++ (taskAt ts n ∷ [])) (map-upto ts n (omega arith)) ∙ sym (take-suc ts n past h))
+map-upto ts (suc n) h = map-append (taskAt ts) (upto n) (n ∷ [])
+    ∙ (ap (λ (z : List Task). z ++ (taskAt ts n ∷ [])) (map-upto ts n (omega arith)) ∙ sym (take-suc ts n past h))
 
 pub walked-tasks : (m : Machine) (c : Costs) (ts : List Task) → relabelled (taskAt ts) (walked m c ts) ≡ walkOf (taskWay m c) ts
 unfolding walked
@@ -53,23 +54,28 @@ walked-tasks m c ts = of-map (taskAt ts) (taskWay m c) (upto (length ts)) ∙ ap
 
 -- ---- a name's pieces, by the place of its task
 
-shown : (n : Name) (ts : List Task) → Apart (λ t. t .name) ts → (x : List (Placed ℕ)) → Each (λ e. e .item < length ts) x → map pieceOf (ofPlace (placeOf 1 n ts) (map storedOf x)) ≡ map (λ e. e .piece) (ofKey byName n (map (relabel (taskAt ts)) x))
+shown : (n : Name) (ts : List Task) → Apart (λ t. t .name) ts → (x : List (Placed ℕ)) → Each (λ e. e .item < length ts) x
+    → map keptPiece (ofPlace (placeOf 1 n ts) (map storedOf x)) ≡ map (λ e. e .piece) (ofKey byName n (map (relabel (taskAt ts)) x))
 shown n ts apart [] low = refl
 shown n ts apart (e ∷ x) low =
     let at : suc (e .item) ≡ 1 + e .item = omega arith in
-    ap (λ (t : Bool). map pieceOf (keep t (storedOf e) (ofPlace (placeOf 1 n ts) (map storedOf x)))) (ap (λ (i : ℕ). eqb i (placeOf 1 n ts)) at ∙ place-name 1 n ts (omega arith) apart (e .item) (low .0))
+    ap (λ (t : Bool). map keptPiece (keep t (storedOf e) (ofPlace (placeOf 1 n ts) (map storedOf x))))
+    (ap (λ (i : ℕ). eqb i (placeOf 1 n ts)) at ∙ place-name 1 n ts (omega arith) apart (e .item) (low .0))
     ∙ by (sameName n (taskAt ts (e .item) .name)) (shown n ts apart x (low .1))
   where
-    by : (t : Bool) → map pieceOf (ofPlace (placeOf 1 n ts) (map storedOf x)) ≡ map (λ y. y .piece) (ofKey byName n (map (relabel (taskAt ts)) x)) →
-        map pieceOf (keep t (storedOf e) (ofPlace (placeOf 1 n ts) (map storedOf x))) ≡ map (λ y. y .piece) (keep t (relabel (taskAt ts) e) (ofKey byName n (map (relabel (taskAt ts)) x)))
+    by : (t : Bool) → map keptPiece (ofPlace (placeOf 1 n ts) (map storedOf x)) ≡ map (λ y. y .piece) (ofKey byName n (map (relabel (taskAt ts)) x)) →
+        map keptPiece (keep t (storedOf e) (ofPlace (placeOf 1 n ts) (map storedOf x)))
+        ≡ map (λ y. y .piece) (keep t (relabel (taskAt ts) e) (ofKey byName n (map (relabel (taskAt ts)) x)))
     by true h = cc (h, piece-stored (e .item) (e .piece))
     by false h = h
 
 -- what a layout shows of what was placed, it shows of each name
-module _ (ts : List Task) (apart : Apart (λ t. t .name) ts) (l : List (Placed ℕ)) (low : Each (λ e. e .item < length ts) l) (y : Layout) (shows : LayoutShows y l) where
-  shows-name : (n : Name) (q : ℕ) → q < 16 → map pieceOf (ofPlace (placeOf 1 n ts) (map (λ i. getD (y .pieces) i blank) (numbersOn y q))) ≡ shareOn byName n q (map (relabel (taskAt ts)) l)
+module _ (ts : List Task) (apart : Apart (λ t. t .name) ts) (l : List (Placed ℕ)) (low : Each (λ e. e .item < length ts) l) (y : Layout)
+    (shows : LayoutShows y l) where
+  shows-name : (n : Name) (q : ℕ) → q < 16 → map keptPiece (ofPlace (placeOf 1 n ts) (map (λ i. getD (y .pieces) i blank) (numbersOn y q)))
+      ≡ shareOn byName n q (map (relabel (taskAt ts)) l)
   shows-name n q core =
-      ap (λ (z : List Stored). map pieceOf (ofPlace (placeOf 1 n ts) z)) (shows .numbers q core)
+      ap (λ (z : List Stored). map keptPiece (ofPlace (placeOf 1 n ts) z)) (shows .numbers q core)
       ∙ (shown n ts apart (onCore q l) (each-only (λ (e : Placed ℕ). e .item < length ts) (λ e. eqb (e .on) q) l low)
       ∙ ap (λ (z : List (Placed Task)). map (λ e. e .piece) (ofKey byName n z)) (sym (only-map (λ (e : Placed Task). eqb (e .on) q) (relabel (taskAt ts)) l)))
 
@@ -100,11 +106,17 @@ held-told s held =
     let st = come .0 in
     let l = come .1 in
     let planned : walked m c (tasksHeld s) ≡ fine st l = come .2 in
-    let shows : LayoutShows (s .layout) l = subst (λ (y : Layout). LayoutShows y l) (ap (λ (r : Reply). r .plan .layout) held) (plan-shows m c n ts faultless st l planned) in
+    let shows : LayoutShows (s .layout) l =
+    subst (λ (y : Layout). LayoutShows y l) (ap (λ (r : Reply). r .plan .layout) held) (plan-shows m c n ts faultless st l planned) in
     record {
       stand = st;
       log = map (relabel (taskAt (tasksHeld s))) l;
       walks = sym (walked-tasks m c (tasksHeld s)) ∙ ap (relabelled (taskAt (tasksHeld s))) planned;
       shows = shows-name (tasksHeld s) apart l (placed-places m c n ts faultless st l planned) (s .layout) shows;
-      sorts = record { apart = apart; good = each-imp (λ t. Sized (wholePiece (t .times))) Timed (λ t size. omega (arith, size .budget-some, size .budget-fits)) (tasksHeld s) (sane .timed) };
+      sorts =
+          record {
+            apart = apart;
+            good = each-imp (λ t. Sized (wholePiece (t .times))) Timed
+                (λ t size. omega (arith, size .budget-some, size .budget-fits)) (tasksHeld s) (sane .timed);
+          };
     }

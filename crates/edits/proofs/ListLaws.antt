@@ -22,8 +22,7 @@ use Rattle.task.specs.declared.Name.{Name}
 use Rattle.task.specs.declared.Task.{Task}
 use Rattle.task.specs.declared.Tasks.{Tasks}
 use Rattle.task.specs.Names.{sameName}
-use Rattle.task.specs.Tasks.{tasksMost, placeOf}
-use Rattle.task.specs.Tasks.{listOf}
+use Rattle.task.specs.Tasks.{tasksMost, placeOf, listOf}
 use Rattle.walks.specs.Edits.{without, replaced}
 use Rattle.edits.specs.Edits.{byName}
 use Rattle.edits.specs.ways.ListInArray.{Lists, removed}
@@ -128,13 +127,22 @@ module _ (l : List Task) (i : ℕ) where
       let front = take (j + 1) l in
       let size : length front ≡ j + 1 = length-take-le (j + 1) l (omega arith) in
       let one : take (j + 1 + 1) l ≡ front ++ (a ∷ []) = rw add-one (take-suc l (j + 1) d room) in
-      ap (λ (m : ℕ). take m (set next j a)) (add-one j) ∙ take-suc-set next j a space ∙ ap (λ (x : List Task). x ++ (a ∷ [])) so ∙ sym (removed-snoc i front a (omega arith)) ∙ ap (removed i) (sym one)
+      ap (λ (m : ℕ). take m (set next j a)) (add-one j) ∙ take-suc-set next j a space ∙ ap (λ (x : List Task). x ++ (a ∷ [])) so
+      ∙ sym (removed-snoc i front a (omega arith)) ∙ ap (removed i) (sym one)
 
-pub lists-removed : (q : Tasks) (i j last : ℕ) (next : List Task) → length (q .list) ≡ tasksMost → q .count ≤ tasksMost → i < q .count → j ≡ last → last + 1 ≡ q .count
+pub lists-removed : (q : Tasks) (i j last : ℕ) (next : List Task) → length (q .list) ≡ tasksMost → q .count ≤ tasksMost → i < q .count
+    → j ≡ last → last + 1 ≡ q .count
     → take j next ≡ removed i (take (j + 1) (q .list)) → Lists (record { count = last; list = next }) (removed i (listOf q))
 lists-removed q i j last next long few low there end so =
     let all : j + 1 ≡ q .count = omega arith in
     record {
-      count = omega (arith, whole q long few, length-append (take i (listOf q)) (drop (suc i) (listOf q)), length-take i (listOf q), length-drop (suc i) (listOf q));
+      count =
+          omega (
+            arith,
+            whole q long few,
+            length-append (take i (listOf q)) (drop (suc i) (listOf q)),
+            length-take i (listOf q),
+            length-drop (suc i) (listOf q),
+          );
       items = ap (λ (n : ℕ). take n next) (sym there) ∙ so ∙ ap (λ (n : ℕ). removed i (take n (q .list))) all;
     }

@@ -90,8 +90,16 @@ faults-known above (t ∷ ts) e =
     let one = fault-clean above t (both .0) in
     let rest = faults-known (above ++ (t ∷ [])) ts (both .1) in (
       (one .0, rest .0),
-      (one .1, each-imp (λ u. Unnamed (u .name) (above ++ (t ∷ []))) (λ u. Unnamed (u .name) above) (λ u never. each-front (λ v. v .name ≡ u .name → ⊥) above t never) ts (rest .1)),
-      (each-imp (λ u. Unnamed (u .name) (above ++ (t ∷ []))) (λ u. u .name ≡ t .name → ⊥) (λ u never same. each-last (λ v. v .name ≡ u .name → ⊥) above t never (sym same)) ts (rest .1), rest .2),
+      (
+        one .1,
+        each-imp (λ u. Unnamed (u .name) (above ++ (t ∷ []))) (λ u. Unnamed (u .name) above)
+            (λ u never. each-front (λ v. v .name ≡ u .name → ⊥) above t never) ts (rest .1),
+      ),
+      (
+        each-imp (λ u. Unnamed (u .name) (above ++ (t ∷ []))) (λ u. u .name ≡ t .name
+            → ⊥) (λ u never same. each-last (λ v. v .name ≡ u .name → ⊥) above t never (sym same)) ts (rest .1),
+        rest .2,
+      ),
     )
 
 pub faults-none : (above ts : List Task) → Each Clean ts → Across above ts → Apart (λ t. t .name) ts → firstFault above ts ≡ 0
@@ -110,7 +118,8 @@ place-high : (k : ℕ) (n : Name) (ts : List Task) → 1 ≤ k → (placeOf k n 
 place-high k n [] some = inl refl
 place-high k n (t ∷ ts) some = by (sameName n (t .name)) (place-high (k + 1) n ts (omega arith))
   where
-    by : (x : Bool) → (placeOf (k + 1) n ts ≡ 0) ⊎ (k + 1 ≤ placeOf (k + 1) n ts) → (cond x k (placeOf (k + 1) n ts) ≡ 0) ⊎ (k ≤ cond x k (placeOf (k + 1) n ts))
+    by : (x : Bool) → (placeOf (k + 1) n ts ≡ 0) ⊎ (k + 1 ≤ placeOf (k + 1) n ts)
+        → (cond x k (placeOf (k + 1) n ts) ≡ 0) ⊎ (k ≤ cond x k (placeOf (k + 1) n ts))
     by true r = inr (omega arith)
     by false (inl e) = inl e
     by false (inr e) = inr (omega arith)
@@ -120,7 +129,8 @@ each-get P [] all i d low = absurd (not-suc-le-zero low)
 each-get P (a ∷ l) all zero d low = all .0
 each-get P (a ∷ l) all (suc i) d low = each-get P l (all .1) i d (le-of-suc-le-suc low)
 
-pub place-name : (k : ℕ) (n : Name) (ts : List Task) → 1 ≤ k → Apart (λ t. t .name) ts → (i : ℕ) → i < length ts → eqb (k + i) (placeOf k n ts) ≡ sameName n (taskAt ts i .name)
+pub place-name : (k : ℕ) (n : Name) (ts : List Task) → 1 ≤ k → Apart (λ t. t .name) ts → (i : ℕ) → i < length ts
+    → eqb (k + i) (placeOf k n ts) ≡ sameName n (taskAt ts i .name)
 place-name k n [] some apart i low = absurd (not-suc-le-zero low)
 place-name k n (t ∷ ts) some apart zero low = by (sameName n (t .name)) (place-high (k + 1) n ts (omega arith))
   where
@@ -130,8 +140,10 @@ place-name k n (t ∷ ts) some apart zero low = by (sameName n (t .name)) (place
     by false (inr e) = ne-eqb (k + 0) (placeOf (k + 1) n ts) (λ z. omega arith)
 place-name k n (t ∷ ts) some apart (suc i) low = by (sameName n (t .name)) refl (place-name (k + 1) n ts (omega arith) (apart .1) i (le-of-suc-le-suc low))
   where
-    by : (x : Bool) → sameName n (t .name) ≡ x → eqb (k + 1 + i) (placeOf (k + 1) n ts) ≡ sameName n (taskAt ts i .name) → eqb (k + suc i) (cond x k (placeOf (k + 1) n ts)) ≡ sameName n (taskAt ts i .name)
+    by : (x : Bool) → sameName n (t .name) ≡ x → eqb (k + 1 + i) (placeOf (k + 1) n ts) ≡ sameName n (taskAt ts i .name)
+        → eqb (k + suc i) (cond x k (placeOf (k + 1) n ts)) ≡ sameName n (taskAt ts i .name)
     by true told r =
         ne-eqb (k + suc i) k (λ z. omega arith)
-        ∙ sym (differ-name n (taskAt ts i .name) (λ same. each-get (λ u. u .name ≡ t .name → ⊥) ts (apart .0) i past (le-of-suc-le-suc low) (sym same ∙ same-name-exact n (t .name) told)))
+        ∙ sym (differ-name n (taskAt ts i .name) (λ same. each-get (λ u. u .name ≡ t .name → ⊥) ts (apart .0) i past (le-of-suc-le-suc low)
+        (sym same ∙ same-name-exact n (t .name) told)))
     by false told r = (let e : k + suc i ≡ k + 1 + i = omega arith in ap (λ (z : ℕ). eqb z (placeOf (k + 1) n ts)) e ∙ r)

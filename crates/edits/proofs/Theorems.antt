@@ -60,11 +60,19 @@ edit-held e s taken = edit-made e s taken .held
 
 -- ---- where no rule is broken
 
-pub edit-faultless : (e : TaskEdit) (s : Plan) → stateFault (s .machine) (s .costs) (s .tasks .count) (s .tasks .list) ≡ 0 → editFault e (tasksHeld s) ≡ 0 → stateFault (s .machine) (s .costs) (length (edited byName e (tasksHeld s))) (edited byName e (tasksHeld s)) ≡ 0
-edit-faultless e s faultless right = rightful-faultless (s .machine) (s .costs) (edited byName e (tasksHeld s)) (edited-rightful (s .machine) (s .costs) e (tasksHeld s) (rightful-known (s .machine) (s .costs) (s .tasks .count) (s .tasks .list) faultless) right)
+pub edit-faultless : (e : TaskEdit) (s : Plan) → stateFault (s .machine) (s .costs) (s .tasks .count) (s .tasks .list) ≡ 0
+    → editFault e (tasksHeld s) ≡ 0
+    → stateFault (s .machine) (s .costs) (length (edited byName e (tasksHeld s))) (edited byName e (tasksHeld s)) ≡ 0
+edit-faultless e s faultless right =
+    rightful-faultless (s .machine) (s .costs) (edited byName e (tasksHeld s)) (edited-rightful (s .machine) (s .costs) e (tasksHeld s)
+    (rightful-known (s .machine) (s .costs) (s .tasks .count) (s .tasks .list) faultless) right)
 
-pub edit-or-stuck : (e : TaskEdit) (s : Plan) → stateFault (s .machine) (s .costs) (s .tasks .count) (s .tasks .list) ≡ 0 → editFault e (tasksHeld s) ≡ 0 → (editOf e s .number ≡ 0) ⊎ ((k : ℕ) × (walked (s .machine) (s .costs) (edited byName e (tasksHeld s)) ≡ stuck k 7) × (editOf e s ≡ givenBack s 7 (suc k)))
-edit-or-stuck e s faultless right = subst (Ends s (edited byName e (tasksHeld s))) (sym (edit-goes e s faultless right)) (replanned-ends s (edited byName e (tasksHeld s)) (edit-faultless e s faultless right))
+pub edit-or-stuck : (e : TaskEdit) (s : Plan) → stateFault (s .machine) (s .costs) (s .tasks .count) (s .tasks .list) ≡ 0
+    → editFault e (tasksHeld s) ≡ 0 → (editOf e s .number ≡ 0)
+    ⊎ ((k : ℕ) × (walked (s .machine) (s .costs) (edited byName e (tasksHeld s)) ≡ stuck k 7) × (editOf e s ≡ givenBack s 7 (suc k)))
+edit-or-stuck e s faultless right =
+    subst (Ends s (edited byName e (tasksHeld s))) (sym (edit-goes e s faultless right))
+    (replanned-ends s (edited byName e (tasksHeld s)) (edit-faultless e s faultless right))
 
 -- ---- any sequence of edits
 
@@ -74,7 +82,8 @@ after-edits (e ∷ es) s held =
     let next = after-edits es (editOf e s .plan) (edit-keeps e s .2 held) in
     (next .0, next .1 ∙ edit-same e s .0, next .2 ∙ edit-same e s .1)
 
-pub after-edits-afresh : (es : List TaskEdit) (s : Plan) → Held s → planOf (s .machine) (s .costs) (played es s .tasks .count) (played es s .tasks .list) ≡ accepted (played es s)
+pub after-edits-afresh : (es : List TaskEdit) (s : Plan) → Held s
+    → planOf (s .machine) (s .costs) (played es s .tasks .count) (played es s .tasks .list) ≡ accepted (played es s)
 unfolding Held
 after-edits-afresh es s held =
     let now = after-edits es s held in
@@ -84,7 +93,8 @@ after-edits-afresh es s held =
 
 -- ---- what an accepted edit keeps
 
-pub same-stand : (m : Machine) (c : Costs) (p p′ : List Task) (s s′ : Stand) (l l′ : List (Placed Task)) → walkOver (taskWay m c) p ≡ fine s l → walkOver (taskWay m c) p′ ≡ fine s′ l′ → s .core ≡ s′ .core → s .row ≡ s′ .row → Meet (taskWay m c) p p′
+pub same-stand : (m : Machine) (c : Costs) (p p′ : List Task) (s s′ : Stand) (l l′ : List (Placed Task)) → walkOver (taskWay m c) p
+    ≡ fine s l → walkOver (taskWay m c) p′ ≡ fine s′ l′ → s .core ≡ s′ .core → s .row ≡ s′ .row → Meet (taskWay m c) p p′
 same-stand m c = stands-meet c (m .grain) (m .cores) wholeOf
 
 module _ (e : TaskEdit) (s : Plan) (held : Held s) (taken : editOf e s .number ≡ 0) where
@@ -101,19 +111,24 @@ module _ (e : TaskEdit) (s : Plan) (held : Held s) (taken : editOf e s .number �
   walks : walkOf (taskWay (s .machine) (s .costs)) (tasksHeld (editOf e s .plan)) ≡ fine (is .stand) (is .log)
   walks =
       let tasks = tasksHeld (editOf e s .plan) in
-      ap (λ (m : Machine). walkOf (taskWay m (s .costs)) tasks) (sym (edit-same e s .0)) ∙ (ap (λ (c : Costs). walkOf (taskWay (editOf e s .plan .machine) c) tasks) (sym (edit-same e s .1)) ∙ is .walks)
+      ap (λ (m : Machine). walkOf (taskWay m (s .costs)) tasks) (sym (edit-same e s .0))
+      ∙ (ap (λ (c : Costs). walkOf (taskWay (editOf e s .plan .machine) c) tasks) (sym (edit-same e s .1)) ∙ is .walks)
 
   pub edit-before : (b : Name) → Ahead (editedName e) b (tasksHeld s) → Ahead (editedName e) b (tasksHeld (editOf e s .plan)) → Keeps s (editOf e s .plan) b
   unfolding Keeps
   edit-before b old new q low =
       was .shows b q low
-      ∙ (kept-before (taskWay (s .machine) (s .costs)) Timed (denser-lawful wholeOf) byName name-exact around (was .sorts) (is .sorts) (was .walks) walks b (old .ahead) (new .ahead) q
+      ∙ (kept-before (taskWay (s .machine) (s .costs)) Timed (denser-lawful wholeOf) byName name-exact around (was .sorts) (is .sorts)
+      (was .walks) walks b (old .ahead) (new .ahead) q
       ∙ sym (is .shows b q low))
 
-  pub edit-after : {p r p′ r′ : List Task} {b b′ : Task} → Behind byName (editedName e) (inOrder (tasksHeld s)) p b r → Behind byName (editedName e) (inOrder (tasksHeld (editOf e s .plan))) p′ b′ r′ → b .name ≡ b′ .name → Meet (taskWay (s .machine) (s .costs)) p p′ →
+  pub edit-after : {p r p′ r′ : List Task} {b b′ : Task} → Behind byName (editedName e) (inOrder (tasksHeld s)) p b r
+      → Behind byName (editedName e) (inOrder (tasksHeld (editOf e s .plan))) p′ b′ r′ → b .name ≡ b′ .name
+      → Meet (taskWay (s .machine) (s .costs)) p p′ →
       (d : Name) → Among byName d (b ∷ r) → Keeps s (editOf e s .plan) d
   unfolding Keeps
   edit-after old new same meet d among q low =
       was .shows d q low
-      ∙ (kept-after (taskWay (s .machine) (s .costs)) Timed (denser-lawful wholeOf) byName name-exact around (was .sorts) (is .sorts) (was .walks) walks old new same meet d among q
+      ∙ (kept-after (taskWay (s .machine) (s .costs)) Timed (denser-lawful wholeOf) byName name-exact around (was .sorts) (is .sorts)
+      (was .walks) walks old new same meet d among q
       ∙ sym (is .shows d q low))

@@ -25,7 +25,7 @@ use Rattle.walks.specs.Halves.{denser}
 use Rattle.plan.specs.declared.Stored.{Stored}
 use Rattle.plan.specs.declared.Plan.{Plan}
 use Rattle.plan.specs.Walk.{wholeOf}
-use Rattle.plan.specs.Layout.{blank, pieceOf}
+use Rattle.plan.specs.Layout.{blank, keptPiece}
 use Rattle.plan.specs.Shows.{numbersOn}
 use Rattle.edits.specs.Edits.{byName, TaskEdit, tasksHeld}
 
@@ -40,7 +40,7 @@ abbrev pub ofPlace : ℕ → List Stored → List Stored
 ofPlace k l = only (λ x. eqb (suc (x .task)) k) l
 
 unfoldable pub piecesOn : Plan → Name → ℕ → List Piece
-piecesOn s n q = map pieceOf (ofPlace (placeOf 1 n (tasksHeld s)) (rowIn s q))
+piecesOn s n q = map keptPiece (ofPlace (placeOf 1 n (tasksHeld s)) (rowIn s q))
 
 unfoldable pub Keeps : Plan → Plan → Name → Type 0
 Keeps s s′ n = (q : ℕ) → q < 16 → piecesOn s n q ≡ piecesOn s′ n q

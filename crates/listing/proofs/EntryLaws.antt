@@ -30,7 +30,7 @@ use Rattle.task.specs.declared.Name.{Name}
 use Rattle.task.specs.Tasks.{taskAt, coresMost}
 use Rattle.plan.specs.declared.Stored.{Stored}
 use Rattle.plan.specs.declared.Plan.{Plan}
-use Rattle.plan.specs.Layout.{pieceOf, blank}
+use Rattle.plan.specs.Layout.{keptPiece, blank}
 use Rattle.plan.proofs.Lists.{map-more}
 use Rattle.lines.specs.Lines.{bytesOf, tab}
 use Rattle.listing.specs.Text.{ended, decimal}
@@ -42,7 +42,7 @@ spelling-capped n r h f l =
     ⊎-elim (λ e. rw e) (λ s. let z : r ≡ 24 = f s in take-all r (n .bytes) (omega arith) ∙ sym (take-all (n .len) (n .bytes) (omega arith)))
     (eq-or-lt-of-le h)
 
-pub piece-line : (c : Costs) (q : ℕ) (name : List ℕ) (s : Stored) (n : ℕ) (a : Piece) (charged : ℕ) → n ≡ q + 1 → a ≡ pieceOf s → charged ≡ chargedTime c a
+pub piece-line : (c : Costs) (q : ℕ) (name : List ℕ) (s : Stored) (n : ℕ) (a : Piece) (charged : ℕ) → n ≡ q + 1 → a ≡ keptPiece s → charged ≡ chargedTime c a
     → ended tab (bytesOf "piece") ++ (ended tab (decimal n) ++ (ended tab name
     ++ (ended tab (kindWord (a .kind)) ++ figuresLine (s .budget) (s .window) (s .jitter) charged))) ≡ entryLine (entryWith c q name s)
 unfolding entryLine

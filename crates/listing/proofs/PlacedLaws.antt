@@ -15,7 +15,7 @@ use native.Mathlib.Decide.{decLt}
 use native.Mathlib.Omega.{arith}
 use borrow.Author.Tests.{ne-eqb, eqb-true, eqb-false}
 use lib.Dec.{eqb}
-use lib.ListN.{length, take, drop, getD, length-append, length-map, List·getD-append}
+use lib.ListN.{length-take, length, take, drop, getD, length-append, length-map, List·getD-append}
 use lib.Seq.{take-take}
 use Rattle.demand.specs.declared.Piece.{Piece}
 use Rattle.demand.specs.declared.Costs.{Costs}
@@ -26,8 +26,8 @@ use Rattle.demand.proofs.ChargeLaws.{charged-time-is}
 use Rattle.demand.proofs.Sums.{each-imp}
 use Rattle.task.specs.declared.Task.{Task}
 use Rattle.task.specs.declared.Machine.{Machine}
-use Rattle.task.specs.Tasks.{taskAt, past, stateFault}
-use Rattle.task.proofs.TaskLaws.{state-sane}
+use Rattle.task.specs.Tasks.{taskAt, stateFault, tasksMost, tasksOf}
+use Rattle.task.proofs.TaskLaws.{state-sane, tasks-at}
 use Rattle.plan.specs.declared.Layout.{Layout}
 use Rattle.plan.specs.declared.Plan.{Plan}
 use Rattle.plan.specs.declared.Reply.{Reply}
@@ -35,8 +35,9 @@ use Rattle.walks.specs.Lists.{keep}
 use Rattle.walks.specs.Way.{Placed, fine, onCore, rowOf}
 use Rattle.walks.specs.Halves.{Stand}
 use Rattle.plan.specs.Walk.{walked}
-use Rattle.plan.specs.Layout.{pieceOf, blank}
-use Rattle.plan.specs.Plan.{padded, finished, planOf}
+use Rattle.plan.specs.Layout.{keptPiece, blank}
+use Rattle.plan.specs.Plan.{finished, planOf}
+use Rattle.task.specs.declared.Tasks.{Tasks}
 use Rattle.plan.specs.Shows.{storedOf, LayoutShows}
 use Rattle.plan.proofs.GoingLaws.{piece-stored}
 use Rattle.plan.proofs.Theorems.{placed-places, placed-sized, plan-counts, plan-shows}
@@ -73,15 +74,15 @@ map-same P f g same [] ok = refl
 map-same P f g same (a ∷ x) ok = cc (same a (ok .0), map-same P f g same x (ok .1))
 
 -- the entry of what was placed, from the plan's struct
-entry-placed : (p : Plan) (c : Costs) (ts : List Task) (q : ℕ) (e : Placed ℕ) → p .costs ≡ c → p .tasks .list ≡ padded ts → SizedCosts c
+entry-placed : (p : Plan) (c : Costs) (ts : List Task) (q : ℕ) (e : Placed ℕ) → p .costs ≡ c → length ts ≤ tasksMost → p .tasks ≡ tasksOf ts → SizedCosts c
     → Seated (length ts) e → e .on ≡ q → entryOf p q (storedOf e) ≡ placedEntry c ts e
-unfolding entryOf placedEntry padded
-entry-placed p c ts q e costs list sizes seat on =
-    let piece : pieceOf (storedOf e) ≡ e .piece = piece-stored (e .item) (e .piece) in
-    let task : taskAt (p .tasks .list) (e .item) ≡ taskAt ts (e .item) = ap (λ (l : List Task). taskAt l (e .item)) list
-    ∙ List·getD-append ts _ past (e .item) (seat .low) in
-    let time : chargedTime (p .costs) (pieceOf (storedOf e)) ≡ charge c (e .piece) = rw (piece, costs) (charged-time-is c (e .piece) sizes (seat .size)) in
-    let kind : pieceOf (storedOf e) .kind ≡ e .piece .kind = ap (λ (z : Piece). z .kind) piece in
+unfolding entryOf placedEntry
+entry-placed p c ts q e costs few list sizes seat on =
+    let piece : keptPiece (storedOf e) ≡ e .piece = piece-stored (e .item) (e .piece) in
+    let task : taskAt (p .tasks .list) (e .item) ≡ taskAt ts (e .item) = ap (λ (q : Tasks). taskAt (q .list) (e .item)) list
+    ∙ tasks-at ts (e .item) few (seat .low) in
+    let time : chargedTime (p .costs) (keptPiece (storedOf e)) ≡ charge c (e .piece) = rw (piece, costs) (charged-time-is c (e .piece) sizes (seat .size)) in
+    let kind : keptPiece (storedOf e) .kind ≡ e .piece .kind = ap (λ (z : Piece). z .kind) piece in
     cc (on, task, time, kind)
 
 -- a row of at most 64 is listed whole
@@ -136,12 +137,13 @@ module _ (m : Machine) (c : Costs) (n : ℕ) (ts : List Task) (faultless : state
       let p : Plan = planOf m c n ts .plan in
       let k : ℕ = length (take n ts) in
       let costs : p .costs ≡ c = ap (λ (r : Reply). r .plan .costs) plan-is in
-      let list : p .tasks .list ≡ padded (take n ts) = ap (λ (r : Reply). r .plan .tasks .list) plan-is in
+      let list : p .tasks ≡ tasksOf (take n ts) = ap (λ (r : Reply). r .plan .tasks) plan-is in
+      let few : length (take n ts) ≤ tasksMost = omega (arith, length-take n ts, state-sane m c n ts faultless .few) in
       ap (map (entryOf p q)) (row-pieces (p .layout) l q (plan-shows m c n ts faultless s l planned) low
       (plan-counts m c n ts faultless s l planned .row-fits q))
       ∙ (map-map (entryOf p q) storedOf (onCore q l)
       ∙ map-same (λ e. Seated k e × (e .on ≡ q)) (λ e. entryOf p q (storedOf e)) (placedEntry c (take n ts))
-      (λ e seat. entry-placed p c (take n ts) q e costs list (state-sane m c n ts faultless .costs) (seat .0) (seat .1)) (onCore q l)
+      (λ e seat. entry-placed p c (take n ts) q e costs few list (state-sane m c n ts faultless .costs) (seat .0) (seat .1)) (onCore q l)
       (each-on (Seated k) q l (all-seated m c n ts faultless s l planned)))
 
   rows-count : (k : ℕ) → k ≤ 16 → length (entriesOn (planOf m c n ts .plan) k) ≡ onFirstCores k l

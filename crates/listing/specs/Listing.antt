@@ -28,7 +28,7 @@ use Rattle.task.specs.Tasks.{taskAt, tasksMost, coresMost}
 use Rattle.plan.specs.declared.Stored.{Stored}
 use Rattle.plan.specs.declared.Layout.{Layout}
 use Rattle.plan.specs.declared.Plan.{Plan}
-use Rattle.plan.specs.Layout.{pieceOf, blank}
+use Rattle.plan.specs.Layout.{keptPiece, blank}
 use Rattle.lines.specs.Lines.{bytesOf, tab}
 use Rattle.listing.specs.Text.{ended, lineOf, decimal}
 
@@ -59,7 +59,7 @@ entryWith c q n s = record {
   budget = s .budget;
   window = s .window;
   jitter = s .jitter;
-  charged = chargedTime c (pieceOf s);
+  charged = chargedTime c (keptPiece s);
 }
 
 unfoldable pub entryOf : Plan → ℕ → Stored → Entry

@@ -35,7 +35,11 @@ module _ (c : Costs) (records : List ℕ) (n : ℕ) (q : Piece) (fits : AskFits 
   module _ (more : List ℕ) (behind : firstRecords more (n + 1) ≡ firstRecords records n ++ (q ∷ [])) where
     judged-row : answerOf c (n + 1) (recordsOf more) ≡ Judged (verdictOf c (firstRecords records n ++ (q ∷ [])))
     judged-row =
-        taken-answer c (n + 1) (recordsOf more) (record { few = omega (arith, fits .free); costs = fits .costs; each = rw behind (each-snoc Sized (firstRecords records n) q (fits .sizes) size) })
+        taken-answer c (n + 1) (recordsOf more) (record {
+          few = omega (arith, fits .free);
+          costs = fits .costs;
+          each = rw behind (each-snoc Sized (firstRecords records n) q (fits .sizes) size);
+        })
         ∙ ap (λ (l : List Piece). Judged (verdictOf c l)) behind
 
     module _ (a : Answer) (answer-is : a ≡ answerOf c (n + 1) (recordsOf more)) where
@@ -48,10 +52,17 @@ module _ (c : Costs) (records : List ℕ) (n : ℕ) (q : Piece) (fits : AskFits 
   -- ---- the split
 
   all : take (n + 1) (firstRecords records n ++ (q ∷ [])) ≡ firstRecords records n ++ (q ∷ [])
-  all = take-all (n + 1) (firstRecords records n ++ (q ∷ [])) (rw length-append (omega (arith, length-take-le n (recordsOf records) (omega (arith, fits .free, records-length records)))))
+  all =
+      take-all (n + 1) (firstRecords records n ++ (q ∷ []))
+      (rw length-append (omega (arith, length-take-le n (recordsOf records) (omega (arith, fits .free, records-length records)))))
 
   fine : checkRun c (n + 1) (firstRecords records n ++ (q ∷ [])) ≡ Fine
-  fine = taken-check c (n + 1) (firstRecords records n ++ (q ∷ [])) (record { few = omega (arith, fits .free); costs = fits .costs; each = rw all (each-snoc Sized (firstRecords records n) q (fits .sizes) size) })
+  fine =
+      taken-check c (n + 1) (firstRecords records n ++ (q ∷ [])) (record {
+        few = omega (arith, fits .free);
+        costs = fits .costs;
+        each = rw all (each-snoc Sized (firstRecords records n) q (fits .sizes) size);
+      })
 
   split-row : (r : ℕ) → splitOf c n (recordsOf records) q r ≡ Best (greatestSplit c r (firstRecords records n) q)
   unfolding splitOf

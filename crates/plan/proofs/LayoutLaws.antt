@@ -49,12 +49,17 @@ pub count-is : (s : Layout) (l : List (Placed ℕ)) → layoutOn s l .count ≡ 
 count-is s [] = omega arith
 count-is s (e ∷ l) = omega (arith, count-is (putOf s (e .on) (e .item) (e .piece)) l, put-count s (e .on) (e .item) (e .piece))
 
-pub lens-is : (l : List (Placed ℕ)) (s : Layout) → length (s .lens) ≡ 16 → Each (λ e. e .on < 16) l → (q : ℕ) → getD (layoutOn s l .lens) q 0 ≡ getD (s .lens) q 0 + length (onCore q l)
+pub lens-is : (l : List (Placed ℕ)) (s : Layout) → length (s .lens) ≡ 16 → Each (λ e. e .on < 16) l → (q : ℕ)
+    → getD (layoutOn s l .lens) q 0 ≡ getD (s .lens) q 0 + length (onCore q l)
 lens-is [] s z h q = omega arith
 lens-is (e ∷ l) s z h q = by (eqb (e .on) q) refl (lens-is l (putOf s (e .on) (e .item) (e .piece)) (put-size s (e .on) (e .item) (e .piece) ∙ z) (h .1) q)
   where
-    by : (t : Bool) → eqb (e .on) q ≡ t → getD (layoutOn (putOf s (e .on) (e .item) (e .piece)) l .lens) q 0 ≡ getD (putOf s (e .on) (e .item) (e .piece) .lens) q 0 + length (onCore q l) → getD (layoutOn (putOf s (e .on) (e .item) (e .piece)) l .lens) q 0 ≡ getD (s .lens) q 0 + length (keep t e (onCore q l))
-    by true f r = let g = subst (λ (x : ℕ). getD (putOf s (e .on) (e .item) (e .piece) .lens) x 0 ≡ getD (s .lens) x 0 + 1) (eqb-true (e .on) q f) (put-here s (e .on) (e .item) (e .piece) (omega (arith, h .0))) in omega arith
+    by : (t : Bool) → eqb (e .on) q ≡ t → getD (layoutOn (putOf s (e .on) (e .item) (e .piece)) l .lens) q 0
+        ≡ getD (putOf s (e .on) (e .item) (e .piece) .lens) q 0 + length (onCore q l)
+        → getD (layoutOn (putOf s (e .on) (e .item) (e .piece)) l .lens) q 0 ≡ getD (s .lens) q 0 + length (keep t e (onCore q l))
+    by true f r =
+        let g = subst (λ (x : ℕ). getD (putOf s (e .on) (e .item) (e .piece) .lens) x 0 ≡ getD (s .lens) x 0 + 1) (eqb-true (e .on) q f)
+        (put-here s (e .on) (e .item) (e .piece) (omega (arith, h .0))) in omega arith
     by false f r = omega (arith, put-other s (e .on) (e .item) (e .piece) q (eqb-false (e .on) q f))
 
 pub zeros : (n i : ℕ) → _≡_ {A = ℕ} (getD (replicate n 0) i 0) 0
@@ -111,5 +116,7 @@ module _ (a : List ℕ) (s : Layout) (i : ℕ) (laid : Laying a s i) (p k : ℕ)
     pub row-room : getD (s .lens) p 0 < 64
     row-room =
         let on : p ≡ placedAt a i .on = ap (λ (e : Placed ℕ). e .on) seat in
-        let len : getD (s .lens) p 0 ≡ getD (none .lens) p 0 + length (onCore p (placedIn a i)) = ap (λ (z : Layout). getD (z .lens) p 0) (laid .is) ∙ lens-is (placedIn a i) none none-size (placed-front (λ e. e .on < 16) a n (fits .cores) i (omega arith)) p in
+        let len : getD (s .lens) p 0 ≡ getD (none .lens) p 0 + length (onCore p (placedIn a i)) =
+        ap (λ (z : Layout). getD (z .lens) p 0) (laid .is)
+        ∙ lens-is (placedIn a i) none none-size (placed-front (λ e. e .on < 16) a n (fits .cores) i (omega arith)) p in
         omega (arith, len, none-zero p, rw (← on) at (row-fits a n fits i low))

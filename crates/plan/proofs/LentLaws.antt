@@ -40,7 +40,8 @@ sets-past : (vs a : List ℕ) (at k : ℕ) → at + length vs ≤ k → getD (se
 sets-past [] a at k h = refl
 sets-past (v ∷ vs) a at k h = sets-past vs (set a at v) (suc at) k (omega arith) ∙ getD-set-other a at k v 0 (λ same. omega arith)
 
-pub sets-six : (a : List ℕ) (at u v w x y z : ℕ) → set (set (set (set (set (set a at u) (at + 1) v) (at + 2) w) (at + 3) x) (at + 4) y) (at + 5) z ≡ sets a at (u ∷ v ∷ w ∷ x ∷ y ∷ z ∷ [])
+pub sets-six : (a : List ℕ) (at u v w x y z : ℕ)
+    → set (set (set (set (set (set a at u) (at + 1) v) (at + 2) w) (at + 3) x) (at + 4) y) (at + 5) z ≡ sets a at (u ∷ v ∷ w ∷ x ∷ y ∷ z ∷ [])
 sets-six a at u v w x y z =
     let e1 : at + 1 ≡ suc at = omega arith in
     let e2 : at + 2 ≡ suc (suc at) = omega arith in
@@ -49,7 +50,9 @@ sets-six a at u v w x y z =
     let e5 : at + 5 ≡ suc (suc (suc (suc (suc at)))) = omega arith in
     rw (e1, e2, e3, e4, e5)
 
-sets-nine : (a : List ℕ) (at u v w x y z o p q : ℕ) → set (set (set (set (set (set (set (set (set a at u) (at + 1) v) (at + 2) w) (at + 3) x) (at + 4) y) (at + 5) z) (at + 6) o) (at + 7) p) (at + 8) q ≡ sets a at (u ∷ v ∷ w ∷ x ∷ y ∷ z ∷ o ∷ p ∷ q ∷ [])
+sets-nine : (a : List ℕ) (at u v w x y z o p q : ℕ)
+    → set (set (set (set (set (set (set (set (set a at u) (at + 1) v) (at + 2) w) (at + 3) x) (at + 4) y) (at + 5) z) (at + 6) o) (at + 7) p)
+    (at + 8) q ≡ sets a at (u ∷ v ∷ w ∷ x ∷ y ∷ z ∷ o ∷ p ∷ q ∷ [])
 sets-nine a at u v w x y z o p q =
     let e6 : at + 6 ≡ suc (suc (suc (suc (suc (suc at))))) = omega arith in
     let e7 : at + 7 ≡ suc (suc (suc (suc (suc (suc (suc at)))))) = omega arith in
@@ -64,7 +67,14 @@ sixOf t = t .worst ∷ t .deadline ∷ t .period ∷ t .jitter ∷ t .preempt �
 times-same : (a b : List ℕ) (i : ℕ) → ((k : ℕ) → 6 * i ≤ k → k < 6 * i + 6 → getD a k 0 ≡ getD b k 0) → timesAt a i ≡ timesAt b i
 unfolding timesAt
 times-same a b i same =
-    cc (same (6 * i) (omega arith) (omega arith), same (6 * i + 1) (omega arith) (omega arith), same (6 * i + 2) (omega arith) (omega arith), same (6 * i + 3) (omega arith) (omega arith), same (6 * i + 4) (omega arith) (omega arith), same (6 * i + 5) (omega arith) (omega arith))
+    cc (
+      same (6 * i) (omega arith) (omega arith),
+      same (6 * i + 1) (omega arith) (omega arith),
+      same (6 * i + 2) (omega arith) (omega arith),
+      same (6 * i + 3) (omega arith) (omega arith),
+      same (6 * i + 4) (omega arith) (omega arith),
+      same (6 * i + 5) (omega arith) (omega arith),
+    )
 
 module _ (a : List ℕ) (i : ℕ) (t : Times) (room : 6 * i + 6 ≤ length a) where
   pub times-put : timesAt (sets a (6 * i) (sixOf t)) i ≡ t
@@ -72,7 +82,8 @@ module _ (a : List ℕ) (i : ℕ) (t : Times) (room : 6 * i + 6 ≤ length a) wh
   times-put =
       let at : (k : ℕ) → k < 6 → getD (sets a (6 * i) (sixOf t)) (6 * i + k) 0 ≡ getD (sixOf t) k 0 = sets-there a (6 * i) (sixOf t) room in
       let head : getD (sets a (6 * i) (sixOf t)) (6 * i) 0 ≡ t .worst = rw add-zero at (at 0 (omega arith)) in
-      let e : timesAt (sets a (6 * i) (sixOf t)) i ≡ record { worst = t .worst; deadline = t .deadline; period = t .period; jitter = t .jitter; preempt = t .preempt; migrate = t .migrate } =
+      let e : timesAt (sets a (6 * i) (sixOf t)) i
+      ≡ record { worst = t .worst; deadline = t .deadline; period = t .period; jitter = t .jitter; preempt = t .preempt; migrate = t .migrate } =
       cc (head, at 1 (omega arith), at 2 (omega arith), at 3 (omega arith), at 4 (omega arith), at 5 (omega arith)) in
       e
 
@@ -91,7 +102,15 @@ zeros-at (suc n) (suc i) = zeros-at n i
 
 pub laid-none : (ts : List Task) → Laid (replicate 384 0) (take 0 ts)
 unfolding timesAt
-laid-none ts i = cc (zeros-at 384 (6 * i), zeros-at 384 (6 * i + 1), zeros-at 384 (6 * i + 2), zeros-at 384 (6 * i + 3), zeros-at 384 (6 * i + 4), zeros-at 384 (6 * i + 5))
+laid-none ts i =
+    cc (
+      zeros-at 384 (6 * i),
+      zeros-at 384 (6 * i + 1),
+      zeros-at 384 (6 * i + 2),
+      zeros-at 384 (6 * i + 3),
+      zeros-at 384 (6 * i + 4),
+      zeros-at 384 (6 * i + 5),
+    )
 
 task-kept : (ts : List Task) (i j : ℕ) → i < length ts → (j ≡ i → ⊥) → taskAt (take i ts) j ≡ taskAt (take (i + 1) ts) j
 task-kept ts i j inside other =
@@ -99,10 +118,12 @@ task-kept ts i j inside other =
     let longer : length (take (i + 1) ts) ≡ i + 1 = length-take-le (i + 1) ts (omega arith) in
     elim (decLt j i) [
       | yes below ↦ rw (take-more ts i past inside, List·getD-append (take i ts) (taskAt ts i ∷ []) past j (omega arith))
-      | no above ↦ (let over : i < j = omega arith in List·getD-eq-default (take i ts) past {n = j} (omega arith) ∙ sym (List·getD-eq-default (take (i + 1) ts) past {n = j} (omega arith)))
+      | no above ↦ (let over : i < j = omega arith in List·getD-eq-default (take i ts) past {n = j} (omega arith)
+          ∙ sym (List·getD-eq-default (take (i + 1) ts) past {n = j} (omega arith)))
     ]
 
-pub laid-more : (a b : List ℕ) (ts : List Task) (i : ℕ) → i < length ts → Laid a (take i ts) → timesAt b i ≡ taskAt ts i .times → OthersKept i a b → Laid b (take (i + 1) ts)
+pub laid-more : (a b : List ℕ) (ts : List Task) (i : ℕ) → i < length ts → Laid a (take i ts) → timesAt b i ≡ taskAt ts i .times
+    → OthersKept i a b → Laid b (take (i + 1) ts)
 laid-more a b ts i inside laid new kept j = elim (ℕ-discrete j i) [
   | yes same ↦ rw (same, getD-take (i + 1) ts i past (omega arith)) new
   | no other ↦ kept j other ∙ (laid j ∙ ap (λ (t : Task). t .times) (task-kept ts i j inside other))
@@ -133,11 +154,29 @@ placed-front P a (suc n) ok i h = elim (decLt i (suc n)) [
 placed-same : (a b : List ℕ) (i : ℕ) → ((k : ℕ) → k < 9 * i + 9 → getD a k 0 ≡ getD b k 0) → placedAt a i ≡ placedAt b i
 unfolding placedAt
 placed-same a b i same =
-    cc (same (9 * i) (omega arith), same (9 * i + 1) (omega arith), same (9 * i + 2) (omega arith), same (9 * i + 3) (omega arith), same (9 * i + 4) (omega arith), same (9 * i + 5) (omega arith), same (9 * i + 6) (omega arith), same (9 * i + 7) (omega arith), same (9 * i + 8) (omega arith))
+    cc (
+      same (9 * i) (omega arith),
+      same (9 * i + 1) (omega arith),
+      same (9 * i + 2) (omega arith),
+      same (9 * i + 3) (omega arith),
+      same (9 * i + 4) (omega arith),
+      same (9 * i + 5) (omega arith),
+      same (9 * i + 6) (omega arith),
+      same (9 * i + 7) (omega arith),
+      same (9 * i + 8) (omega arith),
+    )
 
 -- nine reads
 pub seat-read : (a : List ℕ) (i p k : ℕ) (d : Kind) → p ≡ getD a (9 * i) 0 → k ≡ getD a (9 * i + 1) 0 → d ≡ kindOf (getD a (9 * i + 2) 0) →
-    seatOf p k (record { kind = d; budget = getD a (9 * i + 3) 0; window = getD a (9 * i + 4) 0; period = getD a (9 * i + 5) 0; jitter = getD a (9 * i + 6) 0; preempt = getD a (9 * i + 7) 0; migrate = getD a (9 * i + 8) 0 }) ≡ placedAt a i
+    seatOf p k (record {
+      kind = d;
+      budget = getD a (9 * i + 3) 0;
+      window = getD a (9 * i + 4) 0;
+      period = getD a (9 * i + 5) 0;
+      jitter = getD a (9 * i + 6) 0;
+      preempt = getD a (9 * i + 7) 0;
+      migrate = getD a (9 * i + 8) 0;
+    }) ≡ placedAt a i
 unfolding placedAt
 seat-read a i p k d core place kind = rw (core, place, kind)
 
@@ -151,8 +190,27 @@ module _ (a : List ℕ) (n p k : ℕ) (q : Piece) (room : 9 * n + 9 ≤ length a
       let at : (i : ℕ) → i < 9 → getD (sets a (9 * n) (nineOf p k q)) (9 * n + i) 0 ≡ getD (nineOf p k q) i 0 = sets-there a (9 * n) (nineOf p k q) room in
       let head : getD (sets a (9 * n) (nineOf p k q)) (9 * n) 0 ≡ p = rw add-zero at (at 0 (omega arith)) in
       let kind : kindOf (getD (sets a (9 * n) (nineOf p k q)) (9 * n + 2) 0) ≡ q .kind = ap kindOf (at 2 (omega arith)) ∙ kind-back (q .kind) in
-      let e : placedAt (sets a (9 * n) (nineOf p k q)) n ≡ seatOf p k (record { kind = q .kind; budget = q .budget; window = q .window; period = q .period; jitter = q .jitter; preempt = q .preempt; migrate = q .migrate }) =
-      cc (head, at 1 (omega arith), kind, at 3 (omega arith), at 4 (omega arith), at 5 (omega arith), at 6 (omega arith), at 7 (omega arith), at 8 (omega arith)) in
+      let e : placedAt (sets a (9 * n) (nineOf p k q)) n
+      ≡ seatOf p k (record {
+        kind = q .kind;
+        budget = q .budget;
+        window = q .window;
+        period = q .period;
+        jitter = q .jitter;
+        preempt = q .preempt;
+        migrate = q .migrate;
+      }) =
+      cc (
+        head,
+        at 1 (omega arith),
+        kind,
+        at 3 (omega arith),
+        at 4 (omega arith),
+        at 5 (omega arith),
+        at 6 (omega arith),
+        at 7 (omega arith),
+        at 8 (omega arith),
+      ) in
       e
 
   put-nine : length a ≡ 711 → Put a n (seatOf p k q) (sets a (9 * n) (nineOf p k q))
@@ -164,8 +222,15 @@ module _ (a : List ℕ) (n p k : ℕ) (q : Piece) (room : 9 * n + 9 ≤ length a
 
   -- one by one
   pub placed-put : length a ≡ 711 → (p′ k′ d : ℕ) → p′ ≡ p → k′ ≡ k → d ≡ kindNumber (q .kind) →
-      Put a n (seatOf p k q) (set (set (set (set (set (set (set (set (set a (9 * n) p′) (9 * n + 1) k′) (9 * n + 2) d) (9 * n + 3) (q .budget)) (9 * n + 4) (q .window)) (9 * n + 5) (q .period)) (9 * n + 6) (q .jitter)) (9 * n + 7) (q .preempt)) (9 * n + 8) (q .migrate))
-  placed-put size p′ k′ d core place kind = rw (core, place, kind, sets-nine a (9 * n) p k (kindNumber (q .kind)) (q .budget) (q .window) (q .period) (q .jitter) (q .preempt) (q .migrate)) (put-nine size)
+      Put a n (seatOf p k q) (set (set (set (set (set (set (set (set (set a (9 * n) p′) (9 * n + 1) k′) (9 * n + 2) d) (9 * n + 3) (q .budget))
+      (9 * n + 4) (q .window)) (9 * n + 5) (q .period)) (9 * n + 6) (q .jitter)) (9 * n + 7) (q .preempt)) (9 * n + 8) (q .migrate))
+  placed-put size p′ k′ d core place kind =
+      rw (
+        core,
+        place,
+        kind,
+        sets-nine a (9 * n) p k (kindNumber (q .kind)) (q .budget) (q .window) (q .period) (q .jitter) (q .preempt) (q .migrate),
+      ) (put-nine size)
 
 pub put-in : (a : List ℕ) (n : ℕ) (e : Placed ℕ) (b : List ℕ) → Put a n e b → placedIn b (n + 1) ≡ placedIn a n ++ (e ∷ [])
 put-in a n e b put = cc (placed-more b n, firsts-same (placedAt b) (placedAt a) n (put .kept), put .there)

@@ -40,20 +40,38 @@ each-front P (suc i) zero l h ok = absurd (omega arith)
 each-front P (suc i) (suc n) [] h ok = tt
 each-front P (suc i) (suc n) (x ∷ l) h ok = (ok .0, each-front P i n l (omega arith) (ok .1))
 
-reach-behind : (log : List (Placed ℕ)) (placed records : List ℕ) (x : Going) (o : Ending Stand ℕ) → Reach log placed records x o → Reach [] placed records x (behind log o)
-reach-behind log placed records x (fine s l) h = record { still = h .still; core-is = h .core-is; len-is = h .len-is; row-is = h .row-is; placed-is = h .placed-is; placed-size = h .placed-size; records-size = h .records-size; seated = h .seated }
+reach-behind : (log : List (Placed ℕ)) (placed records : List ℕ) (x : Going) (o : Ending Stand ℕ) → Reach log placed records x o
+    → Reach [] placed records x (behind log o)
+reach-behind log placed records x (fine s l) h = record {
+  still = h .still;
+  core-is = h .core-is;
+  len-is = h .len-is;
+  row-is = h .row-is;
+  placed-is = h .placed-is;
+  placed-size = h .placed-size;
+  records-size = h .records-size;
+  seated = h .seated;
+}
 reach-behind log placed records x (stuck k n) h = h
 
-module _ (m : Machine) (c : Costs) (times order : List ℕ) (n : ℕ) (some : 1 ≤ m .cores) (few : m .cores ≤ 16) (costs : SizedCosts c) (sizes : Each (λ k. Sized (wholeIn times k)) (take n order)) (i : ℕ) (low : i < n) (in-order : i < length order) (in-tasks : i < 64)
+module _ (m : Machine) (c : Costs) (times order : List ℕ) (n : ℕ) (some : 1 ≤ m .cores) (few : m .cores ≤ 16) (costs : SizedCosts c)
+    (sizes : Each (λ k. Sized (wholeIn times k)) (take n order)) (i : ℕ) (low : i < n) (in-order : i < length order) (in-tasks : i < 64)
     (placed records : List ℕ) (g : Going) (walking : Walking placed records g (walkOver (wayFor m c (wholeIn times)) (take i order))) where
   planned : Planned (claims m c (timesAt times)) (take i order) (walking .at) (walking .past)
-  planned = walk-planned m c (timesAt times) costs some (take i order) (each-front (λ k. Sized (wholeIn times k)) i n order (omega arith) sizes) (walking .at) (walking .past) (walking .is)
+  planned =
+      walk-planned m c (timesAt times) costs some (take i order) (each-front (λ k. Sized (wholeIn times k)) i n order (omega arith) sizes)
+      (walking .at) (walking .past) (walking .is)
 
   -- a core's row is no longer than the number of tasks placed
   short : length (walking .at .row) ≤ length (take i order)
   short =
       let core = walking .at .core in
-      omega (arith, ap length (planned .faithful .here), length-map (onCore core (walking .past)) (λ (e : Placed ℕ). e .piece), few-on-core (m .cores) (wholeIn times) (claims m c (timesAt times) .Share) core (planned .shares))
+      omega (
+        arith,
+        ap length (planned .faithful .here),
+        length-map (onCore core (walking .past)) (λ (e : Placed ℕ). e .piece),
+        few-on-core (m .cores) (wholeIn times) (claims m c (timesAt times) .Share) core (planned .shares),
+      )
 
   pub land-fits : getD order i 0 < 64 → LandFits (m .cores) c placed records g (getD order i 0)
   land-fits below =
@@ -76,15 +94,18 @@ module _ (m : Machine) (c : Costs) (times order : List ℕ) (n : ℕ) (some : 1 
       }
 
   pub land-reach : (q : Piece) → wholeIn times (getD order i 0) ≡ q → (placed′ records′ : List ℕ) (x : Going) →
-      Reach (placedIn placed (g .count)) placed′ records′ x (landed (getD order i 0) (fromCore c (m .grain) q (m .cores - 1 - g .core) (g .core) (piecesOfRow placed (g .row)))) →
+      Reach (placedIn placed (g .count)) placed′ records′ x
+      (landed (getD order i 0) (fromCore c (m .grain) q (m .cores - 1 - g .core) (g .core) (piecesOfRow placed (g .row)))) →
       Reach [] placed′ records′ x (walkOver (wayFor m c (wholeIn times)) (take (i + 1) order))
   land-reach q e placed′ records′ x h =
       let k = walking in
       let W : Way ℕ = wayFor m c (wholeIn times) in
       let next = getD order i 0 in
       let more : walkOver W (take (i + 1) order) ≡ behind (k .past) (landed next (W .place (k .at) next)) =
-      ap (λ (j : ℕ). walkOver W (take j order)) (add-one i) ∙ (ap (walkOver W) (take-suc order i 0 in-order) ∙ walk-snoc W (W .begin) (k .at) (take i order) next (k .past) (k .is)) in
-      rw more (reach-behind (k .past) placed′ records′ x (landed next (W .place (k .at) next)) (rw (e, ← k .reached .placed-is, ← k .reached .core-is, ← k .reached .row-is) h))
+      ap (λ (j : ℕ). walkOver W (take j order)) (add-one i)
+      ∙ (ap (walkOver W) (take-suc order i 0 in-order) ∙ walk-snoc W (W .begin) (k .at) (take i order) next (k .past) (k .is)) in
+      rw more (reach-behind (k .past) placed′ records′ x (landed next (W .place (k .at) next))
+      (rw (e, ← k .reached .placed-is, ← k .reached .core-is, ← k .reached .row-is) h))
 
 module _ (placed records : List ℕ) (g : Going) where
   pub still-walking : (o : Ending Stand ℕ) → Reach [] placed records g o → g .stuck ≡ 0 → Walking placed records g o
@@ -92,14 +113,17 @@ module _ (placed records : List ℕ) (g : Going) where
   still-walking (stuck k n) h e = absurd (omega (arith, h .0, e))
 
   -- a walk that stuck stays stuck
-  stays-stuck : (m : Machine) (c : Costs) (w : ℕ → Piece) (xs ys : List ℕ) → Reach [] placed records g (walkOver (wayFor m c w) xs) → 0 < g .stuck → Reach [] placed records g (walkOver (wayFor m c w) (xs ++ ys))
+  stays-stuck : (m : Machine) (c : Costs) (w : ℕ → Piece) (xs ys : List ℕ) → Reach [] placed records g (walkOver (wayFor m c w) xs)
+      → 0 < g .stuck → Reach [] placed records g (walkOver (wayFor m c w) (xs ++ ys))
   stays-stuck m c w xs ys h some = by (walkOver (wayFor m c w) xs) refl h
     where
       by : (o : Ending Stand ℕ) → walkOver (wayFor m c w) xs ≡ o → Reach [] placed records g o → Reach [] placed records g (walkOver (wayFor m c w) (xs ++ ys))
       by (fine s l) is there = absurd (omega (arith, there .still))
       by (stuck k n) is there = rw (walk-stuck (wayFor m c w) (wayFor m c w .begin) xs ys k n is) there
 
-  pub walk-ended : (m : Machine) (c : Costs) (w : ℕ → Piece) (l : List ℕ) (i n : ℕ) → i ≤ n → Reach [] placed records g (walkOver (wayFor m c w) (take i l)) → 0 < g .stuck → Reach [] placed records g (walkOver (wayFor m c w) (take n l))
+  pub walk-ended : (m : Machine) (c : Costs) (w : ℕ → Piece) (l : List ℕ) (i n : ℕ) → i ≤ n
+      → Reach [] placed records g (walkOver (wayFor m c w) (take i l)) → 0 < g .stuck
+      → Reach [] placed records g (walkOver (wayFor m c w) (take n l))
   walk-ended m c w l i n h there e =
       let more : n ≡ i + (n - i) = omega arith in
       rw (ap (λ (k : ℕ). take k l) more ∙ take-add i (n - i) l) (stays-stuck m c w (take i l) (take (n - i) (drop i l)) there e)
@@ -107,11 +131,22 @@ module _ (placed records : List ℕ) (g : Going) where
   pub walking-reach : (o : Ending Stand ℕ) → Walking placed records g o → Reach [] placed records g o
   walking-reach o k = rw (k .is) (k .reached)
 
-pub begins : (m : Machine) (c : Costs) (w : ℕ → Piece) (order placed records : List ℕ) → length placed ≡ 711 → length records ≡ 553 → Walking placed records beginOf (walkOver (wayFor m c w) (take 0 order))
+pub begins : (m : Machine) (c : Costs) (w : ℕ → Piece) (order placed records : List ℕ) → length placed ≡ 711 → length records ≡ 553
+    → Walking placed records beginOf (walkOver (wayFor m c w) (take 0 order))
 unfolding beginOf
 begins m c w order placed records placed-size records-size = record {
   at = record { core = 0; row = [] };
   past = [];
   is = refl;
-  reached = record { still = refl; core-is = refl; len-is = refl; row-is = refl; placed-is = refl; placed-size = placed-size; records-size = records-size; seated = record { size = refl; below = tt } };
+  reached =
+      record {
+        still = refl;
+        core-is = refl;
+        len-is = refl;
+        row-is = refl;
+        placed-is = refl;
+        placed-size = placed-size;
+        records-size = records-size;
+        seated = record { size = refl; below = tt };
+      };
 }

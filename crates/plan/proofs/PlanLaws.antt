@@ -26,7 +26,7 @@ use Rattle.demand.proofs.Sums.{each-imp}
 use Rattle.task.specs.declared.Task.{Task}
 use Rattle.task.specs.declared.Tasks.{Tasks}
 use Rattle.task.specs.declared.Machine.{Machine}
-use Rattle.task.specs.Tasks.{wholePiece, past, taskAt, placeOf, rule, orElse, faultOf, firstFault, stateFault, sizedMachine, tasksMost}
+use Rattle.task.specs.Tasks.{wholePiece, past, taskAt, placeOf, rule, orElse, faultOf, firstFault, stateFault, sizedMachine, tasksMost, noTask}
 use Rattle.task.specs.Names.{formed}
 use Rattle.task.proofs.TaskLaws.{Sane}
 use Rattle.plan.specs.declared.Layout.{Layout}
@@ -40,7 +40,8 @@ use Rattle.walks.proofs.WayLaws.{walk-items}
 use Rattle.walks.proofs.SoundLaws.{spots-within, few-on-core}
 use Rattle.plan.specs.Walk.{wholeAt, wayFor, placeWay, upto, walked}
 use Rattle.plan.specs.Layout.{none, layoutOn}
-use Rattle.plan.specs.Plan.{padded, refused, finished, planOf}
+use Rattle.plan.specs.Plan.{refused, finished, planOf}
+use Rattle.demand.specs.Lists.{padded}
 use Rattle.plan.specs.ways.TimesArray.{timesAt, Laid, wholeIn, denserIn, Small, SmallIn}
 use Rattle.plan.specs.ways.PlacedArray.{placedIn, HasRoom}
 use Rattle.plan.specs.ways.WalkGoing.{WalkFits, Reach}
@@ -78,15 +79,18 @@ upto-each P (suc n) h = behind (upto n) (upto-each P n (λ i less. h i (omega ar
     behind [] ok = (h n (omega arith), tt)
     behind (i ∷ l) ok = (ok .0, behind l (ok .1))
 
-module _ (m : Machine) (c : Costs) (n : ℕ) (ts : List Task) (long : length ts ≡ 64) (sane : Sane m c n ts) (times : List ℕ) (laid : Laid times (take n ts)) (order : List ℕ) (packed : take n order ≡ pack (denserIn times) (upto n)) where
+module _ (m : Machine) (c : Costs) (n : ℕ) (ts : List Task) (long : length ts ≡ 64) (sane : Sane m c n ts) (times : List ℕ)
+    (laid : Laid times (take n ts)) (order : List ℕ) (packed : take n order ≡ pack (denserIn times) (upto n)) where
   whole : length (take n ts) ≡ n
   whole = length-take-le n ts (omega (arith, sane .few))
 
   sizes : Each (λ k. Sized (wholeIn times k)) (take n order)
   sizes = rw packed (pack-every (denserIn times) (λ k. Sized (wholeIn times k)) (upto n)
-      (upto-each (λ k. Sized (wholeIn times k)) n (λ i less. subst (λ (w : ℕ → Piece). Sized (w i)) (sym (wholes-laid times (take n ts) laid)) (sized-at (take n ts) (sane .timed) i (omega (arith, whole))))))
+      (upto-each (λ k. Sized (wholeIn times k)) n (λ i less. subst (λ (w : ℕ → Piece). Sized (w i))
+      (sym (wholes-laid times (take n ts) laid)) (sized-at (take n ts) (sane .timed) i (omega (arith, whole))))))
 
-  pub walk-fits : length order ≡ 64 → Each (λ k. k < 64) (take n order) → (placed records : List ℕ) → length placed ≡ 711 → length records ≡ 553 → WalkFits m c times n order placed records
+  pub walk-fits : length order ≡ 64 → Each (λ k. k < 64) (take n order) → (placed records : List ℕ) → length placed ≡ 711
+      → length records ≡ 553 → WalkFits m c times n order placed records
   walk-fits size places placed records placed-size records-size = record {
     some = sane .cores-some;
     few = sane .cores-fit;
@@ -101,7 +105,9 @@ module _ (m : Machine) (c : Costs) (n : ℕ) (ts : List Task) (long : length ts 
 
   walked-is : walkOver (wayFor m c (wholeIn times)) (take n order) ≡ walked m c (take n ts)
   unfolding walked
-  walked-is = ap (walkOver (wayFor m c (wholeIn times))) packed ∙ (ap (λ (w : ℕ → Piece). walkOf (wayFor m c w) (upto n)) (wholes-laid times (take n ts) laid) ∙ ap (λ (k : ℕ). walkOf (placeWay m c (take n ts)) (upto k)) (sym whole))
+  walked-is = ap (walkOver (wayFor m c (wholeIn times))) packed
+      ∙ (ap (λ (w : ℕ → Piece). walkOf (wayFor m c w) (upto n)) (wholes-laid times (take n ts) laid)
+      ∙ ap (λ (k : ℕ). walkOf (placeWay m c (take n ts)) (upto k)) (sym whole))
 
   planned : stateFault m c n ts ≡ 0 → planOf m c n ts ≡ finished m c (take n ts) (walked m c (take n ts))
   unfolding planOf
@@ -115,13 +121,25 @@ module _ (m : Machine) (c : Costs) (n : ℕ) (ts : List Task) (long : length ts 
         short : length (take n order) ≡ n
         short = length-take-le n order (omega (arith, sane .few))
 
-        by : (x : Ending Stand ℕ) → walkOver (wayFor m c (wholeIn times)) (take n order) ≡ x → Reach [] placed records g x → (g .count ≤ 79) × HasRoom (placedIn placed (g .count))
+        by : (x : Ending Stand ℕ) → walkOver (wayFor m c (wholeIn times)) (take n order) ≡ x → Reach [] placed records g x
+            → (g .count ≤ 79) × HasRoom (placedIn placed (g .count))
         by (fine s l) is r =
             let p = walk-planned m c (timesAt times) (sane .costs) (sane .cores-some) (take n order) sizes s l is in
             let share = claims m c (timesAt times) .Share in (
-              omega (arith, placed-length placed (g .count), ap length (r .placed-is), p .faithful .count, p .faithful .below, sane .cores-fit, sane .few, short),
+              omega (
+                arith,
+                placed-length placed (g .count),
+                ap length (r .placed-is),
+                p .faithful .count,
+                p .faithful .below,
+                sane .cores-fit,
+                sane .few,
+                short,
+              ),
               rw (r .placed-is) (record {
-                cores = each-imp (λ (e : Placed ℕ). e .on < m .cores) (λ (e : Placed ℕ). e .on < 16) (λ e low. omega (arith, sane .cores-fit)) l (spots-within (m .cores) (wholeIn times) share (p .shares));
+                cores =
+                    each-imp (λ (e : Placed ℕ). e .on < m .cores) (λ (e : Placed ℕ). e .on < 16) (λ e low. omega (arith, sane .cores-fit)) l
+                    (spots-within (m .cores) (wholeIn times) share (p .shares));
                 places = walk-items (wayFor m c (wholeIn times)) (λ k. k < 64) (wayFor m c (wholeIn times) .begin) s (take n order) l places is;
                 rows = λ q. omega (arith, few-on-core (m .cores) (wholeIn times) share q (p .shares), sane .few, short);
               }),
@@ -136,14 +154,20 @@ module _ (m : Machine) (c : Costs) (n : ℕ) (ts : List Task) (long : length ts 
           by (fine s l) r = absurd (omega (arith, r .still))
           by (stuck k j) r = rw (r .0, r .1)
 
-      pub plan-fine : g .stuck ≤ 0 → (clean : Tasks) → clean .count ≡ n → clean .list ≡ padded (take n ts) → (s : Layout) → s ≡ layoutOn none (placedIn placed (g .count)) →
+      pub plan-fine : g .stuck ≤ 0 → (clean : Tasks) → clean .count ≡ n → clean .list ≡ padded tasksMost noTask (take n ts) → (s : Layout)
+          → s ≡ layoutOn none (placedIn placed (g .count)) →
           _≡_ {A = Reply} (record { number = 0; carries = 0; plan = record { machine = m; costs = c; tasks = clean; layout = s } }) (planOf m c n ts)
-      plan-fine going clean count list s laid-out = by (walkOver (wayFor m c (wholeIn times)) (take n order)) there ∙ (ap (finished m c (take n ts)) walked-is ∙ sym (planned fault))
+      plan-fine going clean count list s laid-out = by (walkOver (wayFor m c (wholeIn times)) (take n order)) there
+          ∙ (ap (finished m c (take n ts)) walked-is ∙ sym (planned fault))
         where
-          tidied : clean ≡ record { count = length (take n ts); list = padded (take n ts) }
-          tidied = (let e : _≡_ {A = Tasks} (record { count = clean .count; list = clean .list }) (record { count = length (take n ts); list = padded (take n ts) }) = cc (count ∙ sym whole, list) in e)
+          tidied : clean ≡ record { count = length (take n ts); list = padded tasksMost noTask (take n ts) }
+          tidied =
+              (let e : _≡_ {A = Tasks} (record { count = clean .count; list = clean .list })
+              (record { count = length (take n ts); list = padded tasksMost noTask (take n ts) }) = cc (count ∙ sym whole, list) in e)
 
-          by : (x : Ending Stand ℕ) → Reach [] placed records g x → _≡_ {A = Reply} (record { number = 0; carries = 0; plan = record { machine = m; costs = c; tasks = clean; layout = s } }) (finished m c (take n ts) x)
+          by : (x : Ending Stand ℕ) → Reach [] placed records g x
+              → _≡_ {A = Reply} (record { number = 0; carries = 0; plan = record { machine = m; costs = c; tasks = clean; layout = s } })
+              (finished m c (take n ts) x)
           by (fine t l) r = cc (laid-out, ap (layoutOn none) (r .placed-is), tidied)
           by (stuck k j) r = absurd (omega (arith, r .0))
 
@@ -170,7 +194,8 @@ unfolding faultOf
 task-seven above t =
     let alone : Bool = eqb (placeOf 1 (t .name) above) 0 in
     let timed : Bool = sized (wholePiece (t .times)) in
-    rule-other (formed (t .name)) 8 (rule timed 3 (rule alone 4 0)) (λ e. omega arith) (rule-other timed 3 (rule alone 4 0) (λ e. omega arith) (rule-other alone 4 0 (λ e. omega arith) (λ e. omega arith)))
+    rule-other (formed (t .name)) 8 (rule timed 3 (rule alone 4 0)) (λ e. omega arith)
+    (rule-other timed 3 (rule alone 4 0) (λ e. omega arith) (rule-other alone 4 0 (λ e. omega arith) (λ e. omega arith)))
 
 tasks-seven : (above ts : List Task) → firstFault above ts ≡ 7 → ⊥
 tasks-seven above [] e = omega arith
@@ -181,4 +206,5 @@ unfolding stateFault
 fault-seven m c n ts =
     let tasks : ℕ = firstFault [] (take n ts) in
     let few : Bool = leb n tasksMost in
-    rule-other (sizedMachine m) 1 (rule (sizedCosts c) 2 (rule few 6 tasks)) (λ e. omega arith) (rule-other (sizedCosts c) 2 (rule few 6 tasks) (λ e. omega arith) (rule-other few 6 tasks (λ e. omega arith) (tasks-seven [] (take n ts))))
+    rule-other (sizedMachine m) 1 (rule (sizedCosts c) 2 (rule few 6 tasks)) (λ e. omega arith) (rule-other (sizedCosts c) 2
+    (rule few 6 tasks) (λ e. omega arith) (rule-other few 6 tasks (λ e. omega arith) (tasks-seven [] (take n ts))))

@@ -35,8 +35,10 @@ module _ (a b : List ℕ) (n : ℕ) (q : Piece) (h : n < 79) (size : length a �
   pub put-size : length b ≡ 553
   put-size = rw (e, put-length a n q h) size
 
-module _ (placed numbers : List ℕ) (i : ℕ) (inside : i < length numbers) (low : i < 79) (a b : List ℕ) (size : length a ≡ 553) (lies : firstRecords a i ≡ map (λ (k : ℕ). placedAt placed k .piece) (take i numbers)) where
-  pub laid-piece : (p k : ℕ) (q : Piece) → seatOf p k q ≡ placedAt placed (getD numbers i 0) → b ≡ putRecord a i q → firstRecords b (i + 1) ≡ map (λ (k : ℕ). placedAt placed k .piece) (take (i + 1) numbers)
+module _ (placed numbers : List ℕ) (i : ℕ) (inside : i < length numbers) (low : i < 79) (a b : List ℕ) (size : length a ≡ 553)
+    (lies : firstRecords a i ≡ map (λ (k : ℕ). placedAt placed k .piece) (take i numbers)) where
+  pub laid-piece : (p k : ℕ) (q : Piece) → seatOf p k q ≡ placedAt placed (getD numbers i 0) → b ≡ putRecord a i q
+      → firstRecords b (i + 1) ≡ map (λ (k : ℕ). placedAt placed k .piece) (take (i + 1) numbers)
   laid-piece p k q seat put =
       asked-put a b i q low size put
       ∙ (cc (lies, ap (λ (e : Placed ℕ). e .piece) seat)

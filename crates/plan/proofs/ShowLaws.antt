@@ -25,7 +25,7 @@ use Rattle.plan.specs.declared.Layout.{Layout}
 use Rattle.walks.specs.Way.{Placed, onCore}
 use Rattle.walks.proofs.ListLaws.{each-middle}
 use Rattle.walks.proofs.SoundLaws.{on-here, on-other, on-append}
-use Rattle.plan.specs.Layout.{putOf, layoutOn, none, blank, pieceOf}
+use Rattle.plan.specs.Layout.{putOf, layoutOn, none, blank, keptPiece}
 use Rattle.plan.specs.Shows.{storedOf, numbersOn, LayoutShows}
 use Rattle.plan.proofs.Lists.{take-put, map-snoc}
 use Rattle.plan.proofs.LayoutLaws.{put-count, zeros}
@@ -69,9 +69,16 @@ word-append w (e ∷ x) y = word-append (bitOr w (2 ^ e .item)) x y
 
 put-sizes : (s : Layout) (p k : ℕ) (q : Piece) → Size s → Size (putOf s p k q)
 unfolding putOf
-put-sizes s p k q z = record { of-pieces = simp length-set (z .of-pieces); of-rows = simp length-set (z .of-rows); of-lens = simp length-set (z .of-lens); of-words = simp length-set (z .of-words) }
+put-sizes s p k q z = record {
+  of-pieces = simp length-set (z .of-pieces);
+  of-rows = simp length-set (z .of-rows);
+  of-lens = simp length-set (z .of-lens);
+  of-words = simp length-set (z .of-words);
+}
 
-put-pieces : (s : Layout) (e : Placed ℕ) → s .count < length (s .pieces) → take (putOf s (e .on) (e .item) (e .piece) .count) (putOf s (e .on) (e .item) (e .piece) .pieces) ≡ take (s .count) (s .pieces) ++ (storedOf e ∷ [])
+put-pieces : (s : Layout) (e : Placed ℕ) → s .count < length (s .pieces)
+    → take (putOf s (e .on) (e .item) (e .piece) .count) (putOf s (e .on) (e .item) (e .piece) .pieces)
+    ≡ take (s .count) (s .pieces) ++ (storedOf e ∷ [])
 unfolding putOf
 put-pieces s e room = take-put (s .pieces) (s .count) (storedOf e) room
 
@@ -83,32 +90,45 @@ module _ (s : Layout) (z : Size s) (e : Placed ℕ) (d : Stored) (room : s .coun
       let at : ℕ = e .on * 64 + getD (s .lens) (e .on) 0 in
       let new : (j : ℕ) → (j < length x → ⊥) → j < length (x ++ (e ∷ [])) → j ≡ length x = λ j f h. omega (arith, length-append x (e ∷ [])) in
       let here : (j : ℕ) → j ≡ length x → numberAt (putOf s (e .on) (e .item) (e .piece)) (e .on) j ≡ s .count = λ j h.
-      ap (λ (n : ℕ). getD (set (s .rows) at (s .count)) (e .on * 64 + n) 0) (h ∙ sym (c .len)) ∙ getD-set-same (s .rows) at (s .count) 0 (omega (arith, z .of-rows, c .len)) in
+      ap (λ (n : ℕ). getD (set (s .rows) at (s .count)) (e .on * 64 + n) 0) (h ∙ sym (c .len))
+      ∙ getD-set-same (s .rows) at (s .count) 0 (omega (arith, z .of-rows, c .len)) in
       let old : (j : ℕ) → j < length x → numberAt (putOf s (e .on) (e .item) (e .piece)) (e .on) j ≡ numberAt s (e .on) j = λ j h.
       getD-set-other (s .rows) at (e .on * 64 + j) (s .count) 0 (λ y. omega (arith, c .len)) in
       record {
         len = getD-set-same (s .lens) (e .on) (getD (s .lens) (e .on) 0 + 1) 0 (omega (arith, z .of-lens)) ∙ simp length-append (omega (arith, c .len));
-        word = getD-set-same (s .words) (e .on) (bitOr (getD (s .words) (e .on) 0) (2 ^ e .item)) 0 (omega (arith, z .of-words)) ∙ ap (λ (w : ℕ). bitOr w (2 ^ e .item)) (c .word) ∙ sym (word-append 0 x (e ∷ []));
+        word = getD-set-same (s .words) (e .on) (bitOr (getD (s .words) (e .on) 0) (2 ^ e .item)) 0 (omega (arith, z .of-words))
+            ∙ ap (λ (w : ℕ). bitOr w (2 ^ e .item)) (c .word) ∙ sym (word-append 0 x (e ∷ []));
         num = λ j h. elim (decLt j (length x)) [
           | yes f ↦ rw (old j f) (omega (arith, c .num j f))
           | no f ↦ rw (here j (new j f h)) (omega arith)
         ];
         row = λ j h. elim (decLt j (length x)) [
-          | yes f ↦ ap (λ (n : ℕ). getD (set (s .pieces) (s .count) (storedOf e)) n blank) (old j f) ∙ getD-set-other (s .pieces) (s .count) (numberAt s (e .on) j) (storedOf e) blank (λ y. omega (arith, c .num j f)) ∙ c .row j f ∙ sym (ap (λ (y : List Stored). getD y j d) (map-append storedOf x (e ∷ [])) ∙ List·getD-append (map storedOf x) (storedOf e ∷ []) d j (simp length-map f))
-          | no f ↦ ap (λ (n : ℕ). getD (set (s .pieces) (s .count) (storedOf e)) n blank) (here j (new j f h)) ∙ getD-set-same (s .pieces) (s .count) (storedOf e) blank (omega (arith, z .of-pieces)) ∙ sym (ap (λ (y : List Stored). getD y j d) (map-append storedOf x (e ∷ [])) ∙ ap (λ (n : ℕ). getD (map storedOf x ++ (storedOf e ∷ [])) n d) (new j f h ∙ sym (length-map x storedOf)) ∙ getD-end (map storedOf x) (storedOf e) d)
+          | yes f ↦ ap (λ (n : ℕ). getD (set (s .pieces) (s .count) (storedOf e)) n blank) (old j f)
+              ∙ getD-set-other (s .pieces) (s .count) (numberAt s (e .on) j) (storedOf e) blank (λ y. omega (arith, c .num j f)) ∙ c .row j f
+              ∙ sym (ap (λ (y : List Stored). getD y j d) (map-append storedOf x (e ∷ []))
+              ∙ List·getD-append (map storedOf x) (storedOf e ∷ []) d j (simp length-map f))
+          | no f ↦ ap (λ (n : ℕ). getD (set (s .pieces) (s .count) (storedOf e)) n blank) (here j (new j f h))
+              ∙ getD-set-same (s .pieces) (s .count) (storedOf e) blank (omega (arith, z .of-pieces))
+              ∙ sym (ap (λ (y : List Stored). getD y j d) (map-append storedOf x (e ∷ []))
+              ∙ ap (λ (n : ℕ). getD (map storedOf x ++ (storedOf e ∷ [])) n d) (new j f h ∙ sym (length-map x storedOf))
+              ∙ getD-end (map storedOf x) (storedOf e) d)
         ];
       }
 
   -- any other core
-  core-other : (q : ℕ) (x : List (Placed ℕ)) → (e .on ≡ q → ⊥) → getD (s .lens) (e .on) 0 < 64 → length x ≤ 64 → Core s q x d → Core (putOf s (e .on) (e .item) (e .piece)) q x d
+  core-other : (q : ℕ) (x : List (Placed ℕ)) → (e .on ≡ q → ⊥) → getD (s .lens) (e .on) 0 < 64 → length x ≤ 64 → Core s q x d
+      → Core (putOf s (e .on) (e .item) (e .piece)) q x d
   unfolding putOf
   core-other q x apart free short c =
-      let same : (j : ℕ) → j < length x → numberAt (putOf s (e .on) (e .item) (e .piece)) q j ≡ numberAt s q j = λ j h. getD-set-other (s .rows) (e .on * 64 + getD (s .lens) (e .on) 0) (q * 64 + j) (s .count) 0 (λ y. flat-apart (e .on) q (getD (s .lens) (e .on) 0) j free (omega arith) apart (sym y)) in
+      let same : (j : ℕ) → j < length x → numberAt (putOf s (e .on) (e .item) (e .piece)) q j ≡ numberAt s q j =
+      λ j h. getD-set-other (s .rows) (e .on * 64 + getD (s .lens) (e .on) 0) (q * 64 + j) (s .count) 0
+      (λ y. flat-apart (e .on) q (getD (s .lens) (e .on) 0) j free (omega arith) apart (sym y)) in
       record {
         len = getD-set-other (s .lens) (e .on) q (getD (s .lens) (e .on) 0 + 1) 0 (λ y. apart (sym y)) ∙ c .len;
         word = getD-set-other (s .words) (e .on) q (bitOr (getD (s .words) (e .on) 0) (2 ^ e .item)) 0 (λ y. apart (sym y)) ∙ c .word;
         num = λ j h. rw (same j h) (omega (arith, c .num j h));
-        row = λ j h. ap (λ (n : ℕ). getD (set (s .pieces) (s .count) (storedOf e)) n blank) (same j h) ∙ getD-set-other (s .pieces) (s .count) (numberAt s q j) (storedOf e) blank (λ y. omega (arith, c .num j h)) ∙ c .row j h;
+        row = λ j h. ap (λ (n : ℕ). getD (set (s .pieces) (s .count) (storedOf e)) n blank) (same j h)
+            ∙ getD-set-other (s .pieces) (s .count) (numberAt s q j) (storedOf e) blank (λ y. omega (arith, c .num j h)) ∙ c .row j h;
       }
 
 -- ---- all that was placed
@@ -141,7 +161,8 @@ module _ (s : Layout) (k : List (Placed ℕ)) (e : Placed ℕ) (l : List (Placed
   kept-put = record {
     size = put-sizes s (e .on) (e .item) (e .piece) (old .size);
     count = put-count s (e .on) (e .item) (e .piece) ∙ omega (arith, old .count, length-append k (e ∷ []));
-    pieces = put-pieces s e (omega (arith, free, old .size .of-pieces)) ∙ (ap (λ (z : List Stored). z ++ (storedOf e ∷ [])) (old .pieces) ∙ sym (map-snoc storedOf k e));
+    pieces = put-pieces s e (omega (arith, free, old .size .of-pieces))
+        ∙ (ap (λ (z : List Stored). z ++ (storedOf e ∷ [])) (old .pieces) ∙ sym (map-snoc storedOf k e));
     core = λ q h d. by q h d (eqb (e .on) q) refl;
   }
     where
@@ -151,7 +172,8 @@ module _ (s : Layout) (k : List (Placed ℕ)) (e : Placed ℕ) (l : List (Placed
           (rw (on-here k e (e .on) refl) (core-here s (old .size) e d free low (onCore (e .on) k) (old .core (e .on) low d) seat))
       by q h d false f =
           rw (on-other k e q (eqb-false (e .on) q f))
-          (core-other s (old .size) e d free low q (onCore q k) (eqb-false (e .on) q f) (omega (arith, old .core (e .on) low d .len, seat)) (omega (arith, seats q)) (old .core q h d))
+          (core-other s (old .size) e d free low q (onCore q k) (eqb-false (e .on) q f) (omega (arith, old .core (e .on) low d .len, seat))
+          (omega (arith, seats q)) (old .core q h d))
 
 kept-on : (l : List (Placed ℕ)) (s : Layout) (k : List (Placed ℕ)) → Room (k ++ l) → Kept s k → Kept (layoutOn s l) (k ++ l)
 kept-on [] s k room h = rw append-nil h
@@ -177,7 +199,8 @@ module _ (s : Layout) (l : List (Placed ℕ)) (room : Room l) (has : Kept s l) w
   numbers-long : (q : ℕ) → q < 16 → length (numbersOn s q) ≡ length (onCore q l)
   numbers-long q low =
       let c = has .core q low blank in
-      length-take-le (getD (s .lens) q 0) (drop (q * 64) (s .rows)) (omega (arith, c .len, room .seats q, length-drop (q * 64) (s .rows), has .size .of-rows)) ∙ c .len
+      length-take-le (getD (s .lens) q 0) (drop (q * 64) (s .rows))
+      (omega (arith, c .len, room .seats q, length-drop (q * 64) (s .rows), has .size .of-rows)) ∙ c .len
 
   numbers-show : (q : ℕ) → q < 16 → map (λ i. getD (s .pieces) i blank) (numbersOn s q) ≡ map storedOf (onCore q l)
   numbers-show q low =
@@ -186,9 +209,11 @@ module _ (s : Layout) (l : List (Placed ℕ)) (room : Room l) (has : Kept s l) w
       let long : length (map at (numbersOn s q)) ≡ length (onCore q l) = length-map (numbersOn s q) at ∙ numbers-long q low in
       ext-getD (at 0) (map at (numbersOn s q)) (map storedOf (onCore q l)) (long ∙ sym (length-map (onCore q l) storedOf)) (λ j inside.
       let below : j < length (onCore q l) = omega (arith, long) in
-      List·getD-map at (numbersOn s q) j 0 ∙ (ap at (getD-take (getD (s .lens) q 0) (drop (q * 64) (s .rows)) j 0 (omega (arith, c .len)) ∙ getD-drop (q * 64) (s .rows) j 0) ∙ c .row j below))
+      List·getD-map at (numbersOn s q) j 0
+      ∙ (ap at (getD-take (getD (s .lens) q 0) (drop (q * 64) (s .rows)) j 0 (omega (arith, c .len)) ∙ getD-drop (q * 64) (s .rows) j 0)
+      ∙ c .row j below))
 
-  same-pieces : (x : List (Placed ℕ)) → map pieceOf (map storedOf x) ≡ map (λ e. e .piece) x
+  same-pieces : (x : List (Placed ℕ)) → map keptPiece (map storedOf x) ≡ map (λ e. e .piece) x
   same-pieces [] = refl
   same-pieces (e ∷ x) = cc (piece-stored (e .item) (e .piece), same-pieces x)
 
@@ -198,5 +223,6 @@ module _ (s : Layout) (l : List (Placed ℕ)) (room : Room l) (has : Kept s l) w
     pieces = has .pieces;
     lens = λ q low. has .core q low blank .len ∙ sym (length-map (onCore q l) (λ (e : Placed ℕ). e .piece));
     numbers = numbers-show;
-    rows = λ q low. sym (map-map pieceOf (λ (i : ℕ). getD (s .pieces) i blank) (numbersOn s q)) ∙ (ap (map pieceOf) (numbers-show q low) ∙ same-pieces (onCore q l));
+    rows = λ q low. sym (map-map keptPiece (λ (i : ℕ). getD (s .pieces) i blank) (numbersOn s q))
+        ∙ (ap (map keptPiece) (numbers-show q low) ∙ same-pieces (onCore q l));
   }

@@ -91,7 +91,8 @@ module _ (m : Machine) (c : Costs) (n : ℕ) (ts : List Task) where
   unfolding planOf
   faultless-but k else e = by (own-number (finished m c (take n ts) (walked m c (take n ts))) (stateFault m c n ts))
     where
-      by : (unlessFault (stateFault m c n ts) (finished m c (take n ts) (walked m c (take n ts))) .number ≡ stateFault m c n ts) ⊎ (stateFault m c n ts ≡ 0) → stateFault m c n ts ≡ 0
+      by : (unlessFault (stateFault m c n ts) (finished m c (take n ts) (walked m c (take n ts))) .number ≡ stateFault m c n ts)
+          ⊎ (stateFault m c n ts ≡ 0) → stateFault m c n ts ≡ 0
       by (inl own) = else (sym own ∙ e)
       by (inr none) = none
 
@@ -118,24 +119,42 @@ module _ (m : Machine) (c : Costs) (n : ℕ) (ts : List Task) (faultless : state
   unfolding walked
   sticks-with k j e = only-seven m c (λ i. taskAt (take n ts) i .times) (packed (take n ts)) k j e
 
-  pub plan-or-stuck : ((s : Stand) × (l : List (Placed ℕ)) × (walked m c (take n ts) ≡ fine s l) × (planOf m c n ts ≡ finished m c (take n ts) (fine s l))) ⊎ ((k : ℕ) × (walked m c (take n ts) ≡ stuck k 7) × (planOf m c n ts ≡ refused 7 (suc k)))
+  pub plan-or-stuck : ((s : Stand) × (l : List (Placed ℕ)) × (walked m c (take n ts) ≡ fine s l)
+      × (planOf m c n ts ≡ finished m c (take n ts) (fine s l)))
+      ⊎ ((k : ℕ) × (walked m c (take n ts) ≡ stuck k 7) × (planOf m c n ts ≡ refused 7 (suc k)))
   plan-or-stuck = by (walked m c (take n ts)) refl
     where
-      by : (o : Ending Stand ℕ) → walked m c (take n ts) ≡ o → ((s : Stand) × (l : List (Placed ℕ)) × (walked m c (take n ts) ≡ fine s l) × (planOf m c n ts ≡ finished m c (take n ts) (fine s l))) ⊎ ((k : ℕ) × (walked m c (take n ts) ≡ stuck k 7) × (planOf m c n ts ≡ refused 7 (suc k)))
+      by : (o : Ending Stand ℕ) → walked m c (take n ts) ≡ o
+          → ((s : Stand) × (l : List (Placed ℕ)) × (walked m c (take n ts) ≡ fine s l) × (planOf m c n ts ≡ finished m c (take n ts) (fine s l)))
+          ⊎ ((k : ℕ) × (walked m c (take n ts) ≡ stuck k 7) × (planOf m c n ts ≡ refused 7 (suc k)))
       by (fine s l) e = inl (s, l, e, ended ∙ ap (finished m c (take n ts)) e)
-      by (stuck k j) e = (let so : walked m c (take n ts) ≡ stuck k 7 = e ∙ ap (stuck k) (sticks-with k j e) in inr (k, so, ended ∙ ap (finished m c (take n ts)) so))
+      by (stuck k j) e =
+          (let so : walked m c (take n ts) ≡ stuck k 7 = e ∙ ap (stuck k) (sticks-with k j e) in
+          inr (k, so, ended ∙ ap (finished m c (take n ts)) so))
 
   pub plan-comes : (planOf m c n ts .number ≡ 0) ↔ ((s : Stand) × (l : List (Placed ℕ)) × (walked m c (take n ts) ≡ fine s l))
-  plan-comes = ((λ e. by (walked m c (take n ts)) refl (sym (ap (λ (r : Reply). r .number) ended) ∙ e)), (λ w. ap (λ (r : Reply). r .number) (ended ∙ ap (finished m c (take n ts)) (w .2))))
+  plan-comes = (
+    (λ e. by (walked m c (take n ts)) refl (sym (ap (λ (r : Reply). r .number) ended) ∙ e)),
+    (λ w. ap (λ (r : Reply). r .number) (ended ∙ ap (finished m c (take n ts)) (w .2))),
+  )
     where
-      by : (o : Ending Stand ℕ) → walked m c (take n ts) ≡ o → finished m c (take n ts) o .number ≡ 0 → (s : Stand) × (l : List (Placed ℕ)) × (walked m c (take n ts) ≡ fine s l)
+      by : (o : Ending Stand ℕ) → walked m c (take n ts) ≡ o → finished m c (take n ts) o .number ≡ 0
+          → (s : Stand) × (l : List (Placed ℕ)) × (walked m c (take n ts) ≡ fine s l)
       by (fine s l) e z = (s, l, e)
       by (stuck k j) e z = absurd (omega (arith, sticks-with k j e))
 
   pub no-room : (k : ℕ) → ((planOf m c n ts .number ≡ 7) × (planOf m c n ts .carries ≡ suc k)) ↔ (walked m c (take n ts) ≡ stuck k 7)
-  no-room k = ((λ e. by (walked m c (take n ts)) refl (sym (ap (λ (r : Reply). r .number) ended) ∙ e .0) (sym (ap (λ (r : Reply). r .carries) ended) ∙ e .1)), (λ w. (ap (λ (r : Reply). r .number) (ended ∙ ap (finished m c (take n ts)) w), ap (λ (r : Reply). r .carries) (ended ∙ ap (finished m c (take n ts)) w))))
+  no-room k = (
+    (λ e. by (walked m c (take n ts)) refl (sym (ap (λ (r : Reply). r .number) ended) ∙ e .0)
+        (sym (ap (λ (r : Reply). r .carries) ended) ∙ e .1)),
+    (λ w. (
+      ap (λ (r : Reply). r .number) (ended ∙ ap (finished m c (take n ts)) w),
+      ap (λ (r : Reply). r .carries) (ended ∙ ap (finished m c (take n ts)) w),
+    )),
+  )
     where
-      by : (o : Ending Stand ℕ) → walked m c (take n ts) ≡ o → finished m c (take n ts) o .number ≡ 7 → finished m c (take n ts) o .carries ≡ suc k → walked m c (take n ts) ≡ stuck k 7
+      by : (o : Ending Stand ℕ) → walked m c (take n ts) ≡ o → finished m c (take n ts) o .number ≡ 7
+          → finished m c (take n ts) o .carries ≡ suc k → walked m c (take n ts) ≡ stuck k 7
       by (fine s l) e z y = absurd (omega arith)
       by (stuck j i) e z y = (let same : j ≡ k = omega arith in e ∙ (ap (λ (x : ℕ). stuck x i) same ∙ ap (stuck k) (sticks-with j i e)))
 
@@ -146,7 +165,8 @@ module _ (m : Machine) (c : Costs) (n : ℕ) (ts : List Task) (faultless : state
   pub no-room-place : (k : ℕ) → walked m c (take n ts) ≡ stuck k 7 → k < length (take n ts)
   no-room-place k e =
       let at = no-room-at k e in
-      each-middle (λ (j : ℕ). j < length (take n ts)) (at .before) k (at .after) (subst (Each (λ j. j < length (take n ts))) (at .order) (packing-order (take n ts) .below))
+      each-middle (λ (j : ℕ). j < length (take n ts)) (at .before) k (at .after)
+      (subst (Each (λ j. j < length (take n ts))) (at .order) (packing-order (take n ts) .below))
 
   -- ---- every task is placed
 
@@ -154,13 +174,16 @@ module _ (m : Machine) (c : Costs) (n : ℕ) (ts : List Task) (faultless : state
   sized-place k low = sized-at (take n ts) (sane .timed) k low
 
   sized-order : Each (λ k. Sized (wholeAt (take n ts) k)) (packed (take n ts))
-  sized-order = pack-every (denserAt (take n ts)) (λ k. Sized (wholeAt (take n ts) k)) (upto (length (take n ts))) (upto-each (λ k. Sized (wholeAt (take n ts) k)) (length (take n ts)) sized-place)
+  sized-order =
+      pack-every (denserAt (take n ts)) (λ k. Sized (wholeAt (take n ts) k)) (upto (length (take n ts)))
+      (upto-each (λ k. Sized (wholeAt (take n ts) k)) (length (take n ts)) sized-place)
 
   pub packing-ranked : Chain (Precedes (denserAt (take n ts)) (λ i j. i < j)) (packed (take n ts))
   packing-ranked =
       let places = upto (length (take n ts)) in
       pack-ranked (λ k. 1 ≤ wholeAt (take n ts) k .window) (denserAt (take n ts)) (denser-lawful (wholeAt (take n ts))) (λ i j. i < j) places
-      (upto-each (λ k. 1 ≤ wholeAt (take n ts) k .window) (length (take n ts)) (λ k low. (let size = sized-place k low in omega (arith, size .budget-some, size .budget-fits)))) (upto-chain (length (take n ts)))
+      (upto-each (λ k. 1 ≤ wholeAt (take n ts) k .window) (length (take n ts))
+      (λ k low. (let size = sized-place k low in omega (arith, size .budget-some, size .budget-fits)))) (upto-chain (length (take n ts)))
 
   abbrev timesOf : ℕ → Times
   timesOf k = taskAt (take n ts) k .times
@@ -173,29 +196,41 @@ module _ (m : Machine) (c : Costs) (n : ℕ) (ts : List Task) (faultless : state
 
     -- a task's share
     share : (k : ℕ) → k < length (take n ts) → Has byPlace place-exact (λ a l. Divides (m .cores) (wholeAt (take n ts) a) l × claims m c timesOf .Share a l) k l
-    share k low = (let order = packing-order (take n ts) in share-of byPlace place-exact (λ a l. Divides (m .cores) (wholeAt (take n ts) a) l × claims m c timesOf .Share a l) k (facts .shares) (order .once) (order .every k low))
+    share k low =
+        (let order = packing-order (take n ts) in share-of byPlace place-exact (λ a l. Divides (m .cores) (wholeAt (take n ts) a) l
+        × claims m c timesOf .Share a l) k (facts .shares) (order .once) (order .every k low))
 
     pub all-placed : (k : ℕ) → k < length (take n ts) → Shared c (m .grain) (wholeAt (take n ts) k) k (ofTask k l)
-    all-placed k low = (let h = share k low in rw (h .is) (subst (λ (j : ℕ). Shared c (m .grain) (wholeAt (take n ts) j) j (map (placedAs (h .item)) (h .spots))) (h .own) (h .has .1)))
+    all-placed k low =
+        (let h = share k low in rw (h .is)
+        (subst (λ (j : ℕ). Shared c (m .grain) (wholeAt (take n ts) j) j (map (placedAs (h .item)) (h .spots))) (h .own) (h .has .1)))
 
     -- what is summed over a task's pieces
     sum-of : (f : Piece → ℕ) (k : ℕ) (low : k < length (take n ts)) → sumBy (λ e. f (e .piece)) (ofTask k l) ≡ sumBy (λ e. f (e .piece)) (share k low .spots)
-    sum-of f k low = (let h = share k low in ap (sumBy (λ (e : Placed ℕ). f (e .piece))) (h .is) ∙ sum-map (λ (e : Placed ℕ). f (e .piece)) (placedAs (h .item)) (h .spots))
+    sum-of f k low =
+        (let h = share k low in ap (sumBy (λ (e : Placed ℕ). f (e .piece))) (h .is)
+        ∙ sum-map (λ (e : Placed ℕ). f (e .piece)) (placedAs (h .item)) (h .spots))
 
     pub budgets-add : (k : ℕ) → k < length (take n ts) → sumBy (λ e. e .piece .budget) (ofTask k l) ≡ taskAt (take n ts) k .times .worst
     unfolding wholePiece
-    budgets-add k low = (let h = share k low in sum-of (λ q. q .budget) k low ∙ (h .has .0 .budgets ∙ ap (λ (j : ℕ). taskAt (take n ts) j .times .worst) (h .own)))
+    budgets-add k low =
+        (let h = share k low in sum-of (λ q. q .budget) k low ∙ (h .has .0 .budgets ∙ ap (λ (j : ℕ). taskAt (take n ts) j .times .worst) (h .own)))
 
     pub windows-add : (k : ℕ) → k < length (take n ts) → sumBy (λ e. e .piece .window) (ofTask k l) ≡ taskAt (take n ts) k .times .deadline
     unfolding wholePiece
-    windows-add k low = (let h = share k low in sum-of (λ q. q .window) k low ∙ (h .has .0 .windows ∙ ap (λ (j : ℕ). taskAt (take n ts) j .times .deadline) (h .own)))
+    windows-add k low =
+        (let h = share k low in sum-of (λ q. q .window) k low
+        ∙ (h .has .0 .windows ∙ ap (λ (j : ℕ). taskAt (take n ts) j .times .deadline) (h .own)))
 
-    pub free-is-budget : (k : ℕ) → k < length (take n ts) → Free c (wholeAt (take n ts) k) → Each (λ e. e .piece .kind ≡ First → e .piece .window ≡ e .piece .budget) (ofTask k l)
+    pub free-is-budget : (k : ℕ) → k < length (take n ts) → Free c (wholeAt (take n ts) k)
+        → Each (λ e. e .piece .kind ≡ First → e .piece .window ≡ e .piece .budget) (ofTask k l)
     free-is-budget k low free = shared-free c (m .grain) (wholeAt (take n ts) k) k (sized-place k low) free (whole-kind (timesOf k)) (all-placed k low)
 
     pub placed-places : Each (λ e. e .item < length (take n ts)) l
     unfolding walked
-    placed-places = walk-items (placeWay m c (take n ts)) (λ k. k < length (take n ts)) (placeWay m c (take n ts) .begin) s (packed (take n ts)) l (packing-order (take n ts) .below) planned
+    placed-places =
+        walk-items (placeWay m c (take n ts)) (λ k. k < length (take n ts)) (placeWay m c (take n ts) .begin) s (packed (take n ts)) l
+        (packing-order (take n ts) .below) planned
 
     pub placed-sized : Each (λ e. Sized (e .piece)) l
     placed-sized = pieces-each Sized l (λ q. facts .rows q .sizes)
@@ -218,13 +253,26 @@ module _ (m : Machine) (c : Costs) (n : ℕ) (ts : List Task) (faultless : state
         let order = packing-order (take n ts) in
         let few : length (take n ts) ≤ 64 = omega (arith, length-take n ts, sane .few) in
         let pieces : length l ≤ length (take n ts) + (m .cores - 1) = omega (arith, facts .faithful .count, facts .faithful .below, order .long) in
-        let row : (q : ℕ) → length (rowOf q l) ≤ length (take n ts) = (λ q. omega (arith, length-map (onCore q l) (λ (e : Placed ℕ). e .piece), few-on-core (m .cores) (wholeAt (take n ts)) (claims m c timesOf .Share) q (facts .shares), order .long)) in
+        let row : (q : ℕ) → length (rowOf q l) ≤ length (take n ts) =
+        (λ q. omega (
+          arith,
+          length-map (onCore q l) (λ (e : Placed ℕ). e .piece),
+          few-on-core (m .cores) (wholeAt (take n ts)) (claims m c timesOf .Share) q (facts .shares),
+          order .long,
+        )) in
         record {
           pieces = pieces;
           pieces-fit = omega (arith, sane .cores-fit);
           row = row;
           row-fits = λ q. omega (arith, row q);
-          splits = omega (arith, shares-firsts c (m .grain) (m .cores) (wholeAt (take n ts)) (λ k. whole-kind (timesOf k)) (facts .shares), facts .faithful .count, facts .faithful .below, order .long);
+          splits =
+              omega (
+                arith,
+                shares-firsts c (m .grain) (m .cores) (wholeAt (take n ts)) (λ k. whole-kind (timesOf k)) (facts .shares),
+                facts .faithful .count,
+                facts .faithful .below,
+                order .long,
+              );
           cores = spots-within (m .cores) (wholeAt (take n ts)) (claims m c timesOf .Share) (facts .shares);
         }
 

@@ -29,10 +29,12 @@ module _ {A : Type 0} (m : Machine) (c : Costs) (times : A → Times) where
   abbrev pub claims : Claim A Stand
   claims = halves c (m .grain) (m .cores) (λ a. wholePiece (times a))
 
-  pub walk-planned : SizedCosts c → 1 ≤ m .cores → (xs : List A) → Each (λ a. Sized (wholePiece (times a))) xs → (s : Stand) (l : List (Placed A)) → walkOver (wayFor m c (λ a. wholePiece (times a))) xs ≡ fine s l → Planned claims xs s l
+  pub walk-planned : SizedCosts c → 1 ≤ m .cores → (xs : List A) → Each (λ a. Sized (wholePiece (times a))) xs
+      → (s : Stand) (l : List (Placed A)) → walkOver (wayFor m c (λ a. wholePiece (times a))) xs ≡ fine s l → Planned claims xs s l
   walk-planned costs some xs sizes =
       walk-sound (wayFor m c (λ a. wholePiece (times a))) claims (halving-sound c (m .grain) (m .cores) (λ a. wholePiece (times a)) costs some) xs
-      (each-imp (λ a. Sized (wholePiece (times a))) (λ a. Right (wholePiece (times a))) (λ a size. record { size = size; kind = whole-kind (times a) }) xs sizes)
+      (each-imp (λ a. Sized (wholePiece (times a))) (λ a. Right (wholePiece (times a)))
+      (λ a size. record { size = size; kind = whole-kind (times a) }) xs sizes)
 
   pub only-seven : (xs : List A) (a : A) (n : ℕ) → walkOver (wayFor m c (λ a. wholePiece (times a))) xs ≡ stuck a n → n ≡ 7
   only-seven = sticks-seven c (m .grain) (m .cores) (λ a. wholePiece (times a))

@@ -48,7 +48,8 @@ pub word-bits : (w : ℕ) (l : List (Placed ℕ)) → Apart (λ e. e .item) l �
 word-bits w [] h g k = omega arith
 word-bits w (e ∷ l) h g k = by (eqb (e .item) k) refl (word-bits (bitOr w (2 ^ e .item)) l (h .1) (fresh-kept w (e .item) l (h .0) (g .1)) k)
   where
-    by : (t : Bool) → eqb (e .item) k ≡ t → bitOf (wordOn (bitOr w (2 ^ e .item)) l) k ≡ bitOf (bitOr w (2 ^ e .item)) k + length (ofTask k l) → bitOf (wordOn (bitOr w (2 ^ e .item)) l) k ≡ bitOf w k + length (keep t e (ofTask k l))
+    by : (t : Bool) → eqb (e .item) k ≡ t → bitOf (wordOn (bitOr w (2 ^ e .item)) l) k ≡ bitOf (bitOr w (2 ^ e .item)) k + length (ofTask k l)
+        → bitOf (wordOn (bitOr w (2 ^ e .item)) l) k ≡ bitOf w k + length (keep t e (ofTask k l))
     by true f r =
         let same = eqb-true (e .item) k f in
         let old : bitOf w k ≡ 0 = subst (λ (j : ℕ). bitOf w j ≡ 0) same (g .0) in
@@ -74,7 +75,8 @@ small n = omega arith
 
 pub word-shows : (w : ℕ) (l : List (Placed ℕ)) → w ≡ wordOn 0 l → Apart (λ e. e .item) l → WordShows w l
 word-shows w l e apart =
-    let bit : (k : ℕ) → bitOf w k ≡ length (ofTask k l) = (λ k. ap (λ (v : ℕ). bitOf v k) e ∙ (word-bits 0 l apart (zero-bits l) k ∙ omega (arith, zero-bit k))) in
+    let bit : (k : ℕ) → bitOf w k ≡ length (ofTask k l) =
+    (λ k. ap (λ (v : ℕ). bitOf v k) e ∙ (word-bits 0 l apart (zero-bits l) k ∙ omega (arith, zero-bit k))) in
     let single : (k : ℕ) → length (ofTask k l) ≤ 1 = (λ k. omega (arith, bit k, small (w / 2 ^ k))) in
     record {
       bit = bit;

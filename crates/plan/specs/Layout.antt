@@ -23,14 +23,14 @@ use Rattle.walks.specs.Way.{Placed}
 abbrev pub stored : ℕ → Piece → Stored
 stored k q = record { task = k; kind = kindNumber (q .kind); budget = q .budget; window = q .window; period = q .period; jitter = q .jitter; preempt = q .preempt; migrate = q .migrate }
 
-abbrev pub pieceOf : Stored → Piece
-pieceOf s = record { kind = kindOf (s .kind); budget = s .budget; window = s .window; period = s .period; jitter = s .jitter; preempt = s .preempt; migrate = s .migrate }
+abbrev pub keptPiece : Stored → Piece
+keptPiece s = record { kind = kindOf (s .kind); budget = s .budget; window = s .window; period = s .period; jitter = s .jitter; preempt = s .preempt; migrate = s .migrate }
 
 abbrev pub blank : Stored
 blank = record { task = 0; kind = 0; budget = 0; window = 0; period = 0; jitter = 0; preempt = 0; migrate = 0 }
 
 abbrev pub pieceNumbered : List Stored → ℕ → Piece
-pieceNumbered ps i = pieceOf (getD ps i blank)
+pieceNumbered ps i = keptPiece (getD ps i blank)
 
 unfoldable pub putOf : Layout → ℕ → ℕ → Piece → Layout
 putOf s p k q = record {

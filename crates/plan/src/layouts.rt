@@ -8,7 +8,7 @@ use demand::kind_of;
 ghost use mathlib.Core.Path.{_≡_};
 ghost use Prim.Native.Nat.{_<_, _≤_, _^_};
 ghost use lib.Bits.{bitOr};
-ghost use Rattle.plan.specs.Layout.{stored, pieceOf, none, layoutOn};
+ghost use Rattle.plan.specs.Layout.{stored, keptPiece, none, layoutOn};
 ghost use Rattle.plan.specs.ways.PlacedArray.{placedIn, HasRoom};
 
 // A piece of the task at place k, as the plan keeps it.
@@ -30,7 +30,7 @@ pub fn store(k: usize, q: Piece) -> Stored
 
 // The piece that is kept.
 pub fn piece_of(s: Stored) -> Piece
-    ensures { λ r. ⌜ r ≡ pieceOf s ⌝ }
+    ensures { λ r. ⌜ r ≡ keptPiece s ⌝ }
 {
     Piece {
         kind: kind_of(s.kind),

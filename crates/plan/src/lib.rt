@@ -8,19 +8,22 @@ mod walk;
 
 use demand::Costs;
 use demand::Piece;
+use demand::no_costs;
 use layouts::empty;
 use layouts::layout_of;
 use layouts::piece_of;
 use orders::order_of;
 use task::Machine;
+use task::TASKS_MOST;
 use task::Tasks;
+use task::no_machine;
+use task::no_task;
 use task::state_fault;
 use times::lay_times;
-use times::no_task;
 use times::tidy;
 use walk::walk_over;
 ghost use mathlib.Core.Path.{_≡_};
-ghost use Rattle.plan.specs.Layout.{tasksOn, pieceOf};
+ghost use Rattle.plan.specs.Layout.{tasksOn, keptPiece};
 ghost use Rattle.plan.specs.Plan.{planOf, refused};
 
 /// A piece as the plan keeps it: its task's place, from 0, its kind's number (0 whole, 1 first, 2 last), and its figures.
@@ -85,21 +88,11 @@ pub struct Going {
 fn refuse(number: u64, carries: usize) -> Reply
     ensures { λ r. ⌜ r ≡ refused number carries ⌝ }
 {
-    let machine = Machine { cores: 0, grain: 0 };
-    let costs = Costs {
-        relo: 0,
-        schedo: 0,
-        tseto: 0,
-        ipb: 0,
-        beto: 0,
-        migro: 0,
-        ipio: 0,
-        ipij: 0,
-        precision: 0,
-    };
+    let machine = no_machine();
+    let costs = no_costs();
     let tasks = Tasks {
         count: 0,
-        list: [no_task(); 64],
+        list: [no_task(); TASKS_MOST],
     };
     let layout = empty();
     let plan = Plan {
@@ -160,7 +153,7 @@ fn wide(n: u32) -> u64
 
 /// A piece that the plan keeps, as the verdict sees it.
 pub fn stored_piece(stored: Stored) -> Piece
-    ensures exact { λ r. ⌜ r ≡ pieceOf stored ⌝ }
+    ensures exact { λ r. ⌜ r ≡ keptPiece stored ⌝ }
 {
     piece_of(stored)
 }

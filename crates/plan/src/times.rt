@@ -1,44 +1,24 @@
 // A list of tasks with zeros past its end; and its times, laid out once in one array of numbers, six to a task, and lent from then on.
-use task::Name;
-use task::Task;
+use task::TASKS_MOST;
 use task::Tasks;
 use task::Times;
+use task::no_task;
 ghost use mathlib.Core.Path.{_≡_};
 ghost use Prim.Native.Nat.{_<_, _≤_};
 ghost use lib.ListN.{take, length, replicate};
 ghost use Rattle.plan.specs.ways.TimesArray.{timesAt, Laid, OthersKept};
-ghost use Rattle.plan.specs.Plan.{noTask, padded};
-
-pub fn no_task() -> Task
-    ensures { λ r. ⌜ r ≡ noTask ⌝ }
-{
-    let name = Name {
-        len: 0,
-        bytes: [0u8; 24],
-    };
-    let times = Times {
-        worst: 0,
-        deadline: 0,
-        period: 0,
-        jitter: 0,
-        preempt: 0,
-        migrate: 0,
-    };
-    Task {
-        name: name,
-        times: times,
-    }
-}
+ghost use Rattle.demand.specs.Lists.{padded};
+ghost use Rattle.task.specs.Tasks.{tasksMost, noTask};
 
 // The list with zeros past its end.
 pub fn tidy(tasks: Tasks) -> Tasks
-    requires { ⌜ tasks .count ≤ 64 ⌝ }
-    ensures { λ r. ⌜ (r .count ≡ tasks .count) × (r .list ≡ padded (take (tasks .count) (tasks .list))) ⌝ }
+    requires { ⌜ tasks .count ≤ tasksMost ⌝ }
+    ensures { λ r. ⌜ (r .count ≡ tasks .count) × (r .list ≡ padded tasksMost noTask (take (tasks .count) (tasks .list))) ⌝ }
 {
     let mut next = tasks;
     let blank = no_task();
     let mut i = tasks.count;
-    while i < 64 {
+    while i < TASKS_MOST {
         next.list[i] = blank;
         i += 1;
     }

@@ -1,7 +1,7 @@
 -- Laws of what the reader holds, and of what it looks up.
 -- Assumes nothing.
 --
---   tasks-none, tasks-put             no task, and one more
+--   tasks-put                         one task more
 --   tasks-count, -are, -array         a list of tasks in its array
 --   parts-none, -put, -count, -are, -array      the same of parts
 --   holds-same, -part, -task          what is held after a line
@@ -23,14 +23,14 @@ use Rattle.task.specs.Names.{sameName}
 use Rattle.demand.specs.Sizes.{sized}
 use Rattle.task.specs.declared.Part.{Part}
 use Rattle.task.specs.declared.Parts.{Parts}
-use Rattle.task.specs.Tasks.{tasksMost, noPart, noTask, taskOf, wholePiece, listOf, placeBy, rule, orElse}
+use Rattle.task.specs.Tasks.{tasksMost, noPart, noTask, taskOf, wholePiece, listOf, placeBy, rule, orElse, tasksOf}
 use Rattle.task.proofs.TaskLaws.{by-other, by-here, by-end}
 use Rattle.lines.specs.declared.Word.{Word}
 use Rattle.lines.specs.declared.Line.{Line}
 use Rattle.sheet.specs.declared.Head.{Head}
 use Rattle.demand.specs.Lists.{padded}
 use Rattle.demand.proofs.PaddedLaws.{padded-none, padded-take, padded-put, padded-length}
-use Rattle.sheet.specs.Sheet.{Above, partFault, fitFault, lineFault, wordAfter, after, partNamed, tasksOf}
+use Rattle.sheet.specs.Sheet.{Above, partFault, fitFault, lineFault, wordAfter, after, partNamed}
 use Rattle.sheet.specs.Held.{partsOf, headOf, Carries, Found}
 
 -- ---- lists in arrays
@@ -45,9 +45,6 @@ module _ {A : Type 0} (z : A) (list xs : List A) (kept : list ≡ padded tasksMo
 
   array-put : (x : A) → length xs < tasksMost → set list (length xs) x ≡ padded tasksMost z (xs ++ (x ∷ []))
   array-put x space = rw kept (padded-put z tasksMost xs x space)
-
-pub tasks-none : (t : Task) → t ≡ noTask → record { count = 0; list = replicate tasksMost t } ≡ tasksOf []
-tasks-none t e = rw (e, padded-none noTask tasksMost)
 
 pub parts-none : (p : Part) → p ≡ noPart → record { count = 0; list = replicate tasksMost p } ≡ partsOf []
 parts-none p e = rw (e, padded-none noPart tasksMost)

@@ -18,7 +18,7 @@ use native.Mathlib.Omega.{arith}
 use lib.ListN.{length, take, getD, set}
 use Rattle.task.specs.declared.Task.{Task}
 use Rattle.task.specs.declared.Tasks.{Tasks}
-use Rattle.task.specs.Tasks.{tasksMost, taskOf, partPlace}
+use Rattle.task.specs.Tasks.{tasksMost, taskOf, partPlace, tasksOf}
 use Rattle.task.specs.declared.Part.{Part}
 use Rattle.task.specs.declared.Parts.{Parts}
 use Rattle.lines.specs.declared.Word.{Word}
@@ -27,11 +27,10 @@ use Rattle.lines.specs.Lines.{newline, upTo}
 use Rattle.lines.specs.Forms.{lineOf}
 use Rattle.lines.proofs.LineLaws.{rest}
 use Rattle.sheet.specs.declared.Head.{Head}
-use Rattle.sheet.specs.Sheet.{Above, top, amongParts, sheetMost, lineFault, wordAfter, after, partNamed, refused, shown, readOf, tasksOf}
+use Rattle.sheet.specs.Sheet.{Above, top, amongParts, sheetMost, lineFault, wordAfter, after, partNamed, refused, shown, readOf}
 use Rattle.sheet.specs.Held.{partsOf, headOf, Carries, Found}
 use Rattle.sheet.proofs.FaultLaws.{line-part, line-fit, part-inside, part-there}
-use Rattle.sheet.proofs.DraftLaws.{tasks-count, tasks-are, tasks-array, parts-count, parts-are, parts-array, holds-same}
-use Rattle.sheet.proofs.DraftLaws.{holds-part, holds-task, Seeking, seek-end, partName, taskName}
+use Rattle.sheet.proofs.DraftLaws.{tasks-count, tasks-are, tasks-array, parts-count, parts-are, parts-array, holds-same, holds-part, holds-task, Seeking, seek-end, partName, taskName}
 use Rattle.sheet.proofs.ReadLaws.{Reached, reached-top, reached-bad, reached-line, reached-missing, reached-whole}
 
 pub record Standing (bytes : List ℕ) (h : Head) (ps : Parts) (ts : Tasks) (at n : ℕ) : Type 0 where

@@ -13,10 +13,10 @@ use Rattle.task.specs.declared.Part.{Part}
 use Rattle.task.specs.declared.Parts.{Parts}
 use Rattle.task.specs.declared.Tasks.{Tasks}
 use Rattle.demand.specs.Lists.{padded}
-use Rattle.task.specs.Tasks.{tasksMost, noPart, placeOf, partPlace}
+use Rattle.task.specs.Tasks.{tasksMost, noPart, placeOf, partPlace, tasksOf}
 use Rattle.lines.specs.declared.Line.{Line}
 use Rattle.sheet.specs.declared.Head.{Head}
-use Rattle.sheet.specs.Sheet.{Above, tasksOf}
+use Rattle.sheet.specs.Sheet.{Above}
 
 abbrev pub headOf : Above → Head
 headOf a = record { stage = a .stage; machine = a .machine; costs = a .costs }

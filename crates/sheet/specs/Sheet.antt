@@ -16,15 +16,13 @@ use Rattle.demand.specs.Sizes.{sized, sizedCosts}
 use Rattle.task.specs.declared.Name.{Name}
 use Rattle.task.specs.declared.Part.{Part}
 use Rattle.task.specs.declared.Task.{Task}
-use Rattle.task.specs.declared.Tasks.{Tasks}
 use Rattle.task.specs.declared.Machine.{Machine}
 use Rattle.task.specs.Names.{sameName}
-use Rattle.task.specs.Tasks.{tasksMost, noPart, noTask, noMachine, taskOf, sizedMachine, wholePiece, placeOf, partPlace, rule}
+use Rattle.task.specs.Tasks.{tasksMost, noPart, noMachine, taskOf, tasksOf, sizedMachine, wholePiece, placeOf, partPlace, rule}
 use Rattle.lines.specs.declared.Word.{Word}
 use Rattle.lines.specs.declared.Line.{Line}
 use Rattle.sheet.specs.declared.Sheet.{Sheet}
 use Rattle.sheet.specs.declared.Read.{Read}
-use Rattle.demand.specs.Lists.{padded}
 use Rattle.demand.specs.Charge.{noCosts}
 use Rattle.lines.specs.Lines.{newline, upTo, beyond}
 use Rattle.lines.specs.Forms.{lineOf}
@@ -161,9 +159,6 @@ unfoldable pub outcomeOf : List ℕ → Outcome
 outcomeOf bytes = cond (leb (length bytes) sheetMost) (readFrom top 1 (upTo newline bytes) (beyond newline bytes)) (refused 9 0)
 
 -- ---- the struct: a refusal has the empty sheet
-
-abbrev pub tasksOf : List Task → Tasks
-tasksOf ts = record { count = length ts; list = padded tasksMost noTask ts }
 
 abbrev pub sheetOf : Above → Sheet
 sheetOf a = record { machine = a .machine; costs = a .costs; tasks = tasksOf (a .tasks) }

@@ -16,8 +16,8 @@ ghost use mathlib.Core.Path.{_≡_};
 ghost use mathlib.Core.List.{[]};
 ghost use lib.Dec.{leb, ltb, eqb};
 ghost use Rattle.demand.specs.Sizes.{sized};
-ghost use Rattle.task.specs.Tasks.{tasksMost, wholePiece, rule};
-ghost use Rattle.sheet.specs.Sheet.{Above, machineFault, costFault, lineFault, after, tasksOf};
+ghost use Rattle.task.specs.Tasks.{tasksMost, wholePiece, rule, tasksOf};
+ghost use Rattle.sheet.specs.Sheet.{Above, machineFault, costFault, lineFault, after};
 ghost use Rattle.sheet.specs.Held.{partsOf, headOf, Found};
 
 // No task.

@@ -21,8 +21,7 @@ use Rattle.demand.specs.Sizes.{Each}
 use Rattle.demand.specs.Answer.{answerOf, told}
 use Rattle.demand.specs.Kinds.{kindNumber, kindOf}
 use Rattle.spardimple.specs.Bytes.{numberAt, outside, sevenAt, pieceAt, firstPieces, piecesOf, costsOf}
-use Rattle.spardimple.specs.Numbers.{number, verdictNumber}
-use Rattle.spardimple.specs.Numbers.Reply.{said}
+use Rattle.spardimple.specs.Numbers.{number, verdictNumber, said}
 use Rattle.spardimple.specs.Spelling.{fourBytes, sevenNumbers, runNumbers, nineNumbers, spell, Narrow}
 use Rattle.spardimple.proofs.ByteLaws.{piece-named}
 use Rattle.spardimple.proofs.NumberLaws.{reply-formed, number-reply}

@@ -24,8 +24,7 @@ use Rattle.demand.specs.declared.Answer.the-variants.{Judged, Refused}
 use Rattle.demand.specs.Answer.{Told, told, answerOf}
 use Rattle.demand.proofs.AnswerLaws.{answer-carries}
 use Rattle.spardimple.specs.Bytes.{piecesOf, costsOf}
-use Rattle.spardimple.specs.Numbers.{number, Reply, toldReply, formed, replyOf, verdictNumber}
-use Rattle.spardimple.specs.Numbers.Reply.{malformed, said}
+use Rattle.spardimple.specs.Numbers.{number, Reply, toldReply, formed, replyOf, verdictNumber, malformed, said}
 
 -- ---- no two answers share a number
 

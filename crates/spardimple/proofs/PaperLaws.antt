@@ -26,8 +26,9 @@ use Rattle.plan.specs.declared.Reply.{Reply}
 use Rattle.walks.specs.Way.{stuck}
 use Rattle.plan.specs.Walk.{walked}
 use Rattle.plan.proofs.Theorems.{plan-comes, no-room}
-use Rattle.lines.specs.Lines.{nameMost, nameOf}
-use Rattle.lines.proofs.LineLaws.{padded-length}
+use Rattle.task.specs.Names.{nameMost}
+use Rattle.lines.specs.Lines.{nameOf}
+use Rattle.demand.proofs.PaddedLaws.{padded-length}
 use Rattle.sheet.specs.declared.Sheet.{Sheet}
 use Rattle.sheet.specs.Sheet.{sheetMost, shown, readOf, refused as sheetRefused}
 use Rattle.task.specs.Tasks.{listOf}
@@ -40,8 +41,7 @@ use Rattle.listing.specs.Listing.{spelling, listingOf}
 use Rattle.listing.proofs.TextLaws.{over-short, over-fits}
 use Rattle.listing.proofs.PlainLaws.{listing-few}
 use Rattle.spardimple.specs.Numbers.{number}
-use Rattle.spardimple.specs.Sheets.{Paper, refused, written, unless, planSheet, listed, planned, paperOf, machineIn, costsIn}
-use Rattle.spardimple.specs.Sheets.{tasksIn, planIn, refusal, toldPaper, listingNumber, left, listingLeft}
+use Rattle.spardimple.specs.Sheets.{Paper, refused, written, unless, planSheet, listed, planned, paperOf, machineIn, costsIn, tasksIn, planIn, refusal, toldPaper, listingNumber, left, listingLeft}
 use Rattle.spardimple.proofs.NumberLaws.{told-one}
 use Rattle.spardimple.proofs.SheetLaws.{paper-unread, paper-stuck, paper-written, reply-small, told-long, told-short}
 

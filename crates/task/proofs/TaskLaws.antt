@@ -7,8 +7,9 @@
 --   run-twin, run-fault, run-good, run-fault-end     the first fault among them: at a task with a twin above it, at one without, none there, none at all
 --   fault-form, fault-free      a task with a bad name; a good one
 --   rule-fine, or-else-fine     a rule that gives no number is kept
+--   tasks-none, tasks-listed, tasks-at      a list in its array
 --   Good, Sane, state-sane      what is known of tasks, and of a machine with costs and tasks, that break no rule
-use mathlib.Core.Path.{_≡_, refl, sym, _∙_}
+use mathlib.Core.Path.{_≡_, refl, sym, ap, _∙_}
 use mathlib.Core.Bool.{Bool, true, false, _&&_}
 use mathlib.Core.List.{List, [], _∷_, _++_}
 use Prim.Native.Nat.{ℕ, zero, suc, _+_, _≤_, _<_}
@@ -17,7 +18,8 @@ use native.Mathlib.Numerals.{add-one}
 use native.Mathlib.Omega.{arith}
 use borrow.Author.Tests.{eq-eqb, ne-eqb, eqb-true, leb-true}
 use lib.Dec.{eqb, leb}
-use lib.ListN.{length, take, drop, getD, length-take, drop-of-length-le}
+use lib.ListN.{length, take, drop, getD, replicate, length-take, drop-of-length-le, List·getD-append}
+use Rattle.demand.proofs.PaddedLaws.{padded-none, padded-take, padded-append}
 use lib.Seq.{drop-cons, take-suc, take-take, getD-take}
 use Rattle.task.specs.declared.Name.{Name}
 use Rattle.task.specs.declared.Task.{Task}
@@ -26,8 +28,7 @@ use Rattle.demand.specs.declared.Costs.{Costs}
 use Rattle.demand.specs.Sizes.{sized, sizedCosts, Sized, SizedCosts, Each, timeMost}
 use Rattle.demand.proofs.SizeLaws.{sized-true, sized-costs-true}
 use Rattle.task.specs.Names.{formed, sameName}
-use Rattle.task.specs.Tasks.{wholePiece, placeBy, placeOf, faultOf, firstFault, orElse, past, taskAt}
-use Rattle.task.specs.Tasks.{rule, stateFault, sizedMachine, coresMost, tasksMost}
+use Rattle.task.specs.Tasks.{wholePiece, placeBy, placeOf, faultOf, firstFault, orElse, past, taskAt, noTask, tasksOf, listOf, rule, stateFault, sizedMachine, coresMost, tasksMost}
 
 -- ---- the place of a name, among things that have one
 
@@ -194,3 +195,15 @@ state-sane m c n ts e =
       faultless = d .1;
       timed = faults-timed [] (take n ts) (d .1);
     }
+
+-- ---- a list in its array
+
+pub tasks-none : (t : Task) → t ≡ noTask → record { count = 0; list = replicate tasksMost t } ≡ tasksOf []
+tasks-none t e = rw (e, padded-none noTask tasksMost)
+
+pub tasks-listed : (ts : List Task) → length ts ≤ tasksMost → listOf (tasksOf ts) ≡ ts
+tasks-listed ts few = padded-take noTask tasksMost ts few
+
+-- the task at a place, from 0
+pub tasks-at : (ts : List Task) (i : ℕ) → length ts ≤ tasksMost → i < length ts → taskAt (tasksOf ts .list) i ≡ taskAt ts i
+tasks-at ts i few low = ap (λ (l : List Task). taskAt l i) (padded-append noTask tasksMost ts few) ∙ List·getD-append ts _ past i low

@@ -7,6 +7,7 @@
 --   placeBy key k n xs the place of the first of xs with the name n, counted from k, or 0
 --   placeOf k n ts     of the first task named n
 --   partPlace k n ps   of the first part named n
+--   tasksOf ts         the tasks ts in an array of 64, with zeros past their end
 --   listOf q           the tasks that q holds: the first `count`, whatever stands past them
 --   taskAt ts i        the task at place i, from 0
 --   faultOf above t    what is wrong with the task t below others: 8, then 3, then 4, or 0
@@ -16,10 +17,11 @@ use mathlib.Core.Bool.{Bool, true, false, cond, _&&_}
 use mathlib.Core.List.{List, [], _∷_, _++_}
 use Prim.Native.Nat.{ℕ, zero, suc, _+_}
 use lib.Dec.{leb, eqb}
-use lib.ListN.{take, getD}
+use lib.ListN.{take, length, getD}
 use Rattle.demand.specs.declared.Kind.the-variants.{Whole}
 use Rattle.demand.specs.declared.Piece.{Piece}
 use Rattle.demand.specs.declared.Costs.{Costs}
+use Rattle.demand.specs.Lists.{padded}
 use Rattle.demand.specs.Sizes.{sized, sizedCosts, timeMost}
 use Rattle.task.specs.declared.Name.{Name}
 use Rattle.task.specs.declared.Times.{Times}
@@ -55,6 +57,9 @@ wholePiece t = record { kind = Whole; budget = t .worst; window = t .deadline; p
 
 unfoldable pub sizedMachine : Machine → Bool
 sizedMachine m = leb 1 (m .cores) && leb (m .cores) coresMost && leb 1 (m .grain) && leb (m .grain) timeMost
+
+abbrev pub tasksOf : List Task → Tasks
+tasksOf ts = record { count = length ts; list = padded tasksMost noTask ts }
 
 abbrev pub listOf : Tasks → List Task
 listOf q = take (q .count) (q .list)

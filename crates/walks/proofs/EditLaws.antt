@@ -75,7 +75,12 @@ module _ {A K : Type 0} (N : Keyed A K) (exact : Exact N) where
   between-more k a xs ys l (inr h) = inr (h .0, h .1, ap (λ (z : List A). a ∷ z) (h .2))
 
   around-more : (k : K) (a : A) {old new : List A} → Around N k old new → Around N k (a ∷ old) (a ∷ new)
-  around-more k a {old} {new} h = record { xs = a ∷ h .xs; ys = h .ys; in-old = between-more k a (h .xs) (h .ys) old (h .in-old); in-new = between-more k a (h .xs) (h .ys) new (h .in-new) }
+  around-more k a {old} {new} h = record {
+    xs = a ∷ h .xs;
+    ys = h .ys;
+    in-old = between-more k a (h .xs) (h .ys) old (h .in-old);
+    in-new = between-more k a (h .xs) (h .ys) new (h .in-new);
+  }
 
   without-around : (k : K) (l : List A) → Around N k l (without N k l)
   without-around k [] = record { xs = []; ys = []; in-old = inl refl; in-new = inl refl }
@@ -89,7 +94,8 @@ module _ {A K : Type 0} (N : Keyed A K) (exact : Exact N) where
   replaced-around b [] = record { xs = []; ys = []; in-old = inl refl; in-new = inl refl }
   replaced-around b (a ∷ l) = by (N .same (N .key b) (N .key a)) refl (replaced-around b l)
     where
-      by : (t : Bool) → N .same (N .key b) (N .key a) ≡ t → Around N (N .key b) l (replaced N b l) → Around N (N .key b) (a ∷ l) (cond t (b ∷ l) (a ∷ replaced N b l))
+      by : (t : Bool) → N .same (N .key b) (N .key a) ≡ t → Around N (N .key b) l (replaced N b l)
+          → Around N (N .key b) (a ∷ l) (cond t (b ∷ l) (a ∷ replaced N b l))
       by true told rec = record { xs = []; ys = l; in-old = inr (a, sym (exact .told (N .key b) (N .key a) told), refl); in-new = inr (b, refl, refl) }
       by false told rec = around-more (N .key b) a rec
 

@@ -28,7 +28,7 @@ use Rattle.demand.specs.declared.Split.the-variants.{Cut, Nowhere}
 use Rattle.demand.specs.Sizes.{Sized, SizedCosts, Each}
 use Rattle.demand.specs.Charge.{coreOf, stall}
 use Rattle.demand.specs.Verdict.{verdictOf}
-use Rattle.demand.specs.Split.{firstPiece, lastPiece, passes, greatestSplit, Splits}
+use Rattle.demand.specs.Split.{pieceOf, firstPiece, lastPiece, passes, greatestSplit, Splits}
 use Rattle.demand.proofs.Sums.{each-snoc}
 use Rattle.demand.proofs.BusyLaws.{least-unique}
 use Rattle.demand.proofs.VerdictLaws.{verdict-empty}
@@ -42,7 +42,8 @@ use Rattle.walks.proofs.WayLaws.{IfLands, sticks-at}
 use Rattle.walks.proofs.SoundLaws.{row-append, Claim, Sound}
 
 module _ {A : Type 0} (c : Costs) (g m : ℕ) (whole : A → Piece) where
-  pub stands-meet : (p p′ : List A) (s s′ : Stand) (l l′ : List (Placed A)) → walkOver (halving c g m whole) p ≡ fine s l → walkOver (halving c g m whole) p′ ≡ fine s′ l′ → s .core ≡ s′ .core → s .row ≡ s′ .row → Meet (halving c g m whole) p p′
+  pub stands-meet : (p p′ : List A) (s s′ : Stand) (l l′ : List (Placed A)) → walkOver (halving c g m whole) p ≡ fine s l
+      → walkOver (halving c g m whole) p′ ≡ fine s′ l′ → s .core ≡ s′ .core → s .row ≡ s′ .row → Meet (halving c g m whole) p p′
   stands-meet p p′ s s′ l l′ old new core row =
       let same : _≡_ {A = Stand} (record { core = s′ .core; row = s′ .row }) (record { core = s .core; row = s .row }) = cc in
       record { at = s; old-log = l; new-log = l′; old-walk = old; new-walk = new ∙ ap (λ (t : Stand). fine t l′) same }
@@ -55,13 +56,24 @@ module _ (c : Costs) (g : ℕ) (w : Piece) (p : ℕ) (row : List Piece) where
 
   pub from-one : (n : ℕ) → whole-fits ≡ true → fromCore c g w n p row ≡ inOne c g w p row
   from-one zero e = ap (λ (t : Bool). elim t [ true ↦ inOne c g w p row | false ↦ refuses 7 ]) e
-  from-one (suc n) e = ap (λ (t : Bool). elim t [ true ↦ inOne c g w p row | false ↦ (elim (greatestSplit c g row w) [ Cut x v ↦ inTwo c g w p x v | Nowhere ↦ fromCore c g w n (suc p) [] ]) ]) e
+  from-one (suc n) e =
+      ap (λ (t : Bool). elim t [
+        | true ↦ inOne c g w p row
+        | false ↦
+            (elim (greatestSplit c g row w) [ Cut x v ↦ inTwo c g w p x v | Nowhere ↦ fromCore c g w n (suc p) [] ])
+      ]) e
 
   pub from-stuck : whole-fits ≡ false → fromCore c g w zero p row ≡ refuses 7
   from-stuck e = ap (λ (t : Bool). elim t [ true ↦ inOne c g w p row | false ↦ refuses 7 ]) e
 
-  from-else : (n : ℕ) → whole-fits ≡ false → fromCore c g w (suc n) p row ≡ elim (greatestSplit c g row w) [ Cut x v ↦ inTwo c g w p x v | Nowhere ↦ fromCore c g w n (suc p) [] ]
-  from-else n e = ap (λ (t : Bool). elim t [ true ↦ inOne c g w p row | false ↦ (elim (greatestSplit c g row w) [ Cut x v ↦ inTwo c g w p x v | Nowhere ↦ fromCore c g w n (suc p) [] ]) ]) e
+  from-else : (n : ℕ) → whole-fits ≡ false → fromCore c g w (suc n) p row
+      ≡ elim (greatestSplit c g row w) [ Cut x v ↦ inTwo c g w p x v | Nowhere ↦ fromCore c g w n (suc p) [] ]
+  from-else n e =
+      ap (λ (t : Bool). elim t [
+        | true ↦ inOne c g w p row
+        | false ↦
+            (elim (greatestSplit c g row w) [ Cut x v ↦ inTwo c g w p x v | Nowhere ↦ fromCore c g w n (suc p) [] ])
+      ]) e
 
   pub from-both : (n x v : ℕ) → whole-fits ≡ false → greatestSplit c g row w ≡ Cut x v → fromCore c g w (suc n) p row ≡ inTwo c g w p x v
   from-both n x v e s = from-else n e ∙ ap (λ (t : Split). elim t [ Cut x v ↦ inTwo c g w p x v | Nowhere ↦ fromCore c g w n (suc p) [] ]) s
@@ -88,7 +100,8 @@ module _ (c : Costs) (g : ℕ) (w : Piece) where
       by false = λ n e. (cc)
   from-seven (suc n) p row = by (passes (verdictOf c (row ++ (w ∷ [])))) (greatestSplit c g row w) (from-seven n (suc p) [])
     where
-      by : (t : Bool) (u : Split) → Seven (fromCore c g w n (suc p) []) → Seven (elim t [ true ↦ inOne c g w p row | false ↦ (elim u [ Cut x v ↦ inTwo c g w p x v | Nowhere ↦ fromCore c g w n (suc p) [] ]) ])
+      by : (t : Bool) (u : Split) → Seven (fromCore c g w n (suc p) [])
+          → Seven (elim t [ true ↦ inOne c g w p row | false ↦ (elim u [ Cut x v ↦ inTwo c g w p x v | Nowhere ↦ fromCore c g w n (suc p) [] ]) ])
       by true u rec = one-seven p row
       by false (Cut x v) rec = two-seven p x v
       by false Nowhere rec = rec
@@ -135,7 +148,8 @@ halves c g m whole = record {
 
 module _ {A : Type 0} (c : Costs) (g m : ℕ) (costs : SizedCosts c) (w : Piece) (right : Right w) (a : A) (done : List A) (log : List (Placed A)) where
   abbrev Kept : Stand → List Spot → Type 0
-  Kept t l = Fit m (done ++ (a ∷ [])) t (log ++ map (placedAs a) l) × Divides m w l × Shared c g w a (map (placedAs a) l) × Each (λ e. Fine c (rowOf (e .on) (log ++ map (placedAs a) l))) l
+  Kept t l = Fit m (done ++ (a ∷ [])) t (log ++ map (placedAs a) l) × Divides m w l × Shared c g w a (map (placedAs a) l)
+      × Each (λ e. Fine c (rowOf (e .on) (log ++ map (placedAs a) l))) l
 
   row-here : (q : ℕ) (row : List Piece) (x : Piece) → rowOf q log ≡ row → rowOf q (log ++ (record { on = q; item = a; piece = x } ∷ [])) ≡ row ++ (x ∷ [])
   row-here q row x h = row-append q log (record { on = q; item = a; piece = x } ∷ []) ∙ rw (h, eq-eqb q q refl)
@@ -143,7 +157,8 @@ module _ {A : Type 0} (c : Costs) (g m : ℕ) (costs : SizedCosts c) (w : Piece)
   row-other : (p q : ℕ) (x : Piece) → (p ≡ q → ⊥) → rowOf q (log ++ (record { on = p; item = a; piece = x } ∷ [])) ≡ rowOf q log
   row-other p q x never = row-append q log (record { on = p; item = a; piece = x } ∷ []) ∙ rw (ne-eqb p q never, append-nil)
 
-  keeps-one : (p : ℕ) (row : List Piece) → Fit m done (record { core = p; row = row }) log → Fine c row → passes (verdictOf c (row ++ (w ∷ []))) ≡ true → IfLands Kept (inOne c g w p row)
+  keeps-one : (p : ℕ) (row : List Piece) → Fit m done (record { core = p; row = row }) log → Fine c row
+      → passes (verdictOf c (row ++ (w ∷ []))) ≡ true → IfLands Kept (inOne c g w p row)
   keeps-one p row h has e = (
     record {
       here = row-here p row w (h .here);
@@ -151,19 +166,32 @@ module _ {A : Type 0} (c : Costs) (g m : ℕ) (costs : SizedCosts c) (w : Piece)
       below = h .below;
       count = simp length-append (omega (arith, h .count));
     },
-    record { kinds = rw (right .kind) Kinds.in-one; apart = (tt, tt); within = (h .below, tt); some = (right .size .budget-some, tt); budgets = omega arith; windows = omega arith },
+    record {
+      kinds = rw (right .kind) Kinds.in-one;
+      apart = (tt, tt);
+      within = (h .below, tt);
+      some = (right .size .budget-some, tt);
+      budgets = omega arith;
+      windows = omega arith;
+    },
     one-piece,
-    (rw (row-here p row w (h .here)) (record { sizes = each-snoc Sized row w (has .sizes) (right .size); passing = passes-is (verdictOf c (row ++ (w ∷ []))) e }), tt),
+    (
+      rw (row-here p row w (h .here))
+          (record { sizes = each-snoc Sized row w (has .sizes) (right .size); passing = passes-is (verdictOf c (row ++ (w ∷ []))) e }),
+      tt,
+    ),
   )
 
-  keeps-two : (p : ℕ) (row : List Piece) (x v : ℕ) → Fit m done (record { core = p; row = row }) log → suc p < m → Fine c row → greatestSplit c g row w ≡ Cut x v → IfLands Kept (inTwo c g w p x v)
+  keeps-two : (p : ℕ) (row : List Piece) (x v : ℕ) → Fit m done (record { core = p; row = row }) log → suc p < m → Fine c row
+      → greatestSplit c g row w ≡ Cut x v → IfLands Kept (inTwo c g w p x v)
   keeps-two p row x v h next has e =
       let parts = split-parts c g row w costs (has .sizes) (right .size) x v e in
       let f = firstPiece w x v in
       let l = lastPiece c w x v in
       let pair : List (Placed A) = record { on = p; item = a; piece = f } ∷ record { on = suc p; item = a; piece = l } ∷ [] in
       let on-first : rowOf p (log ++ pair) ≡ row ++ (f ∷ []) = row-append p log pair ∙ rw (h .here, eq-eqb p p refl, ne-eqb (suc p) p (λ z. omega arith)) in
-      let on-next : rowOf (suc p) (log ++ pair) ≡ l ∷ [] = row-append (suc p) log pair ∙ rw (h .ahead (suc p) (omega arith), eq-eqb (suc p) (suc p) refl, ne-eqb p (suc p) (λ z. omega arith)) in (
+      let on-next : rowOf (suc p) (log ++ pair) ≡ l ∷ [] = row-append (suc p) log pair
+      ∙ rw (h .ahead (suc p) (omega arith), eq-eqb (suc p) (suc p) refl, ne-eqb p (suc p) (λ z. omega arith)) in (
         record {
           here = on-next;
           ahead = λ q g. row-append q log pair ∙ rw (ne-eqb p q (λ z. omega arith), ne-eqb (suc p) q (λ z. omega arith), append-nil) (h .ahead q (omega arith));
@@ -172,11 +200,15 @@ module _ {A : Type 0} (c : Costs) (g m : ℕ) (costs : SizedCosts c) (w : Piece)
         },
         halved p x v next parts,
         two-pieces row (has .sizes) (has .passing) e,
-        (rw on-first (record { sizes = each-snoc Sized row f (has .sizes) (parts .first-sized); passing = parts .first-passes }), (rw on-next (record { sizes = (parts .last-sized, tt); passing = parts .last-passes }), tt)),
+        (
+          rw on-first (record { sizes = each-snoc Sized row f (has .sizes) (parts .first-sized); passing = parts .first-passes }),
+          (rw on-next (record { sizes = (parts .last-sized, tt); passing = parts .last-passes }), tt),
+        ),
       )
     where
-      halved : (p x v : ℕ) → suc p < m → Parts c row w x v → Divides m w (record { on = p; piece = firstPiece w x v } ∷ record { on = suc p; piece = lastPiece c w x v } ∷ [])
-      halved p x v next parts = unfold firstPiece lastPiece in record {
+      halved : (p x v : ℕ) → suc p < m → Parts c row w x v
+          → Divides m w (record { on = p; piece = firstPiece w x v } ∷ record { on = suc p; piece = lastPiece c w x v } ∷ [])
+      halved p x v next parts = unfold firstPiece lastPiece pieceOf in record {
         kinds = Kinds.in-two;
         apart = (((λ z. omega arith), tt), (tt, tt));
         within = (omega arith, (next, tt));
@@ -185,18 +217,25 @@ module _ {A : Type 0} (c : Costs) (g m : ℕ) (costs : SizedCosts c) (w : Piece)
         windows = omega (arith, parts .inside);
       }
 
-  keeps-from : (n p : ℕ) (row : List Piece) → p + n + 1 ≡ m → Fit m done (record { core = p; row = row }) log → Fine c row → IfLands Kept (fromCore c g w n p row)
+  keeps-from : (n p : ℕ) (row : List Piece) → p + n + 1 ≡ m → Fit m done (record { core = p; row = row }) log → Fine c row
+      → IfLands Kept (fromCore c g w n p row)
   keeps-from zero p row left h has = by (passes (verdictOf c (row ++ (w ∷ [])))) refl
     where
       by : (t : Bool) → passes (verdictOf c (row ++ (w ∷ []))) ≡ t → IfLands Kept (elim t [ true ↦ inOne c g w p row | false ↦ refuses 7 ])
       by true e = keeps-one p row h has e
       by false e = tt
-  keeps-from (suc n) p row left h has = by (passes (verdictOf c (row ++ (w ∷ [])))) refl (greatestSplit c g row w) refl (keeps-from n (suc p) [] (omega arith) next (fine-empty c))
+  keeps-from (suc n) p row left h has =
+      by (passes (verdictOf c (row ++ (w ∷ [])))) refl (greatestSplit c g row w) refl (keeps-from n (suc p) [] (omega arith) next (fine-empty c))
     where
       next : Fit m done (record { core = suc p; row = [] }) log
       next = record { here = h .ahead (suc p) (omega arith); ahead = λ q g. h .ahead q (omega arith); below = omega arith; count = omega (arith, h .count) }
 
-      by : (t : Bool) → passes (verdictOf c (row ++ (w ∷ []))) ≡ t → (u : Split) → greatestSplit c g row w ≡ u → IfLands Kept (fromCore c g w n (suc p) []) → IfLands Kept (elim t [ true ↦ inOne c g w p row | false ↦ (elim u [ Cut x v ↦ inTwo c g w p x v | Nowhere ↦ fromCore c g w n (suc p) [] ]) ])
+      by : (t : Bool) → passes (verdictOf c (row ++ (w ∷ []))) ≡ t → (u : Split) → greatestSplit c g row w ≡ u
+          → IfLands Kept (fromCore c g w n (suc p) [])
+          → IfLands Kept (elim t [
+            | true ↦ inOne c g w p row
+            | false ↦ (elim u [ Cut x v ↦ inTwo c g w p x v | Nowhere ↦ fromCore c g w n (suc p) [] ])
+          ])
       by true e u s rec = keeps-one p row h has e
       by false e (Cut x v) s rec = keeps-two p row x v h (omega arith) has s
       by false e Nowhere s rec = rec
@@ -205,14 +244,16 @@ pub halving-sound : {A : Type 0} (c : Costs) (g m : ℕ) (whole : A → Piece) �
 halving-sound c g m whole costs some = record {
   empty = fine-empty c;
   begins = record { here = refl; ahead = λ q less. refl; below = some; count = omega arith };
-  step = λ done s log a right h rows. keeps-from c g m costs (whole a) right a done log (m - 1 - s .core) (s .core) (s .row) (omega (arith, h .below)) h (subst (Fine c) (h .here) (rows (s .core)));
+  step =
+      λ done s log a right h rows. keeps-from c g m costs (whole a) right a done log (m - 1 - s .core) (s .core) (s .row)
+      (omega (arith, h .below)) h (subst (Fine c) (h .here) (rows (s .core)));
 }
 
 -- ---- C=D's share of an item
 
 module _ {A : Type 0} (c : Costs) (g : ℕ) (w : Piece) (a : A) where
   pub shared-firsts : w .kind ≡ Whole → {l : List (Placed A)} → Shared c g w a l → length l ≡ 1 + splitCount l
-  unfolding firstPiece lastPiece
+  unfolding firstPiece lastPiece pieceOf
   shared-firsts plain one-piece = rw plain
   shared-firsts plain (two-pieces row sizes pass cut) = refl
 
@@ -222,14 +263,23 @@ module _ {A : Type 0} (c : Costs) (g : ℕ) (w : Piece) (a : A) where
         let s = subst (λ (r : Split). Splits c g row w r) cut (split-means c g row w sizes size) in
         omega (arith, s .2, free .jitter-none, least-unique (s .1 .allowed .tight) (tight-is-budget c row w free x (s .1 .candidate .some)))
 
-    pub shared-free : Free c w → w .kind ≡ Whole → {l : List (Placed A)} → Shared c g w a l → Each (λ e. e .piece .kind ≡ First → e .piece .window ≡ e .piece .budget) l
-    unfolding firstPiece lastPiece
+    pub shared-free : Free c w → w .kind ≡ Whole → {l : List (Placed A)} → Shared c g w a l
+        → Each (λ e. e .piece .kind ≡ First → e .piece .window ≡ e .piece .budget) l
+    unfolding firstPiece lastPiece pieceOf
     shared-free free plain one-piece = ((λ e. let z : _≡_ {A = ℕ} 0 1 = cc in absurd (omega arith)), tt)
-    shared-free free plain (two-pieces {x = x} {v = v} row sizes pass cut) = ((λ e. cut-free free row sizes x v cut), ((λ e. let z : _≡_ {A = ℕ} 0 1 = cc in absurd (omega arith)), tt))
+    shared-free free plain (two-pieces {x = x} {v = v} row sizes pass
+        cut) = ((λ e. cut-free free row sizes x v cut), ((λ e. let z : _≡_ {A = ℕ} 0 1 = cc in absurd (omega arith)), tt))
 
 -- so there is a piece for each item, and one more for each split
 module _ {A : Type 0} (c : Costs) (g m : ℕ) (w : A → Piece) (plain : (a : A) → w a .kind ≡ Whole) where
-  pub shares-firsts : {xs : List A} {log : List (Placed A)} → Shares (λ a l. Divides m (w a) l × Shared c g (w a) a (map (placedAs a) l)) xs log → length log ≡ length xs + splitCount log
+  pub shares-firsts : {xs : List A} {log : List (Placed A)}
+      → Shares (λ a l. Divides m (w a) l × Shared c g (w a) a (map (placedAs a) l)) xs log → length log ≡ length xs + splitCount log
   shares-firsts nil = refl
   shares-firsts (more {a = a} {k = k} {l = l} s r) =
-      omega (arith, length-append (map (placedAs a) k) l, sum-append (λ (e : Placed A). isFirst (e .piece .kind)) (map (placedAs a) k) l, shares-firsts r, shared-firsts c g (w a) a (plain a) (s .1))
+      omega (
+        arith,
+        length-append (map (placedAs a) k) l,
+        sum-append (λ (e : Placed A). isFirst (e .piece .kind)) (map (placedAs a) k) l,
+        shares-firsts r,
+        shared-firsts c g (w a) a (plain a) (s .1),
+      )

@@ -44,7 +44,10 @@ module _ {A K : Type 0} (N : Keyed A K) where
 
     share-none : (l : List (Placed A)) → Each (λ e. N .key (e .item) ≡ k → ⊥) l → shareOn k q l ≡ []
     share-none l never =
-        let none : ofKey N k (onCore q l) ≡ [] = only-none (λ e. N .same k (N .key (e .item))) (onCore q l) (each-imp (λ e. N .key (e .item) ≡ k → ⊥) (λ e. N .same k (N .key (e .item)) ≡ false) other (onCore q l) (each-only (λ e. N .key (e .item) ≡ k → ⊥) (λ e. eqb (e .on) q) l never)) in
+        let none : ofKey N k (onCore q l) ≡ [] =
+        only-none (λ e. N .same k (N .key (e .item))) (onCore q l)
+        (each-imp (λ e. N .key (e .item) ≡ k → ⊥) (λ e. N .same k (N .key (e .item)) ≡ false) other (onCore q l)
+        (each-only (λ e. N .key (e .item) ≡ k → ⊥) (λ e. eqb (e .on) q) l never)) in
         ap (map (λ (e : Placed A). e .piece)) none
 
 -- ---- two walks
@@ -53,23 +56,29 @@ module _ {A K : Type 0} (W : Way A) (N : Keyed A K) (exact : Exact N) (b : K) (q
   module _ {s : W .State} {xs ys : List A} {end : W .State} {log : List (Placed A)} (apart : Apart (N .key) (xs ++ ys)) (parts : Parts W s xs ys end log) where
     pub share-first : Among N b xs → shareOn N b q log ≡ shareOn N b q (parts .past)
     share-first m =
-        let none = share-none N exact b q (parts .rest) (walk-items W (λ a. N .key a ≡ b → ⊥) (parts .at) end ys (parts .rest) (apart-first N b xs ys apart m) (parts .second)) in
+        let none =
+        share-none N exact b q (parts .rest)
+        (walk-items W (λ a. N .key a ≡ b → ⊥) (parts .at) end ys (parts .rest) (apart-first N b xs ys apart m) (parts .second)) in
         ap (shareOn N b q) (parts .joins) ∙ (share-append N exact b q (parts .past) (parts .rest) ∙ rw none (append-nil (shareOn N b q (parts .past))))
 
     pub share-last : Among N b ys → shareOn N b q log ≡ shareOn N b q (parts .rest)
     share-last m =
-        let none = share-none N exact b q (parts .past) (walk-items W (λ a. N .key a ≡ b → ⊥) s (parts .at) xs (parts .past) (apart-last N b xs ys apart m) (parts .first)) in
+        let none =
+        share-none N exact b q (parts .past)
+        (walk-items W (λ a. N .key a ≡ b → ⊥) s (parts .at) xs (parts .past) (apart-last N b xs ys apart m) (parts .first)) in
         ap (shareOn N b q) (parts .joins) ∙ (share-append N exact b q (parts .past) (parts .rest) ∙ rw none)
 
   module _ (s : W .State) {end end′ : W .State} {log log′ : List (Placed A)} where
-    pub first-kept : (xs ys zs : List A) → Apart (N .key) (xs ++ ys) → Apart (N .key) (xs ++ zs) → walk W s (xs ++ ys) ≡ fine end log → walk W s (xs ++ zs) ≡ fine end′ log′ → Among N b xs → shareOn N b q log ≡ shareOn N b q log′
+    pub first-kept : (xs ys zs : List A) → Apart (N .key) (xs ++ ys) → Apart (N .key) (xs ++ zs) → walk W s (xs ++ ys) ≡ fine end log
+        → walk W s (xs ++ zs) ≡ fine end′ log′ → Among N b xs → shareOn N b q log ≡ shareOn N b q log′
     first-kept xs ys zs apart apart′ w v m =
         let x = in-parts W s xs ys end log w in
         let y = in-parts W s xs zs end′ log′ v in
         let same = rest-same W xs refl (x .first) (y .first) in
         share-first apart x m ∙ (ap (shareOn N b q) (same .1) ∙ sym (share-first apart′ y m))
 
-    pub last-kept : (xs ys zs : List A) (t : W .State) (k l : List (Placed A)) → Apart (N .key) (xs ++ zs) → Apart (N .key) (ys ++ zs) → walk W s (xs ++ zs) ≡ fine end log → walk W s (ys ++ zs) ≡ fine end′ log′ →
+    pub last-kept : (xs ys zs : List A) (t : W .State) (k l : List (Placed A)) → Apart (N .key) (xs ++ zs) → Apart (N .key) (ys ++ zs)
+        → walk W s (xs ++ zs) ≡ fine end log → walk W s (ys ++ zs) ≡ fine end′ log′ →
         walk W s xs ≡ fine t k → walk W s ys ≡ fine t l → Among N b zs → shareOn N b q log ≡ shareOn N b q log′
     last-kept xs ys zs t k l apart apart′ w v old new m =
         let x = in-parts W s xs zs end log w in
@@ -100,7 +109,14 @@ module _ {A K : Type 0} (W : Way A) (Good : A → Type 0) (lawful : Lawful Good 
   between-touch {n} {l} xs ys sorts (inr h) =
       let good = each-parts Good xs (h .0 ∷ ys) (subst (Each Good) (h .2) (sorts .good)) in
       let u = gap-put N (pack-gap Good (W .beats) lawful (h .0) xs ys (good .1 .0) (good .0) (good .1 .1)) in
-      inr (record { front = u .front; item = u .item; back = u .back; own = u .own ∙ h .1; more = _∙_ {c = u .front ++ (u .item ∷ u .back)} (ap (pack (W .beats)) (h .2)) (u .more); less = u .less })
+      inr (record {
+        front = u .front;
+        item = u .item;
+        back = u .back;
+        own = u .own ∙ h .1;
+        more = _∙_ {c = u .front ++ (u .item ∷ u .back)} (ap (pack (W .beats)) (h .2)) (u .more);
+        less = u .less;
+      })
 
   between-apart : {n : K} {l : List A} (xs ys : List A) → Apart (N .key) l → Between N n xs ys l → Apart (N .key) (xs ++ ys)
   between-apart xs ys apart (inl e) = subst (Apart (N .key)) e apart
@@ -132,14 +148,19 @@ module _ {A K : Type 0} (W : Way A) (Good : A → Type 0) (lawful : Lawful Good 
         within : Fore N b (order old) (order new) → shareOn N b q log ≡ shareOn N b q log′
         within f =
             first-kept W N exact b q (W .begin) (f .front) (f .old-rest) (f .new-rest)
-            (subst (Apart (N .key)) (f .old-is) (pack-apart (N .key) (W .beats) old (sorts .apart))) (subst (Apart (N .key)) (f .new-is) (pack-apart (N .key) (W .beats) new (sorts′ .apart)))
+            (subst (Apart (N .key)) (f .old-is) (pack-apart (N .key) (W .beats) old (sorts .apart)))
+            (subst (Apart (N .key)) (f .new-is) (pack-apart (N .key) (W .beats) new (sorts′ .apart)))
             (subst (λ (z : List A). Walks z end log) (f .old-is) plan) (subst (λ (z : List A). Walks z end′ log′) (f .new-is) plan′) (f .among)
 
-    pub kept-after : {p r p′ r′ : List A} {b b′ : A} → Behind N n (order old) p b r → Behind N n (order new) p′ b′ r′ → N .key b ≡ N .key b′ → Meet W p p′ → (d : K) → Among N d (b ∷ r) → (q : ℕ) → shareOn N d q log ≡ shareOn N d q log′
+    pub kept-after : {p r p′ r′ : List A} {b b′ : A} → Behind N n (order old) p b r → Behind N n (order new) p′ b′ r′ → N .key b ≡ N .key b′
+        → Meet W p p′ → (d : K) → Among N d (b ∷ r) → (q : ℕ) → shareOn N d q log ≡ shareOn N d q log′
     kept-after {p} {r} {p′} {r′} {b} {b′} behind behind′ same meet d among q =
-        let rest : b ∷ r ≡ b′ ∷ r′ = hind N p p′ touch touch′ (pack-apart (N .key) (W .beats) (around .xs ++ around .ys) (between-apart (around .xs) (around .ys) (sorts .apart) (around .in-old))) (behind .order) (behind′ .order) (behind .later) (behind′ .later) same in
+        let rest : b ∷ r ≡ b′ ∷ r′ =
+        hind N p p′ touch touch′ (pack-apart (N .key) (W .beats) (around .xs ++ around .ys) (between-apart (around .xs) (around .ys)
+        (sorts .apart) (around .in-old))) (behind .order) (behind′ .order) (behind .later) (behind′ .later) same in
         let is-so : order new ≡ p′ ++ (b ∷ r) = behind′ .order ∙ ap (λ (z : List A). p′ ++ z) (sym rest) in
         last-kept W N exact d q (W .begin) p p′ (b ∷ r) (meet .at) (meet .old-log) (meet .new-log)
-        (subst (Apart (N .key)) (behind .order) (pack-apart (N .key) (W .beats) old (sorts .apart))) (subst (Apart (N .key)) is-so (pack-apart (N .key) (W .beats) new (sorts′ .apart)))
+        (subst (Apart (N .key)) (behind .order) (pack-apart (N .key) (W .beats) old (sorts .apart)))
+        (subst (Apart (N .key)) is-so (pack-apart (N .key) (W .beats) new (sorts′ .apart)))
         (subst (λ (z : List A). Walks z end log) (behind .order) plan) (subst (λ (z : List A). Walks z end′ log′) is-so plan′)
         (meet .old-walk) (meet .new-walk) among

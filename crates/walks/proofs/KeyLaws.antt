@@ -60,9 +60,14 @@ module _ {A K : Type 0} (N : Keyed A K) where
 
   pub apart-first : (b : K) (k l : List A) → Apart (N .key) (k ++ l) → Among N b k → Lacks (N .key) b l
   apart-first b [] l apart m = absurd m
-  apart-first b (a ∷ k) l apart (inl e) = each-imp (λ u. N .key u ≡ N .key a → ⊥) (λ u. N .key u ≡ b → ⊥) (λ u never same. never (same ∙ sym e)) l (each-parts (λ u. N .key u ≡ N .key a → ⊥) k l (apart .0) .1)
+  apart-first b (a ∷ k) l apart (inl e) =
+      each-imp (λ u. N .key u ≡ N .key a → ⊥) (λ u. N .key u ≡ b → ⊥) (λ u never same. never (same ∙ sym e)) l
+      (each-parts (λ u. N .key u ≡ N .key a → ⊥) k l (apart .0) .1)
   apart-first b (a ∷ k) l apart (inr m) = apart-first b k l (apart .1) m
 
   pub apart-last : (b : K) (k l : List A) → Apart (N .key) (k ++ l) → Among N b l → Lacks (N .key) b k
   apart-last b [] l apart m = tt
-  apart-last b (a ∷ k) l apart m = ((λ same. among-key (λ n. n ≡ N .key a → ⊥) (k ++ l) (among-end b k l m) (apart .0) (sym same)), apart-last b k l (apart .1) m)
+  apart-last b (a ∷ k) l apart m = (
+    (λ same. among-key (λ n. n ≡ N .key a → ⊥) (k ++ l) (among-end b k l m) (apart .0) (sym same)),
+    apart-last b k l (apart .1) m,
+  )

@@ -66,7 +66,10 @@ module _ {A : Type 0} where
   -- what holds of the pieces of every row
   pub pieces-each : (P : Piece → Type 0) (log : List (Placed A)) → ((q : ℕ) → Each P (rowOf q log)) → Each (λ e. P (e .piece)) log
   pieces-each P [] rows = tt
-  pieces-each P (e ∷ l) rows = (first (eqb (e .on) (e .on)) (eq-eqb (e .on) (e .on) refl) (rows (e .on)), pieces-each P l (λ q. rest q (eqb (e .on) q) (rows q)))
+  pieces-each P (e ∷ l) rows = (
+    first (eqb (e .on) (e .on)) (eq-eqb (e .on) (e .on) refl) (rows (e .on)),
+    pieces-each P l (λ q. rest q (eqb (e .on) q) (rows q)),
+  )
     where
       first : (t : Bool) → t ≡ true → Each P (map (λ x. x .piece) (keep t e (onCore (e .on) l))) → P (e .piece)
       first true told h = h .0
@@ -97,7 +100,8 @@ pub record Sound {A : Type 0} (W : Way A) (C : Claim A (W .State)) : Type 0 wher
   pub empty : C .Row []
   pub begins : C .Faithful [] (W .begin) []
   pub step : (done : List A) (s : W .State) (log : List (Placed A)) (a : A) → C .Good a → C .Faithful done s log → ((q : ℕ) → C .Row (rowOf q log)) →
-      IfLands (λ t l. C .Faithful (done ++ (a ∷ [])) t (log ++ map (placedAs a) l) × Divides (C .cores) (C .whole a) l × C .Share a l × Each (λ e. C .Row (rowOf (e .on) (log ++ map (placedAs a) l))) l) (W .place s a)
+      IfLands (λ t l. C .Faithful (done ++ (a ∷ [])) t (log ++ map (placedAs a) l) × Divides (C .cores) (C .whole a) l × C .Share a l
+      × Each (λ e. C .Row (rowOf (e .on) (log ++ map (placedAs a) l))) l) (W .place s a)
 
 pub record Planned {A S : Type 0} (C : Claim A S) (items : List A) (s : S) (log : List (Placed A)) : Type 0 where
   pub faithful : C .Faithful items s log
@@ -105,18 +109,30 @@ pub record Planned {A S : Type 0} (C : Claim A S) (items : List A) (s : S) (log 
   pub rows : (q : ℕ) → C .Row (rowOf q log)
 
 module _ {A : Type 0} (W : Way A) (C : Claim A (W .State)) (sound : Sound W C) where
-  rows-more : (log : List (Placed A)) (a : A) (l : List Spot) → ((q : ℕ) → C .Row (rowOf q log)) → Each (λ e. C .Row (rowOf (e .on) (log ++ map (placedAs a) l))) l → (q : ℕ) → C .Row (rowOf q (log ++ map (placedAs a) l))
+  rows-more : (log : List (Placed A)) (a : A) (l : List Spot) → ((q : ℕ) → C .Row (rowOf q log))
+      → Each (λ e. C .Row (rowOf (e .on) (log ++ map (placedAs a) l))) l → (q : ℕ) → C .Row (rowOf q (log ++ map (placedAs a) l))
   rows-more log a l old new q =
       let new-log = map (placedAs a) l in
       let none : onCore q new-log ≡ [] → C .Row (rowOf q (log ++ new-log)) = λ h.
-      subst (C .Row) (sym (row-append q log new-log ∙ (ap (λ (z : List (Placed A)). rowOf q log ++ map (λ e. e .piece) z) h ∙ append-nil (rowOf q log)))) (old q) in
-      ⊎-elim none (λ h. h) (on-some (λ p. C .Row (rowOf p (log ++ new-log))) q new-log (each-map (λ (e : Spot). C .Row (rowOf (e .on) (log ++ new-log))) (λ (e : Placed A). C .Row (rowOf (e .on) (log ++ new-log))) (placedAs a) (λ e h. h) l new))
+      subst (C .Row) (sym (row-append q log new-log
+      ∙ (ap (λ (z : List (Placed A)). rowOf q log ++ map (λ e. e .piece) z) h ∙ append-nil (rowOf q log)))) (old q) in
+      ⊎-elim none (λ h. h) (on-some (λ p. C .Row (rowOf p (log ++ new-log))) q new-log (each-map (λ (e : Spot). C .Row
+      (rowOf (e .on) (log ++ new-log))) (λ (e : Placed A). C .Row (rowOf (e .on) (log ++ new-log))) (placedAs a) (λ e h. h) l new))
 
-  plan-step : (done : List A) (s : W .State) (log : List (Placed A)) (a : A) → C .Good a → Planned C done s log → IfLands (λ t l. Planned C (done ++ (a ∷ [])) t (log ++ map (placedAs a) l)) (W .place s a)
+  plan-step : (done : List A) (s : W .State) (log : List (Placed A)) (a : A) → C .Good a → Planned C done s log
+      → IfLands (λ t l. Planned C (done ++ (a ∷ [])) t (log ++ map (placedAs a) l)) (W .place s a)
   plan-step done s log a good h = by (W .place s a) (sound .step done s log a good (h .faithful) (h .rows))
     where
-      by : (o : Landing (W .State)) → IfLands (λ t l. C .Faithful (done ++ (a ∷ [])) t (log ++ map (placedAs a) l) × Divides (C .cores) (C .whole a) l × C .Share a l × Each (λ e. C .Row (rowOf (e .on) (log ++ map (placedAs a) l))) l) o → IfLands (λ t l. Planned C (done ++ (a ∷ [])) t (log ++ map (placedAs a) l)) o
-      by (lands t l) g = record { faithful = g .0; shares = shares-snoc (λ b r. Divides (C .cores) (C .whole b) r × C .Share b r) a l (h .shares) (g .1, g .2); rows = rows-more log a l (h .rows) (g .3) }
+      by : (o : Landing (W .State))
+          → IfLands (λ t l. C .Faithful (done ++ (a ∷ [])) t (log ++ map (placedAs a) l) × Divides (C .cores) (C .whole a) l × C .Share a l
+          × Each (λ e. C .Row (rowOf (e .on) (log ++ map (placedAs a) l))) l) o
+          → IfLands (λ t l. Planned C (done ++ (a ∷ [])) t (log ++ map (placedAs a) l)) o
+      by (lands t l) g = record {
+        faithful = g .0;
+        shares = shares-snoc (λ b r. Divides (C .cores) (C .whole b) r × C .Share b r) a l
+            (h .shares) (g .1, g .2);
+        rows = rows-more log a l (h .rows) (g .3);
+      }
       by (refuses n) g = tt
 
   pub walk-sound : (xs : List A) → Each (C .Good) xs → (t : W .State) (l : List (Placed A)) → walkOver W xs ≡ fine t l → Planned C xs t l
@@ -137,7 +153,11 @@ module _ {A K : Type 0} (N : Keyed A K) (exact : Exact N) (Q : A → List Spot �
   none-of k nil lacks = refl
   none-of k (more {a = a} {k = x} {l = l} s r) lacks =
       only-append (λ e. N .same k (N .key (e .item))) (map (placedAs a) x) l
-      ∙ rw (only-none (λ e. N .same k (N .key (e .item))) (map (placedAs a) x) (placed-each (λ b. N .same k (N .key b) ≡ false) a (same-other N exact k (N .key a) (λ e. lacks .0 (sym e))) x), none-of k r (lacks .1))
+      ∙ rw (
+        only-none (λ e. N .same k (N .key (e .item))) (map (placedAs a) x) (placed-each (λ b. N .same k (N .key b) ≡ false) a
+            (same-other N exact k (N .key a) (λ e. lacks .0 (sym e))) x),
+        none-of k r (lacks .1),
+      )
 
   pub share-of : (k : K) {xs : List A} {log : List (Placed A)} → Shares Q xs log → Apart (N .key) xs → Among N k xs → Has k log
   share-of k nil apart among = absurd among
@@ -146,7 +166,12 @@ module _ {A K : Type 0} (N : Keyed A K) (exact : Exact N) (Q : A → List Spot �
     own = own;
     spots = x;
     is = only-append (λ e. N .same k (N .key (e .item))) (map (placedAs a) x) l
-        ∙ rw (only-all (λ e. N .same k (N .key (e .item))) (map (placedAs a) x) (placed-each (λ b. N .same k (N .key b) ≡ true) a (same-own N exact k (N .key a) (sym own)) x), none-of k r (subst (λ (j : K). Lacks (N .key) j rest) own (apart .0)), append-nil);
+        ∙ rw (
+          only-all (λ e. N .same k (N .key (e .item))) (map (placedAs a) x) (placed-each (λ b. N .same k (N .key b) ≡ true) a
+              (same-own N exact k (N .key a) (sym own)) x),
+          none-of k r (subst (λ (j : K). Lacks (N .key) j rest) own (apart .0)),
+          append-nil,
+        );
     has = s;
   }
   share-of k (more {a = a} {k = x} {l = l} {rest = rest} s r) apart (inr among) =
@@ -157,7 +182,8 @@ module _ {A K : Type 0} (N : Keyed A K) (exact : Exact N) (Q : A → List Spot �
         own = h .own;
         spots = h .spots;
         is = only-append (λ e. N .same k (N .key (e .item))) (map (placedAs a) x) l
-            ∙ (rw (only-none (λ e. N .same k (N .key (e .item))) (map (placedAs a) x) (placed-each (λ b. N .same k (N .key b) ≡ false) a (same-other N exact k (N .key a) differs) x)) (h .is));
+            ∙ (rw (only-none (λ e. N .same k (N .key (e .item))) (map (placedAs a) x)
+            (placed-each (λ b. N .same k (N .key b) ≡ false) a (same-other N exact k (N .key a) differs) x)) (h .is));
         has = h .has;
       }
 
@@ -169,29 +195,41 @@ module _ {A : Type 0} (m : ℕ) (whole : A → Piece) (R : A → List Spot → T
 
   apart-as : (a : A) (l : List Spot) → Apart (λ e. e .on) l → Apart (λ e. e .on) (map (placedAs a) l)
   apart-as a [] h = tt
-  apart-as a (e ∷ l) h = (each-map (λ (f : Spot). f .on ≡ e .on → ⊥) (λ (f : Placed A). f .on ≡ e .on → ⊥) (placedAs a) (λ f never. never) l (h .0), apart-as a l (h .1))
+  apart-as a (e ∷ l) h = (
+    each-map (λ (f : Spot). f .on ≡ e .on → ⊥) (λ (f : Placed A). f .on ≡ e .on
+        → ⊥) (placedAs a) (λ f never. never) l (h .0),
+    apart-as a l (h .1),
+  )
 
   pub spots-within : {xs : List A} {log : List (Placed A)} → Shares Divided xs log → Each (λ e. e .on < m) log
   spots-within nil = tt
-  spots-within (more {a = a} {k = k} {l = l} s r) = each-join (λ e. e .on < m) (map (placedAs a) k) l (each-map (λ (e : Spot). e .on < m) (λ (e : Placed A). e .on < m) (placedAs a) (λ e low. low) k (s .0 .within)) (spots-within r)
+  spots-within (more {a = a} {k = k} {l = l} s r) =
+      each-join (λ e. e .on < m) (map (placedAs a) k) l
+      (each-map (λ (e : Spot). e .on < m) (λ (e : Placed A). e .on < m) (placedAs a) (λ e low. low) k (s .0 .within)) (spots-within r)
 
   module _ (q : ℕ) where
     pub few-on-core : {xs : List A} {log : List (Placed A)} → Shares Divided xs log → length (onCore q log) ≤ length xs
     few-on-core nil = omega arith
-    few-on-core (more {a = a} {k = k} {l = l} s r) = rw (on-append q (map (placedAs a) k) l, length-append) (omega (arith, on-one q (map (placedAs a) k) (apart-as a k (s .0 .apart)), few-on-core r))
+    few-on-core (more {a = a} {k = k} {l = l} s r) =
+        rw (on-append q (map (placedAs a) k) l, length-append)
+        (omega (arith, on-one q (map (placedAs a) k) (apart-as a k (s .0 .apart)), few-on-core r))
 
     module _ {K : Type 0} (key : A → K) where
       items-on : (P : A → Type 0) {xs : List A} {log : List (Placed A)} → Shares Divided xs log → Each P xs → Each (λ e. P (e .item)) log
       items-on P nil all = tt
-      items-on P (more {a = a} {k = k} {l = l} s r) all = each-join (λ e. P (e .item)) (map (placedAs a) k) l (placed-each P a (all .0) k) (items-on P r (all .1))
+      items-on P (more {a = a} {k = k} {l = l} s r) all =
+          each-join (λ e. P (e .item)) (map (placedAs a) k) l (placed-each P a (all .0) k) (items-on P r (all .1))
 
       pub apart-on : {xs : List A} {log : List (Placed A)} → Shares Divided xs log → Apart key xs → Apart (λ e. key (e .item)) (onCore q log)
       apart-on nil apart = tt
       apart-on (more {a = a} {k = k} {l = l} s r) apart =
           rw (on-append q (map (placedAs a) k) l)
-          (one (onCore q (map (placedAs a) k)) (on-one q (map (placedAs a) k) (apart-as a k (s .0 .apart))) (each-only (λ e. key (e .item) ≡ key a) (λ e. eqb (e .on) q) (map (placedAs a) k) (placed-each (λ b. key b ≡ key a) a refl k)) (apart-on r (apart .1)) (each-only (λ e. key (e .item) ≡ key a → ⊥) (λ e. eqb (e .on) q) l (items-on (λ b. key b ≡ key a → ⊥) r (apart .0))))
+          (one (onCore q (map (placedAs a) k)) (on-one q (map (placedAs a) k) (apart-as a k (s .0 .apart))) (each-only (λ e. key
+          (e .item) ≡ key a) (λ e. eqb (e .on) q) (map (placedAs a) k) (placed-each (λ b. key b ≡ key a) a refl k)) (apart-on r (apart .1))
+          (each-only (λ e. key (e .item) ≡ key a → ⊥) (λ e. eqb (e .on) q) l (items-on (λ b. key b ≡ key a → ⊥) r (apart .0))))
         where
-          one : (x : List (Placed A)) → length x ≤ 1 → Each (λ e. key (e .item) ≡ key a) x → Apart (λ e. key (e .item)) (onCore q l) → Lacks (λ e. key (e .item)) (key a) (onCore q l) → Apart (λ e. key (e .item)) (x ++ onCore q l)
+          one : (x : List (Placed A)) → length x ≤ 1 → Each (λ e. key (e .item) ≡ key a) x → Apart (λ e. key (e .item)) (onCore q l)
+              → Lacks (λ e. key (e .item)) (key a) (onCore q l) → Apart (λ e. key (e .item)) (x ++ onCore q l)
           one [] few own old new = old
           one (e ∷ []) few own old new = (rw (own .0) new, old)
           one (e ∷ f ∷ x) few own old new = absurd (omega arith)

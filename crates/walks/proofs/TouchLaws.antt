@@ -50,7 +50,14 @@ module _ {A K : Type 0} (N : Keyed A K) where
 
   module _ (n b : K) where
     fore-one : {l k : List A} → Put n l k → Before N n b l → Fore b l k
-    fore-one u before = record { front = u .front; old-rest = u .item ∷ u .back; new-rest = u .back; old-is = u .more; new-is = u .less; among = before (u .front) (u .back) (u .item) (u .more) (u .own) }
+    fore-one u before = record {
+      front = u .front;
+      old-rest = u .item ∷ u .back;
+      new-rest = u .back;
+      old-is = u .more;
+      new-is = u .less;
+      among = before (u .front) (u .back) (u .item) (u .more) (u .own);
+    }
 
     fore-two : {old new rest : List A} (u : Put n old rest) (v : Put n new rest) → Before N n b old → (r : List A) → v .front ≡ u .front ++ r → Fore b old new
     fore-two u v before r e = record {
@@ -67,19 +74,24 @@ module _ {A K : Type 0} (N : Keyed A K) where
     fore {old} {new} (inl e) (inr v) x y = inr (subst (λ (z : List A). Fore b z new) (sym e) (fore-flip (fore-one v y)))
     fore {old} {new} (inr u) (inl f) x y = inr (subst (λ (z : List A). Fore b old z) (sym f) (fore-one u x))
     fore (inr u) (inr v) x y =
-        inr (⊎-elim (λ z. fore-two u v x (z .0) (z .1)) (λ z. fore-flip (fore-two v u y (z .0) (z .1))) (meet (u .front) (u .back) (v .front) (v .back) (sym (u .less) ∙ v .less)))
+        inr (⊎-elim (λ z. fore-two u v x (z .0) (z .1)) (λ z. fore-flip (fore-two v u y (z .0) (z .1)))
+        (meet (u .front) (u .back) (v .front) (v .back) (sym (u .less) ∙ v .less)))
 
   -- what stands behind the item put in is in both
   touch-end : (n : K) {l k : List A} (p z : List A) → Touch n l k → l ≡ p ++ z → (Among N n z → ⊥) → (y : List A) × (k ≡ y ++ z)
   touch-end n p z (inl e) whole never = (p, sym e ∙ whole)
-  touch-end n {l} {k} p z (inr u) whole never = ⊎-elim (λ w. inside (w .0) (w .2)) (λ w. absurd (never (has (w .0) (w .2)))) (meet (u .front) (u .item ∷ u .back) p z (sym (u .more) ∙ whole))
+  touch-end n {l} {k} p z (inr u) whole never =
+      ⊎-elim (λ w. inside (w .0) (w .2)) (λ w. absurd (never (has (w .0) (w .2))))
+      (meet (u .front) (u .item ∷ u .back) p z (sym (u .more) ∙ whole))
     where
       has : (r : List A) → z ≡ r ++ (u .item ∷ u .back) → Among N n z
       has r e = subst (Among N n) (sym e) (subst (λ (x : K). Among N x (r ++ (u .item ∷ u .back))) (u .own) (among-middle N r (u .item) (u .back)))
 
       inside : (r : List A) → u .item ∷ u .back ≡ r ++ z → (y : List A) × (k ≡ y ++ z)
       inside [] e = absurd (never (has [] (sym e)))
-      inside (c ∷ r) e = (let tail : u .back ≡ r ++ z = cc in (u .front ++ r, u .less ∙ (ap (λ (x : List A). u .front ++ x) tail ∙ sym (append-assoc (u .front) r z))))
+      inside (c ∷ r) e =
+          (let tail : u .back ≡ r ++ z = cc in
+          (u .front ++ r, u .less ∙ (ap (λ (x : List A). u .front ++ x) tail ∙ sym (append-assoc (u .front) r z))))
 
   -- a key stands at one place
   once : (a c : A) (y z r : List A) → N .key a ≡ N .key c → Apart (N .key) (a ∷ y) → a ∷ y ≡ r ++ (c ∷ z) → a ∷ y ≡ c ∷ z
@@ -88,7 +100,9 @@ module _ {A K : Type 0} (N : Keyed A K) where
       let tail : y ≡ r ++ (c ∷ z) = cc in
       absurd (among-key N (λ n. n ≡ N .key a → ⊥) (r ++ (c ∷ z)) (among-middle N r c z) (subst (Lacks (N .key) (N .key a)) tail (apart .0)) (sym same))
 
-  pub hind : {n : K} {old new rest : List A} (p p′ : List A) {r r′ : List A} {a c : A} → Touch n old rest → Touch n new rest → Apart (N .key) rest → old ≡ p ++ (a ∷ r) → new ≡ p′ ++ (c ∷ r′) → (Among N n (a ∷ r) → ⊥) → (Among N n (c ∷ r′) → ⊥) → N .key a ≡ N .key c → a ∷ r ≡ c ∷ r′
+  pub hind : {n : K} {old new rest : List A} (p p′ : List A) {r r′ : List A} {a c : A} → Touch n old rest → Touch n new rest
+      → Apart (N .key) rest → old ≡ p ++ (a ∷ r) → new ≡ p′ ++ (c ∷ r′) → (Among N n (a ∷ r) → ⊥) → (Among N n (c ∷ r′) → ⊥)
+      → N .key a ≡ N .key c → a ∷ r ≡ c ∷ r′
   hind {n} p p′ {r} {r′} {a} {c} u v apart e f never never′ same =
       let x = touch-end n p (a ∷ r) u e never in
       let y = touch-end n p′ (c ∷ r′) v f never′ in
@@ -101,4 +115,11 @@ module _ {A K : Type 0} (N : Keyed A K) where
   gap-put {a} (here {l = l}) = record { front = []; item = a; back = l; own = refl; more = refl; less = refl }
   gap-put (there {b = b} g) =
       let u = gap-put g in
-      record { front = b ∷ u .front; item = u .item; back = u .back; own = u .own; more = ap (λ (z : List A). b ∷ z) (u .more); less = ap (λ (z : List A). b ∷ z) (u .less) }
+      record {
+        front = b ∷ u .front;
+        item = u .item;
+        back = u .back;
+        own = u .own;
+        more = ap (λ (z : List A). b ∷ z) (u .more);
+        less = ap (λ (z : List A). b ∷ z) (u .less);
+      }

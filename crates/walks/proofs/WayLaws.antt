@@ -17,7 +17,8 @@ use Prim.Native.Nat.{ℕ}
 use native.Mathlib.Omega.{arith}
 use Rattle.demand.specs.Sizes.{Each}
 use Rattle.walks.specs.Order.{pack}
-use Rattle.walks.specs.Way.{Spot, Placed, placedAs, Landing, lands, refuses, Way, Ending, fine, stuck, behind, onward, landed, walk, walkOver, walkOf, through, relabel, relabelled}
+use Rattle.walks.specs.Way.{Spot, Placed, placedAs, Landing, lands, refuses, Way, Ending, fine, stuck, behind}
+use Rattle.walks.specs.Way.{onward, landed, walk, walkOver, walkOf, through, relabel, relabelled}
 use Rattle.walks.specs.Shares.{Shares, nil, more}
 use Rattle.walks.proofs.ListLaws.{each-join}
 use Rattle.walks.proofs.OrderLaws.{pack-map}
@@ -54,7 +55,8 @@ module _ {A : Type 0} (W : Way A) where
   walk-append s [] ys = sym (behind-nil (walk W s ys))
   walk-append s (x ∷ xs) ys = by (W .place s x) (λ t. walk-append t xs ys)
     where
-      by : (o : Landing (W .State)) → ((t : W .State) → walk W t (xs ++ ys) ≡ onward (walk W t xs) (λ u. walk W u ys)) → onward (landed x o) (λ t. walk W t (xs ++ ys)) ≡ onward (onward (landed x o) (λ t. walk W t xs)) (λ u. walk W u ys)
+      by : (o : Landing (W .State)) → ((t : W .State) → walk W t (xs ++ ys) ≡ onward (walk W t xs) (λ u. walk W u ys))
+          → onward (landed x o) (λ t. walk W t (xs ++ ys)) ≡ onward (onward (landed x o) (λ t. walk W t xs)) (λ u. walk W u ys)
       by (lands t k) rec = ap (behind (map (placedAs x) k)) (rec t) ∙ onward-behind (map (placedAs x) k) (walk W t xs) (λ u. walk W u ys)
       by (refuses n) rec = refl
 
@@ -69,15 +71,24 @@ module _ {A : Type 0} (W : Way A) where
   pub in-parts : (s : W .State) (xs ys : List A) (end : W .State) (log : List (Placed A)) → walk W s (xs ++ ys) ≡ fine end log → Parts s xs ys end log
   in-parts s xs ys end log e = by (walk W s xs) refl (sym (walk-append s xs ys) ∙ e)
     where
-      then : (t : W .State) (k : List (Placed A)) → walk W s xs ≡ fine t k → (o : Ending (W .State) A) → walk W t ys ≡ o → behind k o ≡ fine end log → Parts s xs ys end log
-      then t k f (fine u l) g h = record { at = t; past = k; rest = l; first = f; second = g ∙ (let z : u ≡ end = cc in ap (λ (v : W .State). fine v l) z); joins = cc }
+      then : (t : W .State) (k : List (Placed A)) → walk W s xs ≡ fine t k → (o : Ending (W .State) A) → walk W t ys ≡ o
+          → behind k o ≡ fine end log → Parts s xs ys end log
+      then t k f (fine u l) g h = record {
+        at = t;
+        past = k;
+        rest = l;
+        first = f;
+        second = g ∙ (let z : u ≡ end = cc in ap (λ (v : W .State). fine v l) z);
+        joins = cc;
+      }
       then t k f (stuck b n) g h = let z : _≡_ {A = ℕ} 0 1 = cc in absurd (omega arith)
 
       by : (o : Ending (W .State) A) → walk W s xs ≡ o → onward o (λ t. walk W t ys) ≡ fine end log → Parts s xs ys end log
       by (fine t k) f h = then t k f (walk W t ys) refl h
       by (stuck b n) f h = let z : _≡_ {A = ℕ} 0 1 = cc in absurd (omega arith)
 
-  pub rest-same : {s t : W .State} {end end′ : W .State} {k l : List (Placed A)} (xs : List A) → s ≡ t → walk W s xs ≡ fine end k → walk W t xs ≡ fine end′ l → (end ≡ end′) × (k ≡ l)
+  pub rest-same : {s t : W .State} {end end′ : W .State} {k l : List (Placed A)} (xs : List A) → s ≡ t → walk W s xs ≡ fine end k
+      → walk W t xs ≡ fine end′ l → (end ≡ end′) × (k ≡ l)
   rest-same {s} {t} {end} {end′} {k} {l} xs e f g =
       let both : fine end k ≡ fine end′ l = sym f ∙ (ap (λ (z : W .State). walk W z xs) e ∙ g) in
       ((cc), (cc))
@@ -102,7 +113,8 @@ module _ {A : Type 0} (W : Way A) where
       inside k (fine t l) h = let z : _≡_ {A = ℕ} 0 1 = cc in absurd (omega arith)
       inside k (stuck b j) h = h
 
-      by : (o : Landing (W .State)) → W .place s x ≡ o → onward (landed x o) (λ t. walk W t xs) ≡ stuck a n → ((t : W .State) → walk W t xs ≡ stuck a n → SticksAt t xs a n) → SticksAt s (x ∷ xs) a n
+      by : (o : Landing (W .State)) → W .place s x ≡ o → onward (landed x o) (λ t. walk W t xs) ≡ stuck a n
+          → ((t : W .State) → walk W t xs ≡ stuck a n → SticksAt t xs a n) → SticksAt s (x ∷ xs) a n
       by (lands t k) f h rec =
           let r = rec t (inside (map (placedAs x) k) (walk W t xs) h) in
           record {
@@ -117,12 +129,22 @@ module _ {A : Type 0} (W : Way A) where
       by (refuses j) f h rec =
           let own : x ≡ a = cc in
           let number : j ≡ n = cc in
-          record { before = []; after = xs; at = s; past = []; order = ap (λ (z : A). z ∷ xs) own; reached = refl; here = ap (W .place s) (sym own) ∙ (f ∙ ap refuses number) }
+          record {
+            before = [];
+            after = xs;
+            at = s;
+            past = [];
+            order = ap (λ (z : A). z ∷ xs) own;
+            reached = refl;
+            here = ap (W .place s) (sym own) ∙ (f ∙ ap refuses number);
+          }
 
   -- ---- as code goes: one item more
 
-  pub walk-snoc : (s t : W .State) (xs : List A) (x : A) (l : List (Placed A)) → walk W s xs ≡ fine t l → walk W s (xs ++ (x ∷ [])) ≡ behind l (landed x (W .place t x))
-  walk-snoc s t xs x l e = walk-append s xs (x ∷ []) ∙ (ap (λ (o : Ending (W .State) A). onward o (λ u. walk W u (x ∷ []))) e ∙ ap (behind l) (onward-end (landed x (W .place t x))))
+  pub walk-snoc : (s t : W .State) (xs : List A) (x : A) (l : List (Placed A)) → walk W s xs ≡ fine t l
+      → walk W s (xs ++ (x ∷ [])) ≡ behind l (landed x (W .place t x))
+  walk-snoc s t xs x l e = walk-append s xs (x ∷ [])
+      ∙ (ap (λ (o : Ending (W .State) A). onward o (λ u. walk W u (x ∷ []))) e ∙ ap (behind l) (onward-end (landed x (W .place t x))))
 
   pub walk-stuck : (s : W .State) (xs ys : List A) (a : A) (n : ℕ) → walk W s xs ≡ stuck a n → walk W s (xs ++ ys) ≡ stuck a n
   walk-stuck s xs ys a n e = walk-append s xs ys ∙ ap (λ (o : Ending (W .State) A). onward o (λ u. walk W u ys)) e
@@ -130,16 +152,24 @@ module _ {A : Type 0} (W : Way A) where
 -- ---- what a walk keeps
 
 module _ {A : Type 0} (W : Way A) (Good : A → Type 0) (I : List A → W .State → List (Placed A) → Type 0)
-    (step : (done : List A) (s : W .State) (log : List (Placed A)) (a : A) → Good a → I done s log → IfLands (λ t l. I (done ++ (a ∷ [])) t (log ++ map (placedAs a) l)) (W .place s a)) where
-  pub walk-keeps : (done : List A) (s : W .State) (log : List (Placed A)) (xs : List A) → Each Good xs → I done s log → IfFine (λ t l. I (done ++ xs) t (log ++ l)) (walk W s xs)
+    (step : (done : List A) (s : W .State) (log : List (Placed A)) (a : A) → Good a → I done s log
+    → IfLands (λ t l. I (done ++ (a ∷ [])) t (log ++ map (placedAs a) l)) (W .place s a)) where
+  pub walk-keeps : (done : List A) (s : W .State) (log : List (Placed A)) (xs : List A) → Each Good xs → I done s log
+      → IfFine (λ t l. I (done ++ xs) t (log ++ l)) (walk W s xs)
   walk-keeps done s log [] good h = rw (append-nil done, append-nil log) h
   walk-keeps done s log (x ∷ xs) good h = by (W .place s x) (step done s log x (good .0) h) (λ t k g. walk-keeps (done ++ (x ∷ [])) t (log ++ k) xs (good .1) g)
     where
-      join : (k : List (Placed A)) (o : Ending (W .State) A) → IfFine (λ t l. I ((done ++ (x ∷ [])) ++ xs) t ((log ++ k) ++ l)) o → IfFine (λ t l. I (done ++ (x ∷ xs)) t (log ++ l)) (behind k o)
-      join k (fine t l) g = subst (λ (z : List A). I z t (log ++ (k ++ l))) (append-assoc done (x ∷ []) xs) (subst (λ (z : List (Placed A)). I ((done ++ (x ∷ [])) ++ xs) t z) (append-assoc log k l) g)
+      join : (k : List (Placed A)) (o : Ending (W .State) A) → IfFine (λ t l. I ((done ++ (x ∷ [])) ++ xs) t ((log ++ k) ++ l)) o
+          → IfFine (λ t l. I (done ++ (x ∷ xs)) t (log ++ l)) (behind k o)
+      join k (fine t l) g =
+          subst (λ (z : List A). I z t (log ++ (k ++ l))) (append-assoc done (x ∷ []) xs)
+          (subst (λ (z : List (Placed A)). I ((done ++ (x ∷ [])) ++ xs) t z) (append-assoc log k l) g)
       join k (stuck b n) g = tt
 
-      by : (o : Landing (W .State)) → IfLands (λ t l. I (done ++ (x ∷ [])) t (log ++ map (placedAs x) l)) o → ((t : W .State) (k : List (Placed A)) → I (done ++ (x ∷ [])) t (log ++ k) → IfFine (λ u l. I ((done ++ (x ∷ [])) ++ xs) u ((log ++ k) ++ l)) (walk W t xs)) → IfFine (λ t l. I (done ++ (x ∷ xs)) t (log ++ l)) (onward (landed x o) (λ t. walk W t xs))
+      by : (o : Landing (W .State)) → IfLands (λ t l. I (done ++ (x ∷ [])) t (log ++ map (placedAs x) l)) o
+          → ((t : W .State) (k : List (Placed A)) → I (done ++ (x ∷ [])) t (log ++ k)
+          → IfFine (λ u l. I ((done ++ (x ∷ [])) ++ xs) u ((log ++ k) ++ l)) (walk W t xs))
+          → IfFine (λ t l. I (done ++ (x ∷ xs)) t (log ++ l)) (onward (landed x o) (λ t. walk W t xs))
       by (lands t k) g rec = join (map (placedAs x) k) (walk W t xs) (rec t (map (placedAs x) k) g)
       by (refuses n) g rec = tt
 
@@ -150,9 +180,11 @@ module _ {A : Type 0} (W : Way A) (Good : A → Type 0) (I : List A → W .State
 -- ---- item by item
 
 module _ {A : Type 0} (Q : A → List Spot → Type 0) where
-  pub shares-snoc : {xs : List A} {log : List (Placed A)} (a : A) (l : List Spot) → Shares Q xs log → Q a l → Shares Q (xs ++ (a ∷ [])) (log ++ map (placedAs a) l)
+  pub shares-snoc : {xs : List A} {log : List (Placed A)} (a : A) (l : List Spot) → Shares Q xs log → Q a l
+      → Shares Q (xs ++ (a ∷ [])) (log ++ map (placedAs a) l)
   shares-snoc a l nil h = subst (Shares Q (a ∷ [])) (append-nil (map (placedAs a) l)) (more h nil)
-  shares-snoc a l (more {a = b} {k = k} {l = r} {rest = rest} g t) h = subst (Shares Q (b ∷ (rest ++ (a ∷ [])))) (sym (append-assoc (map (placedAs b) k) r (map (placedAs a) l))) (more g (shares-snoc a l t h))
+  shares-snoc a l (more {a = b} {k = k} {l = r} {rest = rest} g t) h =
+      subst (Shares Q (b ∷ (rest ++ (a ∷ [])))) (sym (append-assoc (map (placedAs b) k) r (map (placedAs a) l))) (more g (shares-snoc a l t h))
 
 -- what is placed is of the items walked
 module _ {A : Type 0} (P : A → Type 0) (a : A) (good : P a) where
@@ -160,10 +192,14 @@ module _ {A : Type 0} (P : A → Type 0) (a : A) (good : P a) where
   placed-each [] = tt
   placed-each (e ∷ l) = (good, placed-each l)
 
-pub walk-items : {A : Type 0} (W : Way A) (P : A → Type 0) (s t : W .State) (xs : List A) (l : List (Placed A)) → Each P xs → walk W s xs ≡ fine t l → Each (λ e. P (e .item)) l
-walk-items {A} W P s t xs l all e = subst (IfFine (λ u k. Each (λ (x : Placed A). P (x .item)) k)) e (walk-keeps W P (λ done u k. Each (λ (x : Placed A). P (x .item)) k) step [] s [] xs all tt)
+pub walk-items : {A : Type 0} (W : Way A) (P : A → Type 0) (s t : W .State) (xs : List A) (l : List (Placed A)) → Each P xs
+    → walk W s xs ≡ fine t l → Each (λ e. P (e .item)) l
+walk-items {A} W P s t xs l all e =
+    subst (IfFine (λ u k. Each (λ (x : Placed A). P (x .item)) k)) e
+    (walk-keeps W P (λ done u k. Each (λ (x : Placed A). P (x .item)) k) step [] s [] xs all tt)
   where
-    step : (done : List A) (u : W .State) (log : List (Placed A)) (a : A) → P a → Each (λ (x : Placed A). P (x .item)) log → IfLands (λ v k. Each (λ (x : Placed A). P (x .item)) (log ++ map (placedAs a) k)) (W .place u a)
+    step : (done : List A) (u : W .State) (log : List (Placed A)) (a : A) → P a → Each (λ (x : Placed A). P (x .item)) log
+        → IfLands (λ v k. Each (λ (x : Placed A). P (x .item)) (log ++ map (placedAs a) k)) (W .place u a)
     step done u log a good old = by (W .place u a)
       where
         by : (o : Landing (W .State)) → IfLands (λ v k. Each (λ (x : Placed A). P (x .item)) (log ++ map (placedAs a) k)) o
@@ -185,8 +221,11 @@ module _ {A B : Type 0} (f : A → B) where
   walk-map W s [] = refl
   walk-map W s (x ∷ xs) = by (W .place s (f x)) (λ t. walk-map W t xs)
     where
-      by : (o : Landing (W .State)) → ((t : W .State) → relabelled f (walk (through f W) t xs) ≡ walk W t (map f xs)) → relabelled f (onward (landed x o) (λ t. walk (through f W) t xs)) ≡ onward (landed (f x) o) (λ t. walk W t (map f xs))
-      by (lands t k) rec = behind-map (map (placedAs x) k) (walk (through f W) t xs) ∙ (ap (λ (z : List (Placed B)). behind z (relabelled f (walk (through f W) t xs))) (placed-as x k) ∙ ap (behind (map (placedAs (f x)) k)) (rec t))
+      by : (o : Landing (W .State)) → ((t : W .State) → relabelled f (walk (through f W) t xs) ≡ walk W t (map f xs))
+          → relabelled f (onward (landed x o) (λ t. walk (through f W) t xs)) ≡ onward (landed (f x) o) (λ t. walk W t (map f xs))
+      by (lands t k) rec = behind-map (map (placedAs x) k) (walk (through f W) t xs)
+          ∙ (ap (λ (z : List (Placed B)). behind z (relabelled f (walk (through f W) t xs))) (placed-as x k)
+          ∙ ap (behind (map (placedAs (f x)) k)) (rec t))
       by (refuses n) rec = refl
 
   -- in packing order

@@ -11,10 +11,14 @@ use Rattle.edits.proofs.add.Statement.{statement}
 use Rattle.edits.proofs.add.Tie as tie
 
 -- no fault of the state, and none of the edit, told where they were tried
-sound : (c : tie.Else1) → stateFault (c .before .before .before .before .before .args .state .machine) (c .before .before .before .before .before .args .state .costs) (c .before .before .before .before .before .args .state .tasks .count) (c .before .before .before .before .before .args .state .tasks .list) ≡ 0
+sound : (c : tie.Else1)
+    → let start = c .before .before .before .before .before .args in
+    stateFault (start .state .machine) (start .state .costs) (start .state .tasks .count) (start .state .tasks .list) ≡ 0
 sound c = sym (c .before .state-fault .ensures) ∙ c .if1 .left
 
-right : (c : tie.Else2) → editFault (add (record { name = c .before .before .before .before .before .before .before .args .name; times = c .before .before .before .before .before .before .before .args .times })) (tasksHeld (c .before .before .before .before .before .before .before .args .state)) ≡ 0
+right : (c : tie.Else2)
+    → let start = c .before .before .before .before .before .before .before .args in
+    editFault (add (record { name = start .name; times = start .times })) (tasksHeld (start .state)) ≡ 0
 right c = sym (c .before .add-fault .ensures) ∙ c .if2 .left
 
 state-fault-requires : tie.Need-state-fault-requires
@@ -24,7 +28,12 @@ give-back-requires : tie.Need-give-back-requires
 give-back-requires c κs = search needs
 
 returns : tie.Need-returns
-returns c = c .give-back .ensures ∙ edit-state (add (record { name = c .before .before .before .before .before .before .args .name; times = c .before .before .before .before .before .before .args .times })) (c .before .before .before .before .before .before .args .state) (c .before .before .state-fault .result) (c .before .before .state-fault .ensures) (c .before .if1 .taken)
+returns c =
+    let state-fault = c .before .before .state-fault in
+    let start = c .before .before .before .before .before .before .args in
+    c .give-back .ensures
+    ∙ edit-state (add (record { name = start .name; times = start .times })) (start .state) (state-fault .result) (state-fault .ensures)
+    (c .before .if1 .taken)
 
 add-fault-requires : tie.Need-add-fault-requires
 add-fault-requires c κs = search needs
@@ -33,7 +42,12 @@ give-back-requires-2 : tie.Need-give-back-requires-2
 give-back-requires-2 c κs = search needs
 
 returns-2 : tie.Need-returns-2
-returns-2 c = c .give-back2 .ensures ∙ edit-own (add (record { name = c .before .before .before .before .before .before .before .before .args .name; times = c .before .before .before .before .before .before .before .before .args .times })) (c .before .before .before .before .before .before .before .before .args .state) (sound (c .before .before .before)) (c .before .before .add-fault .result) (c .before .before .add-fault .ensures) (c .before .if2 .taken)
+returns-2 c =
+    let add-fault = c .before .before .add-fault in
+    let start = c .before .before .before .before .before .before .before .before .args in
+    c .give-back2 .ensures
+    ∙ edit-own (add (record { name = start .name; times = start .times })) (start .state) (sound (c .before .before .before))
+    (add-fault .result) (add-fault .ensures) (c .before .if2 .taken)
 
 append-requires : tie.Need-append-requires
 append-requires c κs =
@@ -44,7 +58,11 @@ replan-requires : tie.Need-replan-requires
 replan-requires c κs = search needs
 
 returns-3 : tie.Need-returns-3
-returns-3 c = c .replan .ensures ∙ edit-made (add (record { name = c .before .before .before .before .before .before .before .before .before .args .name; times = c .before .before .before .before .before .before .before .before .before .args .times })) (c .before .before .before .before .before .before .before .before .before .args .state) (sound (c .before .before .before .before)) (right (c .before .before)) (c .before .append .result) (c .before .append .ensures)
+returns-3 c =
+    let start = c .before .before .before .before .before .before .before .before .before .args in
+    c .replan .ensures
+    ∙ edit-made (add (record { name = start .name; times = start .times })) (start .state) (sound (c .before .before .before .before))
+    (right (c .before .before)) (c .before .append .result) (c .before .append .ensures)
 
 pub add-spec : {M : Type 1} → statement M
 add-spec =

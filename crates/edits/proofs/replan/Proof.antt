@@ -16,12 +16,16 @@ give-back-requires c κs = search needs
 returns : tie.Need-returns
 returns c =
     let s = c .before .before .before .before .before .args in
-    c .give-back .ensures ∙ settled-not (s .state) (c .before .before .plan-tasks .result) (planOf (s .state .machine) (s .state .costs) (s .tasks .count) (s .tasks .list)) (c .before .before .plan-tasks .ensures) (c .before .if1 .taken)
+    let plan-tasks = c .before .before .plan-tasks in
+    c .give-back .ensures
+    ∙ settled-not (s .state) (plan-tasks .result) (planOf (s .state .machine) (s .state .costs) (s .tasks .count) (s .tasks .list))
+    (plan-tasks .ensures) (c .before .if1 .taken)
 
 returns-2 : tie.Need-returns-2
 returns-2 c =
     let s = c .before .before .before .before .args in
-    settled-so (s .state) (c .before .plan-tasks .result) (planOf (s .state .machine) (s .state .costs) (s .tasks .count) (s .tasks .list)) (c .before .plan-tasks .ensures) (c .if1 .left)
+    settled-so (s .state) (c .before .plan-tasks .result) (planOf (s .state .machine) (s .state .costs) (s .tasks .count) (s .tasks .list))
+    (c .before .plan-tasks .ensures) (c .if1 .left)
 
 pub replan-spec : {M : Type 1} → statement M
 replan-spec = tie.close (tie.spec plan-tasks-requires give-back-requires returns returns-2)

@@ -31,67 +31,104 @@ refuse-requires c κs = search needs
 returns : tie.Need-returns
 returns c =
     let s = c .before .before .before .args in
-    c .refuse .ensures ∙ plan-refused (s .machine) (s .costs) (s .tasks .count) (s .tasks .list) (c .before .before .state-fault .result) (c .before .before .state-fault .ensures) (c .before .if1 .taken)
+    let state-fault = c .before .before .state-fault in
+    c .refuse .ensures
+    ∙ plan-refused (s .machine) (s .costs) (s .tasks .count) (s .tasks .list) (state-fault .result) (state-fault .ensures) (c .before .if1 .taken)
 
 lay-times-requires : tie.Need-lay-times-requires
 lay-times-requires c κs =
     let s = c .before .before .before .args in
-    let fault = no-fault (s .machine) (s .costs) (s .tasks .count) (s .tasks .list) (c .before .before .state-fault .result) (c .before .before .state-fault .ensures) (c .before .if1 .left) in
+    let state-fault = c .before .before .state-fault in
+    let fault = no-fault (s .machine) (s .costs) (s .tasks .count) (s .tasks .list) (state-fault .result) (state-fault .ensures) (c .before .if1 .left) in
     let sane = state-sane (s .machine) (s .costs) (s .tasks .count) (s .tasks .list) fault in
     (sane .few, refl)
 
 order-of-requires : tie.Need-order-of-requires
 order-of-requires c κs =
     let s = c .before .before .before .before .before .before .args in
-    let fault = no-fault (s .machine) (s .costs) (s .tasks .count) (s .tasks .list) (c .before .before .before .before .before .state-fault .result) (c .before .before .before .before .before .state-fault .ensures) (c .before .before .before .before .if1 .left) in
+    let if1 = c .before .before .before .before .if1 in
+    let state-fault = c .before .before .before .before .before .state-fault in
+    let fault = no-fault (s .machine) (s .costs) (s .tasks .count) (s .tasks .list) (state-fault .result) (state-fault .ensures) (if1 .left) in
     let sane = state-sane (s .machine) (s .costs) (s .tasks .count) (s .tasks .list) fault in
     (sane .few, small-laid _ (take (s .tasks .count) (s .tasks .list)) (c .before .before .lay-times .ensures) (sane .timed), length-replicate {A = ℕ} 64 0)
 
 walk-over-requires : tie.Need-walk-over-requires
 walk-over-requires c κs =
-    let s = c .before .before .before .before .before .before .before .before .before .before .before .args in
-    let fault = no-fault (s .machine) (s .costs) (s .tasks .count) (s .tasks .list) (c .before .before .before .before .before .before .before .before .before .before .state-fault .result) (c .before .before .before .before .before .before .before .before .before .before .state-fault .ensures) (c .before .before .before .before .before .before .before .before .before .if1 .left) in
+    let at-state-fault = c .before .before .before .before .before .before .before .before .before .before in
+    let at-start = at-state-fault .before in
+    let s = at-start .args in
+    let if1 = c .before .before .before .before .before .before .before .before .before .if1 in
+    let state-fault = at-state-fault .state-fault in
+    let fault = no-fault (s .machine) (s .costs) (s .tasks .count) (s .tasks .list) (state-fault .result) (state-fault .ensures) (if1 .left) in
     let sane = state-sane (s .machine) (s .costs) (s .tasks .count) (s .tasks .list) fault in
-    let long : length (s .tasks .list) ≡ 64 = long-list (c .before .before .before .before .before .before .before .before .before .before .before) in
+    let long : length (s .tasks .list) ≡ 64 = long-list at-start in
     let order = c .before .before .before .before .order-of .ensures in
-    walk-fits (s .machine) (s .costs) (s .tasks .count) (s .tasks .list) long sane _ (c .before .before .before .before .before .before .before .lay-times .ensures) _ (order .0) (order .2) (order .1) _ _ (length-replicate {A = ℕ} 711 0) (length-replicate {A = ℕ} 553 0)
+    let lay-times = c .before .before .before .before .before .before .before .lay-times in
+    walk-fits (s .machine) (s .costs) (s .tasks .count) (s .tasks .list) long sane _ (lay-times .ensures) _ (order .0) (order .2)
+    (order .1) _ _ (length-replicate {A = ℕ} 711 0) (length-replicate {A = ℕ} 553 0)
 
 refuse-requires-2 : tie.Need-refuse-requires-2
 refuse-requires-2 c κs = search needs
 
 returns-2 : tie.Need-returns-2
 returns-2 c =
-    let s = c .before .before .before .before .before .before .before .before .before .before .before .before .before .before .args in
-    let fault = no-fault (s .machine) (s .costs) (s .tasks .count) (s .tasks .list) (c .before .before .before .before .before .before .before .before .before .before .before .before .before .state-fault .result) (c .before .before .before .before .before .before .before .before .before .before .before .before .before .state-fault .ensures) (c .before .before .before .before .before .before .before .before .before .before .before .before .if1 .left) in
+    let at-lay-times = c .before .before .before .before .before .before .before .before .before .before in
+    let at-start = at-lay-times .before .before .before .before in
+    let s = at-start .args in
+    let if1 = at-lay-times .before .before .if1 in
+    let state-fault = at-lay-times .before .before .before .state-fault in
+    let fault = no-fault (s .machine) (s .costs) (s .tasks .count) (s .tasks .list) (state-fault .result) (state-fault .ensures) (if1 .left) in
     let sane = state-sane (s .machine) (s .costs) (s .tasks .count) (s .tasks .list) fault in
-    let long : length (s .tasks .list) ≡ 64 = long-list (c .before .before .before .before .before .before .before .before .before .before .before .before .before .before) in
+    let long : length (s .tasks .list) ≡ 64 = long-list at-start in
     let order = c .before .before .before .before .before .before .before .order-of .ensures in
-    c .refuse2 .ensures ∙ plan-stuck (s .machine) (s .costs) (s .tasks .count) (s .tasks .list) long sane _ (c .before .before .before .before .before .before .before .before .before .before .lay-times .ensures) _ (order .0) _ _ (c .before .before .walk-over .result) (c .before .before .walk-over .ensures) fault (c .before .if2 .taken)
+    let walk-over = c .before .before .walk-over in
+    c .refuse2 .ensures
+    ∙ plan-stuck (s .machine) (s .costs) (s .tasks .count) (s .tasks .list) long sane _ (at-lay-times .lay-times .ensures) _ (order .0)
+    _ _ (walk-over .result) (walk-over .ensures) fault (c .before .if2 .taken)
 
 tidy-requires : tie.Need-tidy-requires
 tidy-requires c κs =
-    let s = c .before .before .before .before .before .before .before .before .before .before .before .before .before .args in
-    let fault = no-fault (s .machine) (s .costs) (s .tasks .count) (s .tasks .list) (c .before .before .before .before .before .before .before .before .before .before .before .before .state-fault .result) (c .before .before .before .before .before .before .before .before .before .before .before .before .state-fault .ensures) (c .before .before .before .before .before .before .before .before .before .before .before .if1 .left) in
+    let at-order-of = c .before .before .before .before .before .before in
+    let s = at-order-of .before .before .before .before .before .before .before .args in
+    let if1 = at-order-of .before .before .before .before .before .if1 in
+    let state-fault = at-order-of .before .before .before .before .before .before .state-fault in
+    let fault = no-fault (s .machine) (s .costs) (s .tasks .count) (s .tasks .list) (state-fault .result) (state-fault .ensures) (if1 .left) in
     let sane = state-sane (s .machine) (s .costs) (s .tasks .count) (s .tasks .list) fault in
     sane .few
 
 layout-of-requires : tie.Need-layout-of-requires
 layout-of-requires c κs =
-    let s = c .before .before .before .before .before .before .before .before .before .before .before .before .before .before .before .args in
-    let fault = no-fault (s .machine) (s .costs) (s .tasks .count) (s .tasks .list) (c .before .before .before .before .before .before .before .before .before .before .before .before .before .before .state-fault .result) (c .before .before .before .before .before .before .before .before .before .before .before .before .before .before .state-fault .ensures) (c .before .before .before .before .before .before .before .before .before .before .before .before .before .if1 .left) in
+    let at-walk-over = c .before .before .before in
+    let at-if1 = at-walk-over .before .before .before .before .before .before .before .before .before .before in
+    let at-start = at-if1 .before .before in
+    let s = at-start .args in
+    let state-fault = at-if1 .before .state-fault in
+    let fault = no-fault (s .machine) (s .costs) (s .tasks .count) (s .tasks .list) (state-fault .result) (state-fault .ensures) (at-if1 .if1 .left) in
     let sane = state-sane (s .machine) (s .costs) (s .tasks .count) (s .tasks .list) fault in
-    let long : length (s .tasks .list) ≡ 64 = long-list (c .before .before .before .before .before .before .before .before .before .before .before .before .before .before .before) in
-    let order = c .before .before .before .before .before .before .before .before .order-of .ensures in
-    all-fits (s .machine) (s .costs) (s .tasks .count) (s .tasks .list) long sane _ (c .before .before .before .before .before .before .before .before .before .before .before .lay-times .ensures) _ (order .0) _ _ (c .before .before .before .walk-over .result) (c .before .before .before .walk-over .ensures) (order .2) (order .1) (c .before .before .if2 .left)
+    let long : length (s .tasks .list) ≡ 64 = long-list at-start in
+    let order = at-walk-over .before .before .before .before .before .order-of .ensures in
+    let walk-over = at-walk-over .walk-over in
+    let lay-times = at-walk-over .before .before .before .before .before .before .before .before .lay-times in
+    all-fits (s .machine) (s .costs) (s .tasks .count) (s .tasks .list) long sane _ (lay-times .ensures) _ (order .0) _ _ (walk-over .result)
+    (walk-over .ensures) (order .2) (order .1) (c .before .before .if2 .left)
 
 returns-3 : tie.Need-returns-3
 returns-3 c =
-    let s = c .before .before .before .before .before .before .before .before .before .before .before .before .before .before .before .before .args in
-    let fault = no-fault (s .machine) (s .costs) (s .tasks .count) (s .tasks .list) (c .before .before .before .before .before .before .before .before .before .before .before .before .before .before .before .state-fault .result) (c .before .before .before .before .before .before .before .before .before .before .before .before .before .before .before .state-fault .ensures) (c .before .before .before .before .before .before .before .before .before .before .before .before .before .before .if1 .left) in
+    let at-walk-over = c .before .before .before .before in
+    let at-if1 = at-walk-over .before .before .before .before .before .before .before .before .before .before in
+    let at-start = at-if1 .before .before in
+    let s = at-start .args in
+    let state-fault = at-if1 .before .state-fault in
+    let fault = no-fault (s .machine) (s .costs) (s .tasks .count) (s .tasks .list) (state-fault .result) (state-fault .ensures) (at-if1 .if1 .left) in
     let sane = state-sane (s .machine) (s .costs) (s .tasks .count) (s .tasks .list) fault in
-    let long : length (s .tasks .list) ≡ 64 = long-list (c .before .before .before .before .before .before .before .before .before .before .before .before .before .before .before .before) in
-    let order = c .before .before .before .before .before .before .before .before .before .order-of .ensures in
-    plan-fine (s .machine) (s .costs) (s .tasks .count) (s .tasks .list) long sane _ (c .before .before .before .before .before .before .before .before .before .before .before .before .lay-times .ensures) _ (order .0) _ _ (c .before .before .before .before .walk-over .result) (c .before .before .before .before .walk-over .ensures) fault (c .before .before .before .if2 .left) (c .before .before .tidy .result) (c .before .before .tidy .ensures .0) (c .before .before .tidy .ensures .1) (c .layout-of .result) (c .layout-of .ensures)
+    let long : length (s .tasks .list) ≡ 64 = long-list at-start in
+    let order = at-walk-over .before .before .before .before .before .order-of .ensures in
+    let tidy = c .before .before .tidy in
+    let walk-over = at-walk-over .walk-over in
+    let lay-times = at-walk-over .before .before .before .before .before .before .before .before .lay-times in
+    plan-fine (s .machine) (s .costs) (s .tasks .count) (s .tasks .list) long sane _ (lay-times .ensures) _ (order .0)
+    _ _ (walk-over .result) (walk-over .ensures) fault (c .before .before .before .if2 .left) (tidy .result) (tidy .ensures .0)
+    (tidy .ensures .1) (c .layout-of .result) (c .layout-of .ensures)
 
 pub plan-tasks-spec : {M : Type 1} → statement M
 plan-tasks-spec =

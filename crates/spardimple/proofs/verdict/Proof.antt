@@ -9,8 +9,7 @@ use Rattle.demand.specs.declared.Costs.{Costs}
 use Rattle.demand.specs.Answer.{answerOf, told}
 use Rattle.demand.proofs.AnswerLaws.{answer-carries}
 use Rattle.spardimple.specs.Bytes.{piecesOf, costsOf}
-use Rattle.spardimple.specs.Numbers.{number}
-use Rattle.spardimple.specs.Numbers.Reply.{malformed, said}
+use Rattle.spardimple.specs.Numbers.{number, malformed, said}
 use Rattle.spardimple.proofs.ByteLaws.{pieces-length}
 use Rattle.spardimple.proofs.HoldingLaws.{holds-answer}
 use Rattle.spardimple.proofs.NumberLaws.{reply-records, reply-costs, reply-formed, number-reply}

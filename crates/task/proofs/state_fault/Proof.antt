@@ -2,8 +2,7 @@
 use mathlib.Core.Path.{_≡_, sym, _∙_}
 use mathlib.Core.Bool.{true}
 use borrow.Author.Tests.{not-true, not-false, le-leb, lt-leb}
-use Rattle.demand.specs.Sizes.{sizedCosts}
-use Rattle.task.specs.Tasks.{stateFault, sizedMachine}
+use Rattle.task.specs.Tasks.{stateFault}
 use borrow.Author.Needs.{needs}
 use Rattle.task.proofs.state_fault.Statement.{statement}
 use Rattle.task.proofs.state_fault.Tie as tie

@@ -53,8 +53,10 @@ charged-of-requires : tie.Need-charged-of-requires
 charged-of-requires c κs =
     let s = c .before .before .before .before .args in
     let t = c .before .before .before .sized-costs in
-    let u = c .before .countable-piece in
-    (subst (Tells (SizedCosts (s .costs))) (not-false (t .result) (c .before .before .if1 .left)) (t .ensures), subst (Tells (Countable (s .piece))) (not-false (u .result) (c .if2 .left)) (u .ensures))
+    let u = c .before .countable-piece in (
+      subst (Tells (SizedCosts (s .costs))) (not-false (t .result) (c .before .before .if1 .left)) (t .ensures),
+      subst (Tells (Countable (s .piece))) (not-false (u .result) (c .if2 .left)) (u .ensures),
+    )
 
 -- src/charges.rt:63:1
 returns-3 : tie.Need-returns-3

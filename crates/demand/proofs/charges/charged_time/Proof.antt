@@ -40,7 +40,8 @@ charge-of-requires c κs =
     let s = c .before .before .before .before .args in
     let t = c .before .before .before .sized-costs in
     let u = c .before .sized-piece in
-    let costs : Tells (SizedCosts (s .costs)) true = subst (Tells (SizedCosts (s .costs))) (not-false (t .result) (c .before .before .if1 .left)) (t .ensures) in
+    let costs : Tells (SizedCosts (s .costs)) true =
+    subst (Tells (SizedCosts (s .costs))) (not-false (t .result) (c .before .before .if1 .left)) (t .ensures) in
     let size : Tells (Sized (s .piece)) true = subst (Tells (Sized (s .piece))) (not-false (u .result) (c .if2 .left)) (u .ensures) in
     (costs, sized-countable (s .piece) size)
 
@@ -49,7 +50,8 @@ returns-3 c =
     let s = c .before .before .before .before .before .args in
     let t = c .before .before .before .before .sized-costs in
     let u = c .before .before .sized-piece in
-    let costs : Tells (SizedCosts (s .costs)) true = subst (Tells (SizedCosts (s .costs))) (not-false (t .result) (c .before .before .before .if1 .left)) (t .ensures) in
+    let costs : Tells (SizedCosts (s .costs)) true =
+    subst (Tells (SizedCosts (s .costs))) (not-false (t .result) (c .before .before .before .if1 .left)) (t .ensures) in
     let size : Tells (Sized (s .piece)) true = subst (Tells (Sized (s .piece))) (not-false (u .result) (c .before .if2 .left)) (u .ensures) in
     c .charge-of .ensures .0 ∙ sym (charged-tells (s .costs) (s .piece) true true costs size)
 

@@ -9,10 +9,14 @@ returns : tie.Need-returns
 returns c = simp (eq-eqb (c .before .args .number) 0 (c .if1 .taken))
 
 returns-2 : tie.Need-returns-2
-returns-2 c = simp (ne-eqb (c .before .before .args .number) 0 (c .before .if1 .left), eq-eqb (c .before .before .args .number) 1 (c .if2 .taken))
+returns-2 c =
+    let start = c .before .before .args in
+    simp (ne-eqb (start .number) 0 (c .before .if1 .left), eq-eqb (start .number) 1 (c .if2 .taken))
 
 returns-3 : tie.Need-returns-3
-returns-3 c = simp (ne-eqb (c .before .before .args .number) 0 (c .before .if1 .left), ne-eqb (c .before .before .args .number) 1 (c .if2 .left))
+returns-3 c =
+    let start = c .before .before .args in
+    simp (ne-eqb (start .number) 0 (c .before .if1 .left), ne-eqb (start .number) 1 (c .if2 .left))
 
 pub kind-of-spec : {M : Type 1} → statement M
 kind-of-spec = tie.close (tie.spec returns returns-2 returns-3)

@@ -27,7 +27,8 @@ sized-costs-requires c κs = search needs
 returns-2 : tie.Need-returns-2
 returns-2 c =
     let s = c .before .before .before .args in
-    let bad : sizedCosts (s .costs) ≡ false = sym (sized-costs-is (s .costs) (c .before .sized-costs .result) (c .before .sized-costs .ensures)) ∙ not-true (c .before .sized-costs .result) (c .if2 .taken) in
+    let bad : sizedCosts (s .costs) ≡ false = sym (sized-costs-is (s .costs) (c .before .sized-costs .result) (c .before .sized-costs .ensures))
+    ∙ not-true (c .before .sized-costs .result) (c .if2 .taken) in
     sym (check-costs (s .costs) (s .n) (recordsOf (s .records .now)) (c .before .before .if1 .left) bad)
 
 -- src/sizes.rt:102:9
@@ -38,15 +39,22 @@ first-bad-requires c κs = search needs
 returns-3 : tie.Need-returns-3
 returns-3 c =
     let s = c .before .before .before .before .before .args in
-    let good : sizedCosts (s .costs) ≡ true = sym (sized-costs-is (s .costs) (c .before .before .before .sized-costs .result) (c .before .before .before .sized-costs .ensures)) ∙ not-false (c .before .before .before .sized-costs .result) (c .before .before .if2 .left) in
-    sym (check-records (s .costs) (s .n) (recordsOf (s .records .now)) (c .before .before .before .before .if1 .left) good ∙ ap badRecord (sym (c .before .first-bad .ensures) ∙ c .if3 .taken))
+    let sized-costs = c .before .before .before .sized-costs in
+    let good : sizedCosts (s .costs) ≡ true = sym (sized-costs-is (s .costs) (sized-costs .result) (sized-costs .ensures))
+    ∙ not-false (sized-costs .result) (c .before .before .if2 .left) in
+    let if1 = c .before .before .before .before .if1 in
+    sym (check-records (s .costs) (s .n) (recordsOf (s .records .now)) (if1 .left) good ∙ ap badRecord (sym (c .before .first-bad .ensures) ∙ c .if3 .taken))
 
 -- src/sizes.rt:93:1
 returns-4 : tie.Need-returns-4
 returns-4 c =
     let s = c .before .before .before .before .before .args in
-    let good : sizedCosts (s .costs) ≡ true = sym (sized-costs-is (s .costs) (c .before .before .before .sized-costs .result) (c .before .before .before .sized-costs .ensures)) ∙ not-false (c .before .before .before .sized-costs .result) (c .before .before .if2 .left) in
-    sym (check-records (s .costs) (s .n) (recordsOf (s .records .now)) (c .before .before .before .before .if1 .left) good ∙ (ap badRecord (sym (c .before .first-bad .ensures)) ∙ bad-record-some (c .before .first-bad .result) (c .if3 .left)))
+    let sized-costs = c .before .before .before .sized-costs in
+    let good : sizedCosts (s .costs) ≡ true = sym (sized-costs-is (s .costs) (sized-costs .result) (sized-costs .ensures))
+    ∙ not-false (sized-costs .result) (c .before .before .if2 .left) in
+    let if1 = c .before .before .before .before .if1 in
+    sym (check-records (s .costs) (s .n) (recordsOf (s .records .now)) (if1 .left) good
+    ∙ (ap badRecord (sym (c .before .first-bad .ensures)) ∙ bad-record-some (c .before .first-bad .result) (c .if3 .left)))
 
 pub check-records-spec : {M : Type 1} → statement M
 check-records-spec =

@@ -45,7 +45,10 @@ returns-2 c =
     let s = c .before .before .before .before .before .before .args in
     let ps = recordsOf (s .records .now) in
     let good = sym (sized-is (s .task) (c .before .sized-piece .result) (c .before .sized-piece .ensures)) ∙ c .if2 .taken in
-    sym (behind-fine (s .costs) (s .n) ps (s .task) (omega (arith, c .before .before .before .before .before .if1 .left)) (omega (arith, c .before .before .before .before .before .if1 .left, records-length (s .records .now))) (sym (c .before .before .before .before .check-records .ensures) ∙ c .before .before .enum-told .given .1) good)
+    let check-records = c .before .before .before .before .check-records in
+    let if1 = c .before .before .before .before .before .if1 in
+    sym (behind-fine (s .costs) (s .n) ps (s .task) (omega (arith, if1 .left)) (omega (arith, if1 .left, records-length (s .records .now)))
+    (sym (check-records .ensures) ∙ c .before .before .enum-told .given .1) good)
 
 -- src/sizes.rt:122:43
 add-t12 : tie.Need-add-t12
@@ -56,7 +59,9 @@ returns-3 : tie.Need-returns-3
 returns-3 c =
     let s = c .before .before .before .before .before .args in
     let ps = recordsOf (s .records .now) in
-    sym (behind-refused (s .costs) (s .n) ps (s .task) (omega (arith, c .before .before .before .before .if1 .left)) (omega (arith, c .before .before .before .before .if1 .left, records-length (s .records .now))) (c .before .why .given .0 .0) (sym (c .before .before .before .check-records .ensures) ∙ c .before .why .given .1))
+    let if1 = c .before .before .before .before .if1 in
+    sym (behind-refused (s .costs) (s .n) ps (s .task) (omega (arith, if1 .left)) (omega (arith, if1 .left, records-length (s .records .now)))
+    (c .before .why .given .0 .0) (sym (c .before .before .before .check-records .ensures) ∙ c .before .why .given .1))
 
 -- src/sizes.rt:110:1
 returns-4 : tie.Need-returns-4
@@ -64,7 +69,10 @@ returns-4 c =
     let s = c .before .before .before .before .before .before .args in
     let ps = recordsOf (s .records .now) in
     let bad = sym (sized-is (s .task) (c .before .sized-piece .result) (c .before .sized-piece .ensures)) ∙ c .if2 .left in
-    sym (behind-bad (s .costs) (s .n) ps (s .task) (omega (arith, c .before .before .before .before .before .if1 .left)) (omega (arith, c .before .before .before .before .before .if1 .left, records-length (s .records .now))) (sym (c .before .before .before .before .check-records .ensures) ∙ c .before .before .enum-told .given .1) bad)
+    let check-records = c .before .before .before .before .check-records in
+    let if1 = c .before .before .before .before .before .if1 in
+    sym (behind-bad (s .costs) (s .n) ps (s .task) (omega (arith, if1 .left)) (omega (arith, if1 .left, records-length (s .records .now)))
+    (sym (check-records .ensures) ∙ c .before .before .enum-told .given .1) bad)
 
 pub check-task-spec : {M : Type 1} → statement M
 check-task-spec =

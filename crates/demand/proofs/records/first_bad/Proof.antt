@@ -18,7 +18,8 @@ use Rattle.demand.proofs.records.read_record.Reads as read-record-reads
 use Rattle.demand.proofs.sizes.sized_piece.Reads as sized-piece-reads
 
 abbrev Inv-loop : tie.InvT-loop
-Inv-loop records n i₀ place₀ i place = (i ≤ n) × (place ≡ i + 1) × (firstBad 1 (take n (recordsOf records)) ≡ firstBad (i + 1) (drop i (take n (recordsOf records))))
+Inv-loop records n i₀ place₀ i place = (i ≤ n) × (place ≡ i + 1)
+    × (firstBad 1 (take n (recordsOf records)) ≡ firstBad (i + 1) (drop i (take n (recordsOf records))))
 
 abbrev μ-loop : tie.MeasureT-loop
 μ-loop records n i₀ place₀ i place = n - i
@@ -41,9 +42,15 @@ returns c =
     let s = c .before .before .before .before .before .args in
     let l = c .before .before .before .before .loop in
     let a = s .records .now in
-    let read = records-read a (l .i) (c .before .before .read-record .result) nobody (omega arith) (c .before .before .read-record .ensures) in
-    let bad = sym (sized-is (c .before .before .read-record .result) (c .before .sized-piece .result) (c .before .sized-piece .ensures)) ∙ not-true (c .before .sized-piece .result) (c .if1 .taken) in
-    cc (l .inv .1, l .inv .2, bad-here (s .n) (recordsOf a) (omega (arith, records-length a)) (l .i) nobody (c .before .before .before .loop-test .taken) (rw read bad))
+    let read-record = c .before .before .read-record in
+    let read = records-read a (l .i) (read-record .result) nobody (omega arith) (read-record .ensures) in
+    let bad = sym (sized-is (read-record .result) (c .before .sized-piece .result) (c .before .sized-piece .ensures))
+    ∙ not-true (c .before .sized-piece .result) (c .if1 .taken) in
+    cc (
+      l .inv .1,
+      l .inv .2,
+      bad-here (s .n) (recordsOf a) (omega (arith, records-length a)) (l .i) nobody (c .before .before .before .loop-test .taken) (rw read bad),
+    )
 
 -- src/sizes.rt:86:9
 add-i : tie.Need-add-i Inv-loop μ-loop
@@ -63,9 +70,15 @@ loop-again c =
     let s = c .before .before .before .before .before .args in
     let l = c .before .before .before .before .loop in
     let a = s .records .now in
-    let read = records-read a (l .i) (c .before .before .read-record .result) nobody (omega arith) (c .before .before .read-record .ensures) in
-    let good = sym (sized-is (c .before .before .read-record .result) (c .before .sized-piece .result) (c .before .sized-piece .ensures)) ∙ not-false (c .before .sized-piece .result) (c .if1 .left) in
-    (search needs, search needs, l .inv .2 ∙ bad-good (s .n) (recordsOf a) (omega (arith, records-length a)) (l .i) nobody (c .before .before .before .loop-test .taken) (rw read good))
+    let read-record = c .before .before .read-record in
+    let read = records-read a (l .i) (read-record .result) nobody (omega arith) (read-record .ensures) in
+    let good = sym (sized-is (read-record .result) (c .before .sized-piece .result) (c .before .sized-piece .ensures))
+    ∙ not-false (c .before .sized-piece .result) (c .if1 .left) in (
+      search needs,
+      search needs,
+      l .inv .2
+          ∙ bad-good (s .n) (recordsOf a) (omega (arith, records-length a)) (l .i) nobody (c .before .before .before .loop-test .taken) (rw read good),
+    )
 
 -- src/sizes.rt:76:1
 returns-2 : tie.Need-returns-2 Inv-loop μ-loop

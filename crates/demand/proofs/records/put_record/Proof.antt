@@ -112,7 +112,8 @@ returns-2 c =
     let p = s .piece in
     let at = 7 * s .i in
     sets-seven (s .records .now) at (c .kind-number .result) (p .budget) (p .window) (p .period) (p .jitter) (p .preempt) (p .migrate)
-    ∙ (ap (λ (k : ℕ). sets (s .records .now) at (k ∷ p .budget ∷ p .window ∷ p .period ∷ p .jitter ∷ p .preempt ∷ p .migrate ∷ [])) (c .kind-number .ensures) ∙ sym (put-here (s .records .now) (s .i) p (omega (arith, c .before .if1 .left))))
+    ∙ (ap (λ (k : ℕ). sets (s .records .now) at (k ∷ p .budget ∷ p .window ∷ p .period ∷ p .jitter ∷ p .preempt ∷ p .migrate ∷ []))
+    (c .kind-number .ensures) ∙ sym (put-here (s .records .now) (s .i) p (omega (arith, c .before .if1 .left))))
 
 pub put-record-spec : {M : Type 1} → statement M
 put-record-spec =

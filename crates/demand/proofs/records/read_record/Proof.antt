@@ -97,7 +97,10 @@ element-copy-out-t38 c = search needs
 
 -- src/records.rt:11:1
 returns : tie.Need-returns
-returns c = record-read (c .before .before .before .before .before .before .before .before .args .records .now) (c .before .before .before .before .before .before .before .before .args .i) (c .before .before .before .before .before .before .kind-of .result) (c .before .before .before .before .before .before .kind-of .ensures)
+returns c =
+    let kind-of = c .before .before .before .before .before .before .kind-of in
+    let start = c .before .before .before .before .before .before .before .before .args in
+    record-read (start .records .now) (start .i) (kind-of .result) (kind-of .ensures)
 
 pub read-record-spec : {M : Type 1} → statement M
 read-record-spec =

@@ -13,13 +13,17 @@ read-record-requires : tie.Need-read-record-requires
 read-record-requires c κs = search needs
 
 returns : tie.Need-returns
-returns c = c .read-record .ensures ∙ sym (record-within (c .before .before .args .records .now) (c .before .before .args .i) (c .before .if1 .taken))
+returns c =
+    let start = c .before .before .args in
+    c .read-record .ensures ∙ sym (record-within (start .records .now) (start .i) (c .before .if1 .taken))
 
 no-record-requires : tie.Need-no-record-requires
 no-record-requires c κs = search needs
 
 returns-2 : tie.Need-returns-2
-returns-2 c = c .no-record .ensures ∙ sym (record-past (c .before .before .args .records .now) (c .before .before .args .i) (c .before .if1 .left))
+returns-2 c =
+    let start = c .before .before .args in
+    c .no-record .ensures ∙ sym (record-past (start .records .now) (start .i) (c .before .if1 .left))
 
 pub record-at-spec : {M : Type 1} → statement M
 record-at-spec = tie.close (tie.spec read-record-requires returns no-record-requires returns-2)

@@ -13,7 +13,8 @@ use Rattle.edits.proofs.lists.close_up.Statement.{statement}
 use Rattle.edits.proofs.lists.close_up.Tie as tie
 
 abbrev Inv-loop : tie.InvT-loop
-Inv-loop i tasks last next₀ j₀ next j = (i ≤ j) × (j ≤ last) × (length (tasks .list) ≡ 64) × (length (next .list) ≡ 64) × (take j (next .list) ≡ removed i (take (j + 1) (tasks .list)))
+Inv-loop i tasks last next₀ j₀ next j = (i ≤ j) × (j ≤ last) × (length (tasks .list) ≡ 64) × (length (next .list) ≡ 64)
+    × (take j (next .list) ≡ removed i (take (j + 1) (tasks .list)))
 
 abbrev μ-loop : tie.MeasureT-loop
 μ-loop i tasks last next₀ j₀ next j = last - j
@@ -52,13 +53,20 @@ loop-again : tie.Need-loop-again Inv-loop μ-loop
 loop-again c =
     let s = c .before .before .before .args in
     let q = c .before .before .loop in
-    (omega arith, omega arith, q .inv .2, length-set (q .next .list) (q .j) (getD (s .t1 .list) (q .j + 1) past) ∙ q .inv .3, remove-more (s .t1 .list) (s .i) (q .next .list) (q .j) past (q .inv .0) (omega (arith, c .before .before .before .pre .0)) (omega (arith, c .before .before .before .pre .0)) (q .inv .4))
+    let pre = c .before .before .before .pre in (
+      omega arith,
+      omega arith,
+      q .inv .2,
+      length-set (q .next .list) (q .j) (getD (s .t1 .list) (q .j + 1) past) ∙ q .inv .3,
+      remove-more (s .t1 .list) (s .i) (q .next .list) (q .j) past (q .inv .0) (omega (arith, pre .0)) (omega (arith, pre .0)) (q .inv .4),
+    )
 
 returns : tie.Need-returns Inv-loop μ-loop
 returns c =
     let s = c .before .before .args in
     let q = c .before .loop in
-    lists-removed (s .t1) (s .i) (q .j) (s .t1 .count - 1) (q .next .list) (q .inv .2) (c .before .before .pre .0) (c .before .before .pre .1) (omega arith) (omega (arith, c .before .before .pre .1)) (q .inv .4)
+    let pre = c .before .before .pre in
+    lists-removed (s .t1) (s .i) (q .j) (s .t1 .count - 1) (q .next .list) (q .inv .2) (pre .0) (pre .1) (omega arith) (omega (arith, pre .1)) (q .inv .4)
 
 pub close-up-spec : {M : Type 1} → statement M
 close-up-spec =

@@ -18,25 +18,40 @@ sub-i : tie.Need-sub-i
 sub-i c =
     let s = c .before .before .args in
     let long : length (s .tasks .list) ≡ 64 = search (needs, length-mapped) in
-    place-some (s .tasks) long (c .before .before .pre .0) (s .task .name) (c .place-of .result) (c .place-of .ensures) (retime-known (s .task) (listOf (s .tasks)) (c .before .before .pre .1))
+    let pre = c .before .before .pre in
+    place-some (s .tasks) long (pre .0) (s .task .name) (c .place-of .result) (c .place-of .ensures) (retime-known (s .task) (listOf (s .tasks)) (pre .1))
 
 mul-task : tie.Need-mul-task
 mul-task c =
     let s = c .before .before .args in
     let long : length (s .tasks .list) ≡ 64 = search (needs, length-mapped) in
-    omega (arith, c .before .before .pre .0, place-low (s .tasks) long (c .before .before .pre .0) (s .task .name) (c .place-of .result) (c .place-of .ensures) (retime-known (s .task) (listOf (s .tasks)) (c .before .before .pre .1)))
+    let pre = c .before .before .pre in
+    omega (
+      arith,
+      pre .0,
+      place-low (s .tasks) long (pre .0) (s .task .name) (c .place-of .result) (c .place-of .ensures)
+          (retime-known (s .task) (listOf (s .tasks)) (pre .1)),
+    )
 
 element-set-from-task : tie.Need-element-set-from-task
 element-set-from-task c =
     let s = c .before .before .args in
     let long : length (s .tasks .list) ≡ 64 = search (needs, length-mapped) in
-    omega (arith, c .before .before .pre .0, place-low (s .tasks) long (c .before .before .pre .0) (s .task .name) (c .place-of .result) (c .place-of .ensures) (retime-known (s .task) (listOf (s .tasks)) (c .before .before .pre .1)))
+    let pre = c .before .before .pre in
+    omega (
+      arith,
+      pre .0,
+      place-low (s .tasks) long (pre .0) (s .task .name) (c .place-of .result) (c .place-of .ensures)
+          (retime-known (s .task) (listOf (s .tasks)) (pre .1)),
+    )
 
 returns : tie.Need-returns
 returns c =
     let s = c .before .before .args in
     let long : length (s .tasks .list) ≡ 64 = search (needs, length-mapped) in
-    lists-put (s .tasks) long (c .before .before .pre .0) (s .task .name) (c .place-of .result) (c .place-of .ensures) (retime-known (s .task) (listOf (s .tasks)) (c .before .before .pre .1)) (s .task) refl
+    let pre = c .before .before .pre in
+    lists-put (s .tasks) long (pre .0) (s .task .name) (c .place-of .result) (c .place-of .ensures)
+    (retime-known (s .task) (listOf (s .tasks)) (pre .1)) (s .task) refl
 
 pub replace-spec : {M : Type 1} → statement M
 replace-spec = tie.close (tie.spec place-of-requires sub-i mul-task element-set-from-task returns)

@@ -26,11 +26,15 @@ place-of-requires c κs = search needs
 
 returns-2 : tie.Need-returns-2
 unfolding editFault
-returns-2 c = rw (good (c .before .before), found-no (c .before .before .before .before .args .name) (listOf (c .before .before .before .before .args .tasks)) (c .before .place-of .result) (c .before .place-of .ensures) (c .if2 .taken))
+returns-2 c =
+    let start = c .before .before .before .before .args in
+    rw (good (c .before .before), found-no (start .name) (listOf (start .tasks)) (c .before .place-of .result) (c .before .place-of .ensures) (c .if2 .taken))
 
 returns-3 : tie.Need-returns-3
 unfolding editFault
-returns-3 c = rw (good (c .before .before), found-yes (c .before .before .before .before .args .name) (listOf (c .before .before .before .before .args .tasks)) (c .before .place-of .result) (c .before .place-of .ensures) (c .if2 .left))
+returns-3 c =
+    let start = c .before .before .before .before .args in
+    rw (good (c .before .before), found-yes (start .name) (listOf (start .tasks)) (c .before .place-of .result) (c .before .place-of .ensures) (c .if2 .left))
 
 pub withdraw-fault-spec : {M : Type 1} → statement M
 withdraw-fault-spec =

@@ -26,17 +26,26 @@ abbrev μ-loop : tie.MeasureT-loop
 core-low : (c : tie.After-seat-at Inv-loop μ-loop) → c .seat-at .result .core < 16
 core-low c =
     let e = c .seat-at .result in
-    core-room (c .before .before .before .before .args .placed .now) (c .before .before .loop .s) (c .before .before .loop .i) (c .before .before .loop .inv .1) (e .core) (e .task) (e .piece) (c .seat-at .ensures) (c .before .before .before .before .args .n) (c .before .before .before .before .pre .1) (c .before .loop-test .taken)
+    let loop = c .before .before .loop in
+    let at-start = c .before .before .before .before in
+    core-room (at-start .args .placed .now) (loop .s) (loop .i) (loop .inv .1) (e .core) (e .task) (e .piece) (c .seat-at .ensures)
+    (at-start .args .n) (at-start .pre .1) (c .before .loop-test .taken)
 
 place-low : (c : tie.After-seat-at Inv-loop μ-loop) → c .seat-at .result .task < 64
 place-low c =
     let e = c .seat-at .result in
-    place-room (c .before .before .before .before .args .placed .now) (c .before .before .loop .s) (c .before .before .loop .i) (c .before .before .loop .inv .1) (e .core) (e .task) (e .piece) (c .seat-at .ensures) (c .before .before .before .before .args .n) (c .before .before .before .before .pre .1) (c .before .loop-test .taken)
+    let loop = c .before .before .loop in
+    let at-start = c .before .before .before .before in
+    place-room (at-start .args .placed .now) (loop .s) (loop .i) (loop .inv .1) (e .core) (e .task) (e .piece) (c .seat-at .ensures)
+    (at-start .args .n) (at-start .pre .1) (c .before .loop-test .taken)
 
 row-low : (c : tie.After-seat-at Inv-loop μ-loop) → getD (c .before .before .loop .s .lens) (c .seat-at .result .core) 0 < 64
 row-low c =
     let e = c .seat-at .result in
-    row-room (c .before .before .before .before .args .placed .now) (c .before .before .loop .s) (c .before .before .loop .i) (c .before .before .loop .inv .1) (e .core) (e .task) (e .piece) (c .seat-at .ensures) (c .before .before .before .before .args .n) (c .before .before .before .before .pre .1) (c .before .loop-test .taken)
+    let loop = c .before .before .loop in
+    let at-start = c .before .before .before .before in
+    row-room (at-start .args .placed .now) (loop .s) (loop .i) (loop .inv .1) (e .core) (e .task) (e .piece) (c .seat-at .ensures)
+    (at-start .args .n) (at-start .pre .1) (c .before .loop-test .taken)
 
 empty-requires : tie.Need-empty-requires Inv-loop μ-loop
 empty-requires c κs = search needs
@@ -72,13 +81,19 @@ mul-s : tie.Need-mul-s Inv-loop μ-loop
 mul-s c = record { fits = omega (arith, core-low (c .before .before .before .before)) }
 
 add-s : tie.Need-add-s Inv-loop μ-loop
-add-s c = record { fits = omega (arith, core-low (c .before .before .before .before), row-low (c .before .before .before .before)) }
+add-s c =
+    let at-seat-at = c .before .before .before .before in
+    record { fits = omega (arith, core-low at-seat-at, row-low at-seat-at) }
 
 mul-s-2 : tie.Need-mul-s-2 Inv-loop μ-loop
-mul-s-2 c = record { fits = omega (arith, core-low (c .before .before .before .before), row-low (c .before .before .before .before)) }
+mul-s-2 c =
+    let at-seat-at = c .before .before .before .before in
+    record { fits = omega (arith, core-low at-seat-at, row-low at-seat-at) }
 
 element-write-s : tie.Need-element-write-s Inv-loop μ-loop
-element-write-s c = omega (arith, core-low (c .before .before .before .before), row-low (c .before .before .before .before))
+element-write-s c =
+    let at-seat-at = c .before .before .before .before in
+    omega (arith, core-low at-seat-at, row-low at-seat-at)
 
 add-s-2 : tie.Need-add-s-2 Inv-loop μ-loop
 add-s-2 c = record { fits = omega (arith, row-low (c .before .before .before .before)) }
@@ -108,8 +123,13 @@ loop-again : tie.Need-loop-again Inv-loop μ-loop
 unfolding putOf
 loop-again c =
     let now = c .before .before .before .before .before .before .before .loop in
-    let e = c .before .before .before .before .before .seat-at .result in
-    (omega arith, laying-more (c .before .before .before .before .before .before .before .before .before .args .placed .now) (now .s) (now .i) (now .inv .1) (e .core) (e .task) (e .piece) (c .before .before .before .before .before .seat-at .ensures) _ (cc (now .inv .1 .count, c .before .store .ensures, c .with-bit .ensures)))
+    let seat-at = c .before .before .before .before .before .seat-at in
+    let e = seat-at .result in
+    let start = c .before .before .before .before .before .before .before .before .before .args in (
+      omega arith,
+      laying-more (start .placed .now) (now .s) (now .i) (now .inv .1) (e .core) (e .task) (e .piece)
+          (seat-at .ensures) _ (cc (now .inv .1 .count, c .before .store .ensures, c .with-bit .ensures)),
+    )
 
 returns : tie.Need-returns Inv-loop μ-loop
 returns c =

@@ -17,7 +17,8 @@ use Rattle.demand.proofs.put_record.Reads as put-record-reads
 use Rattle.plan.proofs.seats.seat_at.Reads as seat-at-reads
 
 abbrev Inv-loop : tie.InvT-loop
-Inv-loop records₀ placed row i₀ records i = (i ≤ row .len) × (firstRecords records i ≡ map (λ (k : ℕ). placedAt placed k .piece) (take i (row .numbers))) × (length records ≡ 553)
+Inv-loop records₀ placed row i₀ records i = (i ≤ row .len)
+    × (firstRecords records i ≡ map (λ (k : ℕ). placedAt placed k .piece) (take i (row .numbers))) × (length records ≡ 553)
 
 abbrev μ-loop : tie.MeasureT-loop
 μ-loop records₀ placed row i₀ records i = row .len - i
@@ -33,8 +34,11 @@ element-copy-out-number c = search needs
 
 seat-at-requires : tie.Need-seat-at-requires Inv-loop μ-loop
 seat-at-requires c κs =
-    let long : length (c .before .before .before .args .t3 .numbers) ≡ 64 = search needs in
-    each-at (λ (k : ℕ). k < 79) (c .before .before .before .args .t3 .len) (c .before .before .before .args .t3 .numbers) (c .before .before .before .pre .1) (c .before .before .loop .i) 0 (c .before .loop-test .taken) (omega (arith, c .before .before .before .pre .0))
+    let at-start = c .before .before .before in
+    let start = at-start .args in
+    let long : length (start .t3 .numbers) ≡ 64 = search needs in
+    each-at (λ (k : ℕ). k < 79) (start .t3 .len) (start .t3 .numbers) (at-start .pre .1) (c .before .before .loop .i) 0
+    (c .before .loop-test .taken) (omega (arith, at-start .pre .0))
 
 put-record-requires : tie.Need-put-record-requires Inv-loop μ-loop
 put-record-requires c κs = search needs
@@ -47,11 +51,16 @@ loop-less c = search needs
 
 loop-again : tie.Need-loop-again Inv-loop μ-loop
 loop-again c =
-    let long : length (c .before .before .before .before .before .before .args .t3 .numbers) ≡ 64 = search needs in
-    let e = c .before .before .seat-at .result in (
+    let at-start = c .before .before .before .before .before .before in
+    let start = at-start .args in
+    let long : length (start .t3 .numbers) ≡ 64 = search needs in
+    let e = c .before .before .seat-at .result in
+    let loop = c .before .before .before .before .before .loop in
+    let pre = at-start .pre in (
       omega arith,
-      laid-piece (c .before .before .before .before .before .before .args .placed .now) (c .before .before .before .before .before .before .args .t3 .numbers) (c .before .before .before .before .before .loop .i) (omega (arith, c .before .before .before .before .before .before .pre .0)) (omega (arith, c .before .before .before .before .before .before .pre .0)) (c .before .before .before .before .before .loop .records) _ (c .before .before .before .before .before .loop .inv .2) (c .before .before .before .before .before .loop .inv .1) (e .core) (e .task) (e .piece) (c .before .before .seat-at .ensures) (c .put-record .ensures),
-      put-size (c .before .before .before .before .before .loop .records) _ (c .before .before .before .before .before .loop .i) (e .piece) (omega (arith, c .before .before .before .before .before .before .pre .0)) (c .before .before .before .before .before .loop .inv .2) (c .put-record .ensures),
+      laid-piece (start .placed .now) (start .t3 .numbers) (loop .i) (omega (arith, pre .0)) (omega (arith, pre .0)) (loop .records)
+          _ (loop .inv .2) (loop .inv .1) (e .core) (e .task) (e .piece) (c .before .before .seat-at .ensures) (c .put-record .ensures),
+      put-size (loop .records) _ (loop .i) (e .piece) (omega (arith, pre .0)) (loop .inv .2) (c .put-record .ensures),
     )
 
 returns : tie.Need-returns Inv-loop μ-loop

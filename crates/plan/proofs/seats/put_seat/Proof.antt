@@ -102,7 +102,10 @@ element-write-placed-9 c = search needs
 returns : tie.Need-returns
 returns c =
     let s = c .before .before .before .args in
-    placed-put (s .placed .now) (s .n) (s .p) (s .k) (s .q) (omega (arith, c .before .before .before .pre .0, c .before .before .before .pre .1)) (c .before .before .before .pre .1) (c .before .before .wide .result) (c .before .wide2 .result) (c .kind-number .result) (c .before .before .wide .ensures) (c .before .wide2 .ensures) (c .kind-number .ensures)
+    let wide = c .before .before .wide in
+    let pre = c .before .before .before .pre in
+    placed-put (s .placed .now) (s .n) (s .p) (s .k) (s .q) (omega (arith, pre .0, pre .1)) (pre .1) (wide .result)
+    (c .before .wide2 .result) (c .kind-number .result) (wide .ensures) (c .before .wide2 .ensures) (c .kind-number .ensures)
 
 pub put-seat-spec : {M : Type 1} → statement M
 put-seat-spec =

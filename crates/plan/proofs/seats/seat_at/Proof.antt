@@ -99,7 +99,13 @@ element-copy-out-t43 : tie.Need-element-copy-out-t43
 element-copy-out-t43 c = search needs
 
 returns : tie.Need-returns
-returns c = seat-read (c .before .before .before .before .before .before .before .before .before .before .before .before .args .placed .now) (c .before .before .before .before .before .before .before .before .before .before .before .before .args .i) (c .before .before .before .before .before .before .before .before .before .before .narrow .result) (c .before .before .before .before .before .before .before .before .narrow2 .result) (c .before .before .before .before .before .before .kind-of .result) (c .before .before .before .before .before .before .before .before .before .before .narrow .ensures) (c .before .before .before .before .before .before .before .before .narrow2 .ensures) (c .before .before .before .before .before .before .kind-of .ensures)
+returns c =
+    let kind-of = c .before .before .before .before .before .before .kind-of in
+    let narrow2 = c .before .before .before .before .before .before .before .before .narrow2 in
+    let at-narrow = c .before .before .before .before .before .before .before .before .before .before in
+    let narrow = at-narrow .narrow in
+    let start = at-narrow .before .before .args in
+    seat-read (start .placed .now) (start .i) (narrow .result) (narrow2 .result) (kind-of .result) (narrow .ensures) (narrow2 .ensures) (kind-of .ensures)
 
 pub seat-at-spec : {M : Type 1} → statement M
 seat-at-spec =

@@ -39,8 +39,13 @@ loop-less c = search needs
 
 loop-again : tie.Need-loop-again Inv-loop μ-loop
 loop-again c =
-    let long : length (c .before .before .before .before .before .args .t2 .list) ≡ 64 = search (needs, length-mapped) in
-    (omega arith, c .put-times .ensures .2, laid-more (c .before .before .before .before .loop .times) _ (c .before .before .before .before .before .args .t2 .list) (c .before .before .before .before .loop .i) (omega arith) (c .before .before .before .before .loop .inv .2) (c .put-times .ensures .0) (c .put-times .ensures .1))
+    let start = c .before .before .before .before .before .args in
+    let long : length (start .t2 .list) ≡ 64 = search (needs, length-mapped) in
+    let loop = c .before .before .before .before .loop in (
+      omega arith,
+      c .put-times .ensures .2,
+      laid-more (loop .times) _ (start .t2 .list) (loop .i) (omega arith) (loop .inv .2) (c .put-times .ensures .0) (c .put-times .ensures .1),
+    )
 
 returns : tie.Need-returns Inv-loop μ-loop
 returns c =

@@ -69,8 +69,11 @@ element-write-times-6 c = search needs
 returns : tie.Need-returns
 returns c =
     let s = c .args in
-    let e = sets-six (s .times .now) (6 * s .i) (s .t .worst) (s .t .deadline) (s .t .period) (s .t .jitter) (s .t .preempt) (s .t .migrate) in
-    (ap (λ (a : List ℕ). timesAt a (s .i)) e ∙ times-put (s .times .now) (s .i) (s .t) (omega arith), λ j other. ap (λ (a : List ℕ). timesAt a j) e ∙ times-kept (s .times .now) (s .i) (s .t) (omega arith) j other, simp length-set (c .pre .1))
+    let e = sets-six (s .times .now) (6 * s .i) (s .t .worst) (s .t .deadline) (s .t .period) (s .t .jitter) (s .t .preempt) (s .t .migrate) in (
+      ap (λ (a : List ℕ). timesAt a (s .i)) e ∙ times-put (s .times .now) (s .i) (s .t) (omega arith),
+      λ j other. ap (λ (a : List ℕ). timesAt a j) e ∙ times-kept (s .times .now) (s .i) (s .t) (omega arith) j other,
+      simp length-set (c .pre .1),
+    )
 
 pub put-times-spec : {M : Type 1} → statement M
 put-times-spec =

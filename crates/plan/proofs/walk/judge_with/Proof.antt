@@ -28,16 +28,27 @@ enum-told c = search needs
 returns : tie.Need-returns
 returns c =
     let s = c .before .before .before .before .before .before .args in
-    let fits = c .before .before .before .before .before .before .pre .0 in
-    let behind = asked-put (s .records .now) _ (s .n) (s .q) (omega (arith, fits .free)) (fits .size) (c .before .before .before .before .put-record .ensures) in
-    absurd (never-refused (s .costs) (s .records .now) (s .n) (s .q) fits (c .before .before .before .before .before .before .pre .1) _ behind (c .before .before .judge-records .result) (c .before .before .judge-records .ensures) _ (c .enum-told .given .1))
+    let pre = c .before .before .before .before .before .before .pre in
+    let fits = pre .0 in
+    let put-record = c .before .before .before .before .put-record in
+    let behind = asked-put (s .records .now) _ (s .n) (s .q) (omega (arith, fits .free)) (fits .size) (put-record .ensures) in
+    let judge-records = c .before .before .judge-records in
+    absurd (never-refused (s .costs) (s .records .now) (s .n) (s .q) fits (pre .1) _ behind (judge-records .result)
+    (judge-records .ensures) _ (c .enum-told .given .1))
 
 returns-2 : tie.Need-returns-2
 returns-2 c =
     let s = c .before .before .before .before .before .before .before .args in
-    let fits = c .before .before .before .before .before .before .before .pre .0 in
-    let behind = asked-put (s .records .now) _ (s .n) (s .q) (omega (arith, fits .free)) (fits .size) (c .before .before .before .before .before .put-record .ensures) in
-    (judged-is (s .costs) (s .records .now) (s .n) (s .q) fits (c .before .before .before .before .before .before .before .pre .1) _ behind (c .before .before .before .judge-records .result) (c .before .before .before .judge-records .ensures) (c .before .v .given .0 .0) (c .before .v .given .1), behind, put-size (s .records .now) _ (s .n) (s .q) (omega (arith, fits .free)) (fits .size) (c .before .before .before .before .before .put-record .ensures))
+    let pre = c .before .before .before .before .before .before .before .pre in
+    let fits = pre .0 in
+    let put-record = c .before .before .before .before .before .put-record in
+    let behind = asked-put (s .records .now) _ (s .n) (s .q) (omega (arith, fits .free)) (fits .size) (put-record .ensures) in
+    let judge-records = c .before .before .before .judge-records in (
+      judged-is (s .costs) (s .records .now) (s .n) (s .q) fits (pre .1) _ behind (judge-records .result) (judge-records .ensures)
+          (c .before .v .given .0 .0) (c .before .v .given .1),
+      behind,
+      put-size (s .records .now) _ (s .n) (s .q) (omega (arith, fits .free)) (fits .size) (put-record .ensures),
+    )
 
 pub judge-with-spec : {M : Type 1} → statement M
 judge-with-spec =

@@ -32,17 +32,25 @@ last-piece-requires c κs = search needs
 seat-requires-2 : tie.Need-seat-requires-2
 unfolding seatedOf nextOf
 seat-requires-2 c κs =
+    let next-core = c .before .before .next-core in
+    let seat = c .before .before .before .seat in
+    let pre = c .before .before .before .before .before .before .pre in
     record {
-      room = rw (c .before .before .next-core .ensures, c .before .before .before .seat .ensures .0) (c .before .before .before .before .before .before .pre .room);
-      free = rw (c .before .before .next-core .ensures) (omega arith);
-      size = c .before .before .before .seat .ensures .1 .size;
+      room = rw (next-core .ensures, seat .ensures .0) (pre .room);
+      free = rw (next-core .ensures) (omega arith);
+      size = seat .ensures .1 .size;
     }
 
 returns : tie.Need-returns
 returns c =
-    let s = c .before .before .before .before .before .before .before .args in (
-      c .seat2 .ensures .0 ∙ ap seatedOf (c .before .before .before .next-core .ensures ∙ ap nextOf (c .before .before .before .before .seat .ensures .0)),
-      rw (← c .before .before .before .before .before .first-piece .ensures, ← c .before .last-piece .ensures) (both-put (s .placed .now) _ _ (s .going) (c .before .before .before .before .seat .result) (c .before .before .before .next-core .result) (s .k) (c .before .before .before .before .before .first-piece .result) (c .before .last-piece .result) (c .before .before .before .before .seat .ensures .0) (c .before .before .before .next-core .ensures) (c .before .before .before .before .seat .ensures .1) (c .seat2 .ensures .1)),
+    let s = c .before .before .before .before .before .before .before .args in
+    let next-core = c .before .before .before .next-core in
+    let seat = c .before .before .before .before .seat in
+    let first-piece = c .before .before .before .before .before .first-piece in (
+      c .seat2 .ensures .0 ∙ ap seatedOf (next-core .ensures ∙ ap nextOf (seat .ensures .0)),
+      rw (← first-piece .ensures, ← c .before .last-piece .ensures)
+          (both-put (s .placed .now) _ _ (s .going) (seat .result) (next-core .result) (s .k) (first-piece .result)
+          (c .before .last-piece .result) (seat .ensures .0) (next-core .ensures) (seat .ensures .1) (c .seat2 .ensures .1)),
     )
 
 pub seat-both-spec : {M : Type 1} → statement M

@@ -19,12 +19,18 @@ enum-told c = search needs
 returns : tie.Need-returns
 returns c =
     let s = c .before .before .before .args in
-    absurd (never-denied (s .costs) (s .records .now) (s .n) (s .q) (c .before .before .before .pre .0) (c .before .before .before .pre .1) (s .grain) (c .before .before .split-records .result) (c .before .before .split-records .ensures) _ (c .enum-told .given .1))
+    let split-records = c .before .before .split-records in
+    let pre = c .before .before .before .pre in
+    absurd (never-denied (s .costs) (s .records .now) (s .n) (s .q) (pre .0) (pre .1) (s .grain) (split-records .result)
+    (split-records .ensures) _ (c .enum-told .given .1))
 
 returns-2 : tie.Need-returns-2
 returns-2 c =
     let s = c .before .before .before .before .args in
-    split-is (s .costs) (s .records .now) (s .n) (s .q) (c .before .before .before .before .pre .0) (c .before .before .before .before .pre .1) (s .grain) (c .before .before .before .split-records .result) (c .before .before .before .split-records .ensures) (c .before .s .given .0 .0) (c .before .s .given .1)
+    let split-records = c .before .before .before .split-records in
+    let pre = c .before .before .before .before .pre in
+    split-is (s .costs) (s .records .now) (s .n) (s .q) (pre .0) (pre .1) (s .grain) (split-records .result) (split-records .ensures)
+    (c .before .s .given .0 .0) (c .before .s .given .1)
 
 pub split-on-spec : {M : Type 1} → statement M
 split-on-spec =

@@ -1,6 +1,6 @@
 -- `drafts::no_tasks` meets its contract: each place holds the same.
 -- Assumes nothing.
-use Rattle.sheet.proofs.DraftLaws.{tasks-none}
+use Rattle.task.proofs.TaskLaws.{tasks-none}
 use borrow.Author.Needs.{needs}
 use Rattle.sheet.proofs.drafts.no_tasks.Statement.{statement}
 use Rattle.sheet.proofs.drafts.no_tasks.Tie as tie
