@@ -5,9 +5,10 @@ use mathlib.Core.Bool.{true, false}
 use lib.ListN.{length}
 use Rattle.demand.specs.Sizes.{sized}
 use Rattle.task.specs.Names.{formed}
-use Rattle.task.specs.Tasks.{wholePiece, listOf}
+use Rattle.task.specs.Tasks.{wholePiece}
 use Rattle.demand.proofs.RunLaws.{length-mapped}
 use Rattle.edits.specs.Edits.{named, editFault}
+use Rattle.task.specs.Tasks.{listOf}
 use Rattle.edits.proofs.ListLaws.{room-none, room-some}
 use Rattle.edits.proofs.EditLaws.{told-no, told-yes, sizes-no, sizes-yes, found-no, found-yes}
 use borrow.Author.Needs.{needs}
@@ -76,18 +77,26 @@ returns-3 c =
 returns-4 : tie.Need-returns-4
 unfolding editFault
 returns-4 c =
-    let earlier = c .before .before .before .before .before .before in
-    let q = earlier .before .before .before .before .before .args .tasks in
+    let q = c .before .before .before .before .before .before .before .before .before .before .before .args .tasks in
     let long : length (q .list) ≡ 64 = search (needs, length-mapped) in
-    rw (good (earlier .before), fits (c .before .before .before .before), new (c .before .before), room-none q long (c .if4 .taken))
+    rw (
+      good (c .before .before .before .before .before .before .before),
+      fits (c .before .before .before .before),
+      new (c .before .before),
+      room-none q long (c .if4 .taken),
+    )
 
 returns-5 : tie.Need-returns-5
 unfolding editFault
 returns-5 c =
-    let earlier = c .before .before .before .before .before .before in
-    let q = earlier .before .before .before .before .before .args .tasks in
+    let q = c .before .before .before .before .before .before .before .before .before .before .before .args .tasks in
     let long : length (q .list) ≡ 64 = search (needs, length-mapped) in
-    rw (good (earlier .before), fits (c .before .before .before .before), new (c .before .before), room-some q long (c .if4 .left))
+    rw (
+      good (c .before .before .before .before .before .before .before),
+      fits (c .before .before .before .before),
+      new (c .before .before),
+      room-some q long (c .if4 .left),
+    )
 
 pub add-fault-spec : {M : Type 1} → statement M
 add-fault-spec =
