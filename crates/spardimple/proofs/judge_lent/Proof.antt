@@ -1,5 +1,5 @@
 -- `judge_lent` meets its contract: a walk of its MIR, by hand. The slice is passed on to `gather`, and what that returns, with the
--- costs, to `demand::judge`; `holding-answer` takes the answer for the copy to the lent records. The slice is lent by `&`, so nothing
+-- costs, to `verdicts::judge`; `holding-answer` takes the answer for the copy to the lent records. The slice is lent by `&`, so nothing
 -- of it is written.
 -- Assumes nothing.
 use mathlib.Core.Path.{_≡_, refl, ap, _∙_, subst}
@@ -61,7 +61,7 @@ use Rattle.verdicts.proofs.judge as judge
 use Rattle.verdicts.proofs.judge.Symbol as judge-def
 use Rattle.verdicts.proofs.judge.Symbol.{name as #judge}
 use Rattle.verdicts.proofs.judge.Met as judge-thm
-use Rattle.lines.proofs.SaysLaws.{name as #judge-lent}
+use Rattle.spardimple.proofs.judge_lent.Key.{name as #judge-lent}
 use Rattle.spardimple.proofs.judge_lent as f
 use Rattle.spardimple.proofs.judge_lent.Statement as stated
 use Rattle.spardimple.proofs.judge_lent.Code as code
@@ -207,4 +207,4 @@ judge-lent-spec 𝓤 H 𝓜 𝓖 𝓡 =
     (tables 𝓤 H 𝓜 𝓡 code.env .C) (tables 𝓤 H 𝓜 𝓡 code.env .Λ) #judge-lent code.function (code.unfolded 𝓤 H 𝓜 𝓡)
     (judge-lent-meets 𝓤 H (𝓖 .A) (givenOf 𝓤 H 𝓜 𝓖) (𝓜 .mem) (𝓡 .run) (tablesOf 𝓤 H 𝓜 (tables 𝓤 H 𝓜 𝓡 code.env))
     (cited 𝓤 H (Gather 𝓤 H (𝓖 .A) (𝓜 .mem) (𝓡 .run)) 𝓜 𝓡 code.env #gather gather-def.routine code.calls-spardimple·runs·gather (gather-thm.met 𝓤 H 𝓜 𝓖 𝓡))
-    (cited 𝓤 H (Judge 𝓤 H (𝓖 .A) (𝓜 .mem) (𝓡 .run)) 𝓜 𝓡 code.env #judge judge-def.routine code.calls-demand·judge (judge-thm.met 𝓤 H 𝓜 𝓖 𝓡)))
+    (cited 𝓤 H (Judge 𝓤 H (𝓖 .A) (𝓜 .mem) (𝓡 .run)) 𝓜 𝓡 code.env #judge judge-def.routine code.calls-verdicts·judge (judge-thm.met 𝓤 H 𝓜 𝓖 𝓡)))
