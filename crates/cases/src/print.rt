@@ -121,7 +121,7 @@ pub fn show_split(case: &[u8], costs: Costs, run: Run, task: Piece, grain: u64) 
     io::write_all(STDOUT_FILENO, b"split");
     let records = demand::records_of(run);
     let n = run.count;
-    match verdicts::split_records(costs, &records, n, task, grain) {
+    match splits::split_records(costs, &records, n, task, grain) {
         Splitting::Denied(why) => {
             io::write_all(STDOUT_FILENO, b"\t");
             refusal(why);

@@ -153,7 +153,7 @@ stall-le c = look (sizedCosts c) (tells-costs c)
 
 -- ---- one piece more
 
-map-snoc : {A B : Type 0} (f : A → B) (ps : List A) (p : A) → map f (ps ++ (p ∷ [])) ≡ map f ps ++ (f p ∷ [])
+pub map-snoc : {A B : Type 0} (f : A → B) (ps : List A) (p : A) → map f (ps ++ (p ∷ [])) ≡ map f ps ++ (f p ∷ [])
 map-snoc f [] p = refl
 map-snoc f (q ∷ ps) p = ap (λ (l : List _). f q ∷ l) (map-snoc f ps p)
 

@@ -1,7 +1,7 @@
 -- The size rules as tests say what they say as records.
 -- Assumes nothing.
 --
---   sized-is, sized-costs-is, countable-is    a test that tells the rule is the definition's
+--   sized-is, sized-costs-is, countable-is, ranged-is     a test that tells the rule is the definition's
 --   window-most, budget-recurs  what else the size rule says: a window is at most 1,000,000, a budget at most its period
 --   first-bad-none              no bad place: all records are within the sizes
 --   first-bad-good, -bad, -end  one record more
@@ -21,13 +21,14 @@ use lib.Seq.{drop-cons}
 use Rattle.demand.specs.declared.Piece.{Piece}
 use Rattle.demand.specs.declared.Costs.{Costs}
 use Rattle.demand.specs.Sizes.{timeMost, costMost, SizedCosts, Sized, sizedCosts, sized, Tells, Each}
-use Rattle.demand.specs.ways.Ranges.{Countable, countable}
+use Rattle.demand.specs.declared.Charged.{Charged}
+use Rattle.demand.specs.ways.Ranges.{Countable, countable, Ranged, ranged, chargeMost, releaseMost}
 use Rattle.demand.specs.Answer.{firstBad}
 
 -- ---- tests
 
 module _ (P : Type 0) where
-  tells-unique : (a b : Bool) → Tells P a → Tells P b → a ≡ b
+  pub tells-unique : (a b : Bool) → Tells P a → Tells P b → a ≡ b
   tells-unique true true p q = refl
   tells-unique true false p q = absurd (q p)
   tells-unique false true p q = absurd (p q)
@@ -43,7 +44,7 @@ module _ (P : Type 0) where
   tells-both Q false true p q = λ h. p (h .0)
   tells-both Q false false p q = λ h. p (h .0)
 
-tells-leb : (m n : ℕ) → Tells (m ≤ n) (leb m n)
+pub tells-leb : (m n : ℕ) → Tells (m ≤ n) (leb m n)
 tells-leb m n = look (leb m n) refl
   where
     look : (b : Bool) → leb m n ≡ b → Tells (m ≤ n) b
@@ -122,6 +123,18 @@ tells-countable p =
 
 pub countable-is : (p : Piece) (b : Bool) → Tells (Countable p) b → b ≡ countable p
 countable-is p b tells = tells-unique (Countable p) b (countable p) tells (tells-countable p)
+
+ranged-bounds : Charged → List (ℕ × ℕ)
+ranged-bounds q = (q .ipij, costMost) ∷ (q .ipi, costMost) ∷ (q .release, releaseMost) ∷ (q .charge, chargeMost) ∷ (q .jitter, timeMost) ∷ (q .window, timeMost) ∷ (q .period, timeMost) ∷ (1, q .period) ∷ []
+
+pub tells-ranged : (q : Charged) → Tells (Ranged q) (ranged q)
+unfolding ranged ranged-bounds
+tells-ranged q =
+    tells-as (Bounds (ranged-bounds q)) (Ranged q) (λ b. record { period-some = omega arith; period-fits = omega arith; window-fits = omega arith; jitter-fits = omega arith; charge-fits = omega arith; release-fits = omega arith; ipi-fits = omega arith; ipij-fits = omega arith })
+    (λ s. search needs) (ranged q) (tells-bounds (ranged-bounds q))
+
+pub ranged-is : (q : Charged) (b : Bool) → Tells (Ranged q) b → b ≡ ranged q
+ranged-is q b tells = tells-unique (Ranged q) b (ranged q) tells (tells-ranged q)
 
 pub sized-is : (p : Piece) (b : Bool) → Tells (Sized p) b → b ≡ sized p
 sized-is p b tells = tells-unique (Sized p) b (sized p) tells (tells-sized p)

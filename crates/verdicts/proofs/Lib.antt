@@ -1,8 +1,6 @@
 -- Laws that belong to no one function.
-pub mod LaneLaws
-pub mod ProbeLaws
-pub mod FluidLaws
-pub mod MarkLaws
-pub mod CapLaws
-pub mod SearchLaws
-pub mod SkipLaws
+pub mod ChargedArrayLaws
+pub mod LaidLaws
+pub mod BusyClimbLaws
+pub mod ReleaseSumLaws
+pub mod MostFittingLaws

@@ -1,16 +1,19 @@
-// Jobs due, interrupts, the two sums and the demand g(t), over charged pieces. Nothing wraps: lengths are at most 101,000,000.
+// Jobs due, interrupts, the sums and the demand g(t), over charged pieces. Nothing wraps: lengths are at most 101,000,000.
 use crate::Sum;
-use crate::lanes::lane_at;
+use crate::arrays::charged_at;
 use demand::Charged;
+use demand::RUN_NUMBERS;
 use demand::greater;
 use demand::less;
 use demand::lesser;
 ghost use mathlib.Core.Path.{_≡_};
 ghost use Prim.Native.Nat.{_+_, _*_, _-_, _<_, _≤_, min, max};
+ghost use Rattle.demand.specs.Busy.{busyLoad};
 ghost use Rattle.demand.specs.Demand.{ceil, jobsDue, interrupts, load, total, largestWindow, leastLive, demand};
-ghost use Rattle.verdicts.specs.ways.Lanes.{rows, term};
-ghost use Rattle.demand.specs.ways.Ranges.{Ranged};
-ghost use Rattle.demand.specs.Sizes.{Each, lengthMost, timeMost};
+ghost use Rattle.verdicts.specs.ChargedArray.{chargedIn};
+ghost use Rattle.verdicts.specs.Laid.{term};
+ghost use Rattle.demand.specs.ways.Ranges.{Ranged, stallMost, releaseMost};
+ghost use Rattle.demand.specs.Sizes.{Each, lengthMost, timeMost, runMost};
 
 pub fn ceil_div(a: u64, b: u64) -> u64
     requires { ⌜ (a ≤ 200000000) × (1 ≤ b) × (b ≤ timeMost) ⌝ }
@@ -33,7 +36,7 @@ pub fn jobs_due(q: Charged, t: u64) -> u64
 
 // What interrupts of that cost and jitter ask for by t. Where they cost nothing, nothing is divided.
 pub fn calls_of(cost: u64, period: u64, jitter: u64, t: u64) -> u64
-    requires { ⌜ (cost ≤ 200000) × (1 ≤ period) × (period ≤ timeMost) ⌝ }
+    requires { ⌜ (cost ≤ releaseMost) × (1 ≤ period) × (period ≤ timeMost) ⌝ }
     requires { ⌜ (jitter ≤ timeMost) × (t ≤ lengthMost) ⌝ }
     ensures { λ r. ⌜ (r ≡ ceil (t + jitter) period * cost) × (r ≤ 20400000000000) ⌝ }
 {
@@ -61,6 +64,15 @@ pub fn load_of(q: Charged, t: u64) -> u64
     jobs_due(q, t) * q.charge + interrupts_of(q, t)
 }
 
+// What q asks of a busy length l.
+pub fn busy_load_of(q: Charged, l: u64) -> u64
+    requires { ⌜ Ranged q ⌝ }
+    requires { ⌜ l ≤ lengthMost ⌝ }
+    ensures { λ r. ⌜ (r ≡ busyLoad l q) × (r ≤ 1000000000000000) ⌝ }
+{
+    ceil_div(l, q.period) * (q.charge + q.release + q.ipi)
+}
+
 pub fn term_of(sum: Sum, q: Charged, t: u64) -> u64
     requires { ⌜ Ranged q ⌝ }
     requires { ⌜ t ≤ lengthMost ⌝ }
@@ -69,33 +81,34 @@ pub fn term_of(sum: Sum, q: Charged, t: u64) -> u64
     match sum {
         Sum::Load => load_of(q, t),
         Sum::Interrupts => interrupts_of(q, t),
+        Sum::Busy => busy_load_of(q, t),
     }
 }
 
-// One of the two sums over the first n pieces.
-pub fn sum_at(core: &[u64; 553], n: usize, sum: Sum, t: u64) -> u64
-    requires { ⌜ (n ≤ 79) × Each Ranged (rows (now core) n) ⌝ }
+// One of the sums over the first n pieces.
+pub fn sum_at(core: &[u64; RUN_NUMBERS], n: usize, sum: Sum, t: u64) -> u64
+    requires { ⌜ (n ≤ runMost) × Each Ranged (chargedIn (now core) n) ⌝ }
     requires { ⌜ t ≤ lengthMost ⌝ }
-    ensures { λ r. ⌜ (r ≡ total (term sum t) (rows (now (core .entry)) n)) × (r ≤ 79000000000000000) ⌝ }
+    ensures { λ r. ⌜ (r ≡ total (term sum t) (chargedIn (now (core .entry)) n)) × (r ≤ 79000000000000000) ⌝ }
 {
     let mut so_far: u64 = 0;
     let mut i: usize = 0;
     while i < n {
-        let q = lane_at(core, i);
+        let q = charged_at(core, i);
         so_far += term_of(sum, q, t);
         i += 1;
     }
     so_far
 }
 
-pub fn largest_window(core: &[u64; 553], n: usize) -> u64
-    requires { ⌜ n ≤ 79 ⌝ }
-    ensures { λ r. ⌜ r ≡ largestWindow (rows (now (core .entry)) n) ⌝ }
+pub fn largest_window(core: &[u64; RUN_NUMBERS], n: usize) -> u64
+    requires { ⌜ n ≤ runMost ⌝ }
+    ensures { λ r. ⌜ r ≡ largestWindow (chargedIn (now (core .entry)) n) ⌝ }
 {
     let mut widest: u64 = 0;
     let mut i: usize = 0;
     while i < n {
-        let q = lane_at(core, i);
+        let q = charged_at(core, i);
         widest = greater(widest, q.window);
         i += 1;
     }
@@ -103,15 +116,15 @@ pub fn largest_window(core: &[u64; 553], n: usize) -> u64
 }
 
 // t0, where there is a piece.
-pub fn least_live(core: &[u64; 553], n: usize) -> u64
-    requires { ⌜ (1 ≤ n) × (n ≤ 79) × Each Ranged (rows (now core) n) ⌝ }
-    ensures { λ r. ⌜ (r ≡ leastLive (rows (now (core .entry)) n)) × (r ≤ timeMost) ⌝ }
+pub fn least_live(core: &[u64; RUN_NUMBERS], n: usize) -> u64
+    requires { ⌜ (1 ≤ n) × (n ≤ runMost) × Each Ranged (chargedIn (now core) n) ⌝ }
+    ensures { λ r. ⌜ (r ≡ leastLive (chargedIn (now (core .entry)) n)) × (r ≤ timeMost) ⌝ }
 {
-    let head = lane_at(core, 0);
+    let head = charged_at(core, 0);
     let mut soonest = less(head.window, head.jitter);
     let mut i: usize = 0;
     while i < n {
-        let q = lane_at(core, i);
+        let q = charged_at(core, i);
         soonest = lesser(soonest, less(q.window, q.jitter));
         i += 1;
     }
@@ -119,10 +132,10 @@ pub fn least_live(core: &[u64; 553], n: usize) -> u64
 }
 
 // g(t), for a core with the stall b and the largest window w.
-pub fn demand_at(core: &[u64; 553], n: usize, b: u64, w: u64, t: u64) -> u64
-    requires { ⌜ (n ≤ 79) × Each Ranged (rows (now core) n) ⌝ }
-    requires { ⌜ (b ≤ 200000) × (w ≡ largestWindow (rows (now core) n)) × (t ≤ lengthMost) ⌝ }
-    ensures { λ r. ⌜ r ≡ demand b (rows (now (core .entry)) n) t ⌝ }
+pub fn demand_at(core: &[u64; RUN_NUMBERS], n: usize, b: u64, w: u64, t: u64) -> u64
+    requires { ⌜ (n ≤ runMost) × Each Ranged (chargedIn (now core) n) ⌝ }
+    requires { ⌜ (b ≤ stallMost) × (w ≡ largestWindow (chargedIn (now core) n)) × (t ≤ lengthMost) ⌝ }
+    ensures { λ r. ⌜ r ≡ demand b (chargedIn (now (core .entry)) n) t ⌝ }
 {
     let loads = sum_at(core, n, Sum::Load, t);
     if t < w { b + loads } else { loads }

@@ -1,46 +1,74 @@
-// The engine: the verdict on a core, its busy length, its demand and tight windows, and the split of a task on it. What each of these means stands in `demand`.
+// The engine: the verdict on a core, its busy length, its demand and tight windows. What each of these means stands in `demand`.
 //
-// Every public function takes any input. It refuses what document 01 refuses, and its contract is an equation with one definition of `demand`.
-mod caps;
+// A run of records is asked about at once (`judge_records` to `tight_window`), and refused as document 01 refuses it. Or a core is laid out in a lent array, once, by
+// `lay_records` and `lay_piece`, and asked about as often as needed by the functions in `laid_`, which refuse an array that holds no core (`specs/Laid.antt`).
+//
+// Every public function takes any input, and its contract is an equation with one definition.
+mod arrays;
+mod busy_climb;
 mod charges;
 mod demands;
-mod lanes;
-mod leaps;
 mod lengths;
-mod marks;
-mod probes;
+mod most_fitting;
+mod queries;
+mod release_sums;
 mod spans;
-mod splits;
-mod starts;
 
+pub use arrays::laid_piece;
+use arrays::lay_out;
+pub use arrays::lay_piece;
+pub use arrays::lay_records;
+use busy_climb::climb_busy;
 use charges::stall_of;
 use demand::Answer;
+use demand::BUSY_MOST;
+use demand::COST_MOST;
 use demand::Check;
 use demand::Costs;
 use demand::Figure;
 use demand::Found;
-use demand::Piece;
 use demand::RUN_NUMBERS;
 use demand::Run;
-use demand::Splitting;
+use demand::TIME_MOST;
 use demand::check_records;
-use demand::check_task;
 use demand::records_of;
 use demands::demand_at;
 use demands::largest_window;
-use lanes::lay_out;
-use leaps::climb_busy;
 use lengths::tight_of;
+pub use queries::laid_busy_length;
+pub use queries::laid_largest_window;
+pub use queries::laid_least_live;
+pub use queries::laid_most_fitting;
+pub use queries::laid_span;
+pub use queries::laid_sum;
+pub use queries::laid_tight_window;
+pub use queries::laid_verdict;
+pub use queries::laid_wait;
 use spans::judge_core;
-use splits::greatest_split;
 ghost use mathlib.Core.Path.{_≡_};
-ghost use Rattle.demand.specs.Answer.{answerOf, busyFigure, demandFigure, tightFigure, splitOf};
+ghost use Rattle.demand.specs.Answer.{answerOf, busyFigure, demandFigure, tightFigure};
 ghost use Rattle.demand.specs.Records.{recordsOf};
 
-/// Which figure of the pieces is summed.
+/// What no judged length reaches: the limit of the busy length and a window.
+pub const LENGTH_MOST: u64 = BUSY_MOST + TIME_MOST;
+
+/// What no stall is above.
+pub const STALL_MOST: u64 = 2 * COST_MOST;
+
+/// What no release costs more than.
+pub const RELEASE_MOST: u64 = 2 * COST_MOST;
+
+/// What no charge is above.
+pub const CHARGE_MOST: u64 = 2 * TIME_MOST;
+
+/// What no base of a wait is above.
+pub const WAIT_MOST: u64 = 10 * TIME_MOST;
+
+/// Which figure of the pieces is summed: what they ask for within a length, the interrupts that they bring within it, or what they ask of it as a busy length.
 pub enum Sum {
     Load,
     Interrupts,
+    Busy,
 }
 
 /// The verdict on the first `count` records of a run that is lent as numbers: 6, then 2, then 3 with the record's place, else the verdict.
@@ -87,7 +115,7 @@ pub fn demand_of(costs: Costs, records: &[u64; RUN_NUMBERS], count: usize, t: u6
     match check_records(costs, records, count) {
         Check::Bad(why) => Figure::Barred(why),
         Check::Fine => {
-            if 101000000 < t {
+            if LENGTH_MOST < t {
                 return Figure::Of(Found::Nothing);
             }
             let mut core: [u64; RUN_NUMBERS] = [0; RUN_NUMBERS];
@@ -112,22 +140,5 @@ pub fn tight_window(costs: Costs, records: &[u64; RUN_NUMBERS], count: usize) ->
             lay_out(&mut core, costs, records, count);
             Figure::Of(tight_of(&core, count, stall_of(costs)))
         }
-    }
-}
-
-/// The greatest allowed split of the task beside the first `count` records of a run that is lent as numbers, at the grain. The task is given as its whole piece
-/// and checked as the record behind the run's, so the run has at most 78. No multiple of a grain of 0 counts.
-pub fn split_records(
-    costs: Costs,
-    records: &[u64; RUN_NUMBERS],
-    count: usize,
-    task: Piece,
-    grain: u64,
-) -> Splitting
-    ensures exact { λ r. ⌜ r ≡ splitOf costs count (recordsOf (now (records .entry))) task grain ⌝ }
-{
-    match check_task(costs, records, count, task) {
-        Check::Bad(why) => Splitting::Denied(why),
-        Check::Fine => Splitting::Best(greatest_split(costs, records, count, task, grain)),
     }
 }

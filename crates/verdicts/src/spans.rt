@@ -1,16 +1,17 @@
 // The verdict over the judged span: from its top down by QPA (001), with care at the largest window.
+use crate::busy_climb::climb_busy;
 use crate::demands::demand_at;
 use crate::demands::largest_window;
 use crate::demands::least_live;
-use crate::leaps::climb_busy;
 use demand::Found;
+use demand::RUN_NUMBERS;
 use demand::Verdict;
 use demand::greater;
 ghost use mathlib.Core.Path.{_≡_};
 ghost use Prim.Native.Nat.{_≤_};
-ghost use Rattle.verdicts.specs.ways.Lanes.{rows};
-ghost use Rattle.demand.specs.ways.Ranges.{Ranged};
-ghost use Rattle.demand.specs.Sizes.{Each, busyMost, timeMost};
+ghost use Rattle.verdicts.specs.ChargedArray.{chargedIn};
+ghost use Rattle.demand.specs.ways.Ranges.{Ranged, stallMost};
+ghost use Rattle.demand.specs.Sizes.{Each, busyMost, timeMost, runMost};
 ghost use Rattle.demand.specs.Verdict.{scan, verdict};
 
 // The end below which the descent goes on, after the demand g at t. The demand falls at the largest window w, so from at or above it
@@ -23,10 +24,10 @@ pub fn next_end(g: u64, w: u64, t: u64) -> u64
 }
 
 // The greatest overloaded length among the l from a. All lengths from `end` up are known to be calm.
-pub fn descend(core: &[u64; 553], n: usize, b: u64, a: u64, l: u64) -> Verdict
-    requires { ⌜ (n ≤ 79) × Each Ranged (rows (now core) n) ⌝ }
-    requires { ⌜ (b ≤ 200000) × (a ≤ timeMost) × (l ≤ busyMost) ⌝ }
-    ensures { λ r. ⌜ r ≡ scan b (rows (now (core .entry)) n) a l ⌝ }
+pub fn descend(core: &[u64; RUN_NUMBERS], n: usize, b: u64, a: u64, l: u64) -> Verdict
+    requires { ⌜ (n ≤ runMost) × Each Ranged (chargedIn (now core) n) ⌝ }
+    requires { ⌜ (b ≤ stallMost) × (a ≤ timeMost) × (l ≤ busyMost) ⌝ }
+    ensures { λ r. ⌜ r ≡ scan b (chargedIn (now (core .entry)) n) a l ⌝ }
 {
     let w = largest_window(core, n);
     let mut end = a + l;
@@ -42,10 +43,10 @@ pub fn descend(core: &[u64; 553], n: usize, b: u64, a: u64, l: u64) -> Verdict
 }
 
 // The verdict on a core with the stall b.
-pub fn judge_core(core: &[u64; 553], n: usize, b: u64) -> Verdict
-    requires { ⌜ (n ≤ 79) × Each Ranged (rows (now core) n) ⌝ }
-    requires { ⌜ b ≤ 200000 ⌝ }
-    ensures { λ r. ⌜ r ≡ verdict b (rows (now (core .entry)) n) ⌝ }
+pub fn judge_core(core: &[u64; RUN_NUMBERS], n: usize, b: u64) -> Verdict
+    requires { ⌜ (n ≤ runMost) × Each Ranged (chargedIn (now core) n) ⌝ }
+    requires { ⌜ b ≤ stallMost ⌝ }
+    ensures { λ r. ⌜ r ≡ verdict b (chargedIn (now (core .entry)) n) ⌝ }
 {
     if n == 0 {
         return Verdict::Passes;

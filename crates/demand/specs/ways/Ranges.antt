@@ -42,7 +42,7 @@ pub record Ranged (q : Charged) : Type 0 where
   pub ipi-fits : q .ipi ≤ costMost
   pub ipij-fits : q .ipij ≤ costMost
 
--- the same rule as a test
+-- the same rules as tests
 unfoldable pub countable : Piece → Bool
 countable p =
     leb (p .budget) timeMost
@@ -52,6 +52,17 @@ countable p =
     && leb (p .jitter) timeMost
     && leb (p .preempt) costMost
     && leb (p .migrate) costMost
+
+unfoldable pub ranged : Charged → Bool
+ranged q =
+    leb 1 (q .period)
+    && leb (q .period) timeMost
+    && leb (q .window) timeMost
+    && leb (q .jitter) timeMost
+    && leb (q .charge) chargeMost
+    && leb (q .release) releaseMost
+    && leb (q .ipi) costMost
+    && leb (q .ipij) costMost
 
 abbrev pub noCharge : Charged
 noCharge = record { charge = 0; window = 0; period = 0; jitter = 0; release = 0; ipi = 0; ipij = 0 }

@@ -10,7 +10,7 @@ use Rattle.demand.specs.Sizes.{runMost}
 use Rattle.demand.specs.Records.{recordsOf}
 use Rattle.demand.specs.Charge.{coreOf}
 use Rattle.demand.proofs.RunLaws.{laid-ranged, figure-fine, figure-bad, check-taken, taken-countable}
-use Rattle.verdicts.specs.ways.Lanes.{rows}
+use Rattle.verdicts.specs.ChargedArray.{chargedIn}
 use Rattle.demand.specs.Answer.{checkRun, busyFigure}
 use Rattle.demand.specs.Busy.{busyLength}
 use borrow.Author.Needs.{needs}
@@ -19,22 +19,18 @@ use Rattle.verdicts.proofs.busy_length.Tie as tie
 use Rattle.verdicts.proofs.busy_length.Reads as reads
 use Rattle.verdicts.proofs.busy_length.Lts as lts
 use Rattle.demand.proofs.check_records.Reads as check-records-reads
-use Rattle.verdicts.proofs.lanes.lay_out.Reads as lay-out-reads
-use Rattle.verdicts.proofs.leaps.climb_busy.Reads as climb-busy-reads
+use Rattle.verdicts.proofs.arrays.lay_out.Reads as lay-out-reads
+use Rattle.verdicts.proofs.busy_climb.climb_busy.Reads as climb-busy-reads
 
--- src/lib.rt:73:11
 check-records-requires : tie.Need-check-records-requires
 check-records-requires c κs = search needs
 
--- src/lib.rt:74:20
 enum-known-why : tie.Need-enum-known-why
 enum-known-why c = search needs
 
--- src/lib.rt:76:17
 enum-told : tie.Need-enum-told
 enum-told c = search needs
 
--- src/lib.rt:77:13
 lay-out-requires : tie.Need-lay-out-requires
 lay-out-requires c κs =
     let s = c .before .before .before .before .args in
@@ -42,16 +38,14 @@ lay-out-requires c κs =
     let ok = check-taken (s .costs) (s .count) ps (sym (c .before .before .before .check-records .ensures) ∙ c .before .enum-told .given .1) in
     (ok .costs, (ok .few, taken-countable (s .costs) (s .count) ps ok, length-replicate {A = ℕ} (7 * runMost) 0))
 
--- src/lib.rt:78:24
 climb-busy-requires : tie.Need-climb-busy-requires
 climb-busy-requires c κs =
     let s = c .before .before .before .before .before .before .args in
     let ps = recordsOf (s .records .now) in
     let ok = check-taken (s .costs) (s .count) ps (sym (c .before .before .before .before .before .check-records .ensures) ∙ c .before .before .before .enum-told .given .1) in
-    let laid = rows (c .before .lay-out .last .0) (s .count) in
+    let laid = chargedIn (c .before .lay-out .last .0) (s .count) in
     (ok .few, laid-ranged (s .costs) (s .count) ps ok laid (c .before .lay-out .ensures .0))
 
--- src/lib.rt:70:1
 returns : tie.Need-returns
 unfolding busyFigure
 returns c =
@@ -59,7 +53,6 @@ returns c =
     let ps = recordsOf (s .records .now) in
     figure-bad (checkRun (s .costs) (s .count) ps) (busyLength (coreOf (s .costs) (take (s .count) ps))) (c .before .why .given .0 .0) (sym (c .before .before .before .check-records .ensures) ∙ c .before .why .given .1)
 
--- src/lib.rt:70:1
 returns-2 : tie.Need-returns-2
 unfolding busyFigure
 returns-2 c =

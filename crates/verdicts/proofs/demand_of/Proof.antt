@@ -10,7 +10,7 @@ use Rattle.demand.specs.Sizes.{runMost, lengthMost}
 use Rattle.demand.specs.Records.{recordsOf}
 use Rattle.demand.specs.Charge.{coreOf, stall}
 use Rattle.demand.proofs.RunLaws.{laid-ranged, figure-fine, figure-bad, check-taken, taken-countable}
-use Rattle.verdicts.specs.ways.Lanes.{rows}
+use Rattle.verdicts.specs.ChargedArray.{chargedIn}
 use mathlib.Core.Bool.{cond}
 use lib.Dec.{leb}
 use borrow.Author.Tests.{le-leb, lt-leb}
@@ -26,21 +26,17 @@ use Rattle.demand.proofs.check_records.Reads as check-records-reads
 use Rattle.verdicts.proofs.charges.stall_of.Reads as stall-of-reads
 use Rattle.verdicts.proofs.demands.demand_at.Reads as demand-at-reads
 use Rattle.verdicts.proofs.demands.largest_window.Reads as largest-window-reads
-use Rattle.verdicts.proofs.lanes.lay_out.Reads as lay-out-reads
+use Rattle.verdicts.proofs.arrays.lay_out.Reads as lay-out-reads
 
--- src/lib.rt:87:11
 check-records-requires : tie.Need-check-records-requires
 check-records-requires c κs = search needs
 
--- src/lib.rt:88:20
 enum-known-why : tie.Need-enum-known-why
 enum-known-why c = search needs
 
--- src/lib.rt:90:16
 enum-told : tie.Need-enum-told
 enum-told c = search needs
 
--- src/lib.rt:91:17
 returns : tie.Need-returns
 unfolding demandFigure
 returns c =
@@ -50,7 +46,6 @@ returns c =
     let found = cond (leb (s .t) lengthMost) (At (demand (stall (s .costs)) (coreOf (s .costs) (take (s .count) ps)) (s .t))) Nothing in
     ap (λ (f : Found). Of f) (simp (lt-leb (s .t) lengthMost (c .if1 .taken))) ∙ figure-fine (checkRun (s .costs) (s .count) ps) found fine
 
--- src/lib.rt:94:13
 lay-out-requires : tie.Need-lay-out-requires
 lay-out-requires c κs =
     let s = c .before .before .before .before .before .args in
@@ -58,7 +53,6 @@ lay-out-requires c κs =
     let ok = check-taken (s .costs) (s .count) ps (sym (c .before .before .before .before .check-records .ensures) ∙ c .before .before .enum-told .given .1) in
     (ok .costs, (ok .few, taken-countable (s .costs) (s .count) ps ok, length-replicate {A = ℕ} (7 * runMost) 0))
 
--- src/lib.rt:95:17
 largest-window-requires : tie.Need-largest-window-requires
 largest-window-requires c κs =
     let s = c .before .before .before .before .before .before .before .args in
@@ -66,7 +60,6 @@ largest-window-requires c κs =
     let ok = check-taken (s .costs) (s .count) ps (sym (c .before .before .before .before .before .before .check-records .ensures) ∙ c .before .before .before .before .enum-told .given .1) in
     ok .few
 
--- src/lib.rt:96:58
 stall-of-requires : tie.Need-stall-of-requires
 stall-of-requires c κs =
     let s = c .before .before .before .before .before .before .before .before .before .args in
@@ -74,16 +67,14 @@ stall-of-requires c κs =
     let ok = check-taken (s .costs) (s .count) ps (sym (c .before .before .before .before .before .before .before .before .check-records .ensures) ∙ c .before .before .before .before .before .before .enum-told .given .1) in
     ok .costs
 
--- src/lib.rt:96:34
 demand-at-requires : tie.Need-demand-at-requires
 demand-at-requires c κs =
     let s = c .before .before .before .before .before .before .before .before .before .before .args in
     let ps = recordsOf (s .records .now) in
     let ok = check-taken (s .costs) (s .count) ps (sym (c .before .before .before .before .before .before .before .before .before .check-records .ensures) ∙ c .before .before .before .before .before .before .before .enum-told .given .1) in
-    let laid = rows (c .before .before .before .before .lay-out .last .0) (s .count) in
+    let laid = chargedIn (c .before .before .before .before .lay-out .last .0) (s .count) in
     ((ok .few, laid-ranged (s .costs) (s .count) ps ok laid (c .before .before .before .before .lay-out .ensures .0)), (c .stall-of .ensures .1, c .before .before .largest-window .ensures, c .before .before .before .before .before .before .if1 .left))
 
--- src/lib.rt:84:1
 returns-2 : tie.Need-returns-2
 unfolding demandFigure
 returns-2 c =
@@ -91,14 +82,13 @@ returns-2 c =
     let ps = recordsOf (s .records .now) in
     figure-bad (checkRun (s .costs) (s .count) ps) (cond (leb (s .t) lengthMost) (At (demand (stall (s .costs)) (coreOf (s .costs) (take (s .count) ps)) (s .t))) Nothing) (c .before .why .given .0 .0) (sym (c .before .before .before .check-records .ensures) ∙ c .before .why .given .1)
 
--- src/lib.rt:84:1
 returns-3 : tie.Need-returns-3
 unfolding demandFigure
 returns-3 c =
     let s = c .before .before .before .before .before .before .before .before .before .before .before .args in
     let ps = recordsOf (s .records .now) in
     let fine = sym (c .before .before .before .before .before .before .before .before .before .before .check-records .ensures) ∙ c .before .before .before .before .before .before .before .before .enum-told .given .1 in
-    let laid = rows (c .before .before .before .before .before .lay-out .last .0) (s .count) in
+    let laid = chargedIn (c .before .before .before .before .before .lay-out .last .0) (s .count) in
     let found = cond (leb (s .t) lengthMost) (At (demand (stall (s .costs)) (coreOf (s .costs) (take (s .count) ps)) (s .t))) Nothing in
     let core = coreOf (s .costs) (take (s .count) ps) in
     let g : c .demand-at .result ≡ demand (stall (s .costs)) core (s .t) =

@@ -17,15 +17,12 @@ use Rattle.verdicts.proofs.judge.Lts as lts
 use Rattle.verdicts.proofs.judge_records.Reads as judge-records-reads
 use Rattle.demand.proofs.records_of.Reads as records-of-reads
 
--- src/lib.rt:261:19
 records-of-requires : tie.Need-records-of-requires
 records-of-requires c κs = search needs
 
--- src/lib.rt:263:5
 judge-records-requires : tie.Need-judge-records-requires
 judge-records-requires c κs = search needs
 
--- src/lib.rt:258:1
 returns : tie.Need-returns
 returns c =
     let s = c .before .before .before .args in

@@ -7,7 +7,7 @@ use Rattle.demand.specs.declared.Charged.{Charged}
 use Rattle.demand.specs.declared.Verdict.{Verdict}
 use Rattle.demand.specs.declared.Answer.the-variants.{Judged}
 use Rattle.demand.specs.Charge.{stall}
-use Rattle.verdicts.specs.ways.Lanes.{rows}
+use Rattle.verdicts.specs.ChargedArray.{chargedIn}
 use Rattle.demand.specs.Records.{recordsOf}
 use Rattle.demand.specs.Verdict.{verdict, verdictOf}
 use Rattle.demand.proofs.RunLaws.{check-taken, taken-countable, laid-ranged, answer-fine, answer-bad}
@@ -17,23 +17,19 @@ use Rattle.verdicts.proofs.judge_records.Tie as tie
 use Rattle.verdicts.proofs.judge_records.Reads as reads
 use Rattle.verdicts.proofs.judge_records.Lts as lts
 use Rattle.verdicts.proofs.charges.stall_of.Reads as stall-of-reads
-use Rattle.verdicts.proofs.lanes.lay_out.Reads as lay-out-reads
+use Rattle.verdicts.proofs.arrays.lay_out.Reads as lay-out-reads
 use Rattle.demand.proofs.check_records.Reads as check-records-reads
 use Rattle.verdicts.proofs.spans.judge_core.Reads as judge-core-reads
 
--- src/lib.rt:247:11
 check-records-requires : tie.Need-check-records-requires
 check-records-requires c κs = search needs
 
--- src/lib.rt:248:20
 enum-known-why : tie.Need-enum-known-why
 enum-known-why c = search needs
 
--- src/lib.rt:250:17
 enum-told : tie.Need-enum-told
 enum-told c = search needs
 
--- src/lib.rt:251:13
 lay-out-requires : tie.Need-lay-out-requires
 lay-out-requires c κs =
     let s = c .before .before .before .before .args in
@@ -41,32 +37,28 @@ lay-out-requires c κs =
     let ok = check-taken (s .costs) (s .count) ps (sym (c .before .before .before .check-records .ensures) ∙ c .before .enum-told .given .1) in
     (ok .costs, (ok .few, taken-countable (s .costs) (s .count) ps ok, length-replicate {A = ℕ} 553 0))
 
--- src/lib.rt:252:53
 stall-of-requires : tie.Need-stall-of-requires
 stall-of-requires c κs =
     let s = c .before .before .before .before .before .before .args in
     check-taken (s .costs) (s .count) (recordsOf (s .records .now)) (sym (c .before .before .before .before .before .check-records .ensures) ∙ c .before .before .before .enum-told .given .1) .costs
 
--- src/lib.rt:252:28
 judge-core-requires : tie.Need-judge-core-requires
 judge-core-requires c κs =
     let s = c .before .before .before .before .before .before .before .args in
     let ps = recordsOf (s .records .now) in
     let ok = check-taken (s .costs) (s .count) ps (sym (c .before .before .before .before .before .before .check-records .ensures) ∙ c .before .before .before .before .enum-told .given .1) in
-    ((ok .few, laid-ranged (s .costs) (s .count) ps ok (rows (c .before .before .lay-out .last .0) (s .count)) (c .before .before .lay-out .ensures .0)), c .stall-of .ensures .1)
+    ((ok .few, laid-ranged (s .costs) (s .count) ps ok (chargedIn (c .before .before .lay-out .last .0) (s .count)) (c .before .before .lay-out .ensures .0)), c .stall-of .ensures .1)
 
--- src/lib.rt:244:1
 returns : tie.Need-returns
 returns c =
     let s = c .before .before .before .before .args in
     sym (answer-bad (s .costs) (s .count) (recordsOf (s .records .now)) (c .before .why .given .0 .0) (sym (c .before .before .before .check-records .ensures) ∙ c .before .why .given .1))
 
--- src/lib.rt:244:1
 returns-2 : tie.Need-returns-2
 unfolding verdictOf
 returns-2 c =
     let s = c .before .before .before .before .before .before .before .before .args in
-    let laid = rows (c .before .before .before .lay-out .last .0) (s .count) in
+    let laid = chargedIn (c .before .before .before .lay-out .last .0) (s .count) in
     ap (λ (v : Verdict). Judged v) (c .judge-core .ensures ∙ (ap (λ (b : ℕ). verdict b laid) (c .before .stall-of .ensures .0) ∙ ap (λ (qs : List Charged). verdict (stall (s .costs)) qs) (c .before .before .before .lay-out .ensures .0)))
     ∙ sym (answer-fine (s .costs) (s .count) (recordsOf (s .records .now)) (sym (c .before .before .before .before .before .before .before .check-records .ensures) ∙ c .before .before .before .before .before .enum-told .given .1))
 

@@ -10,7 +10,7 @@ use Rattle.demand.specs.Sizes.{runMost}
 use Rattle.demand.specs.Records.{recordsOf}
 use Rattle.demand.specs.Charge.{coreOf, stall}
 use Rattle.demand.proofs.RunLaws.{laid-ranged, figure-fine, figure-bad, check-taken, taken-countable}
-use Rattle.verdicts.specs.ways.Lanes.{rows}
+use Rattle.verdicts.specs.ChargedArray.{chargedIn}
 use native.Mathlib.Omega.{arith}
 use Rattle.demand.specs.Answer.{checkRun, tightFigure, tightOfLast}
 use borrow.Author.Needs.{needs}
@@ -20,22 +20,18 @@ use Rattle.verdicts.proofs.tight_window.Reads as reads
 use Rattle.verdicts.proofs.tight_window.Lts as lts
 use Rattle.demand.proofs.check_records.Reads as check-records-reads
 use Rattle.verdicts.proofs.charges.stall_of.Reads as stall-of-reads
-use Rattle.verdicts.proofs.lanes.lay_out.Reads as lay-out-reads
+use Rattle.verdicts.proofs.arrays.lay_out.Reads as lay-out-reads
 use Rattle.verdicts.proofs.lengths.tight_of.Reads as tight-of-reads
 
--- src/lib.rt:105:11
 check-records-requires : tie.Need-check-records-requires
 check-records-requires c κs = search needs
 
--- src/lib.rt:106:20
 enum-known-why : tie.Need-enum-known-why
 enum-known-why c = search needs
 
--- src/lib.rt:108:16
 enum-told : tie.Need-enum-told
 enum-told c = search needs
 
--- src/lib.rt:109:17
 returns : tie.Need-returns
 unfolding tightFigure coreOf
 returns c =
@@ -45,7 +41,6 @@ returns c =
     let qs = coreOf (s .costs) (take (s .count) ps) in
     ap (λ (f : Found). Of f) (rw (c .if1 .taken)) ∙ figure-fine (checkRun (s .costs) (s .count) ps) (tightOfLast (stall (s .costs)) qs qs) fine
 
--- src/lib.rt:112:13
 lay-out-requires : tie.Need-lay-out-requires
 lay-out-requires c κs =
     let s = c .before .before .before .before .before .args in
@@ -53,7 +48,6 @@ lay-out-requires c κs =
     let ok = check-taken (s .costs) (s .count) ps (sym (c .before .before .before .before .check-records .ensures) ∙ c .before .before .enum-told .given .1) in
     (ok .costs, (ok .few, taken-countable (s .costs) (s .count) ps ok, length-replicate {A = ℕ} (7 * runMost) 0))
 
--- src/lib.rt:113:47
 stall-of-requires : tie.Need-stall-of-requires
 stall-of-requires c κs =
     let s = c .before .before .before .before .before .before .before .args in
@@ -61,16 +55,14 @@ stall-of-requires c κs =
     let ok = check-taken (s .costs) (s .count) ps (sym (c .before .before .before .before .before .before .check-records .ensures) ∙ c .before .before .before .before .enum-told .given .1) in
     ok .costs
 
--- src/lib.rt:113:24
 tight-of-requires : tie.Need-tight-of-requires
 tight-of-requires c κs =
     let s = c .before .before .before .before .before .before .before .before .args in
     let ps = recordsOf (s .records .now) in
     let ok = check-taken (s .costs) (s .count) ps (sym (c .before .before .before .before .before .before .before .check-records .ensures) ∙ c .before .before .before .before .before .enum-told .given .1) in
-    let laid = rows (c .before .before .lay-out .last .0) (s .count) in
+    let laid = chargedIn (c .before .before .lay-out .last .0) (s .count) in
     ((omega (arith, c .before .before .before .before .if1 .left), ok .few, laid-ranged (s .costs) (s .count) ps ok laid (c .before .before .lay-out .ensures .0)), c .stall-of .ensures .1)
 
--- src/lib.rt:102:1
 returns-2 : tie.Need-returns-2
 unfolding tightFigure
 returns-2 c =
@@ -79,7 +71,6 @@ returns-2 c =
     let qs = coreOf (s .costs) (take (s .count) ps) in
     figure-bad (checkRun (s .costs) (s .count) ps) (tightOfLast (stall (s .costs)) qs qs) (c .before .why .given .0 .0) (sym (c .before .before .before .check-records .ensures) ∙ c .before .why .given .1)
 
--- src/lib.rt:102:1
 returns-3 : tie.Need-returns-3
 unfolding tightFigure
 returns-3 c =
@@ -87,7 +78,7 @@ returns-3 c =
     let ps = recordsOf (s .records .now) in
     let fine = sym (c .before .before .before .before .before .before .before .before .check-records .ensures) ∙ c .before .before .before .before .before .before .enum-told .given .1 in
     let qs = coreOf (s .costs) (take (s .count) ps) in
-    let laid = rows (c .before .before .before .lay-out .last .0) (s .count) in
+    let laid = chargedIn (c .before .before .before .lay-out .last .0) (s .count) in
     ap (λ (f : Found). Of f) (c .tight-of .ensures ∙ (ap (λ (b : ℕ). tightOfLast b laid laid) (c .before .stall-of .ensures .0) ∙ ap (λ (ps : List Charged). tightOfLast (stall (s .costs)) ps ps) (c .before .before .before .lay-out .ensures .0)))
     ∙ figure-fine (checkRun (s .costs) (s .count) ps) (tightOfLast (stall (s .costs)) qs qs) fine
 

@@ -5,7 +5,7 @@ use Rattle.plan.proofs.walk.split_on.Statement.{statement}
 use Rattle.plan.proofs.walk.split_on.Tie as tie
 use Rattle.plan.proofs.walk.split_on.Reads as reads
 use Rattle.plan.proofs.walk.split_on.Lts as lts
-use Rattle.verdicts.proofs.split_records.Reads as split-records-reads
+use Rattle.splits.proofs.split_records.Reads as split-records-reads
 
 split-records-requires : tie.Need-split-records-requires
 split-records-requires c κs = search needs

@@ -9,11 +9,9 @@ use Rattle.verdicts.proofs.charges.stall_of.Reads as reads
 use Rattle.verdicts.proofs.charges.stall_of.Lts as lts
 use Rattle.demand.proofs.stall_of.Reads as stall-of-reads
 
--- src/charges.rt:26:5
 stall-of-requires : tie.Need-stall-of-requires
 stall-of-requires c κs = search needs
 
--- src/charges.rt:22:1
 returns : tie.Need-returns
 returns c =
     let s = c .before in

@@ -9,23 +9,18 @@ use Rattle.verdicts.proofs.demands.calls_of.Reads as reads
 use Rattle.verdicts.proofs.demands.calls_of.Lts as lts
 use Rattle.verdicts.proofs.demands.ceil_div.Reads as ceil-div-reads
 
--- src/demands.rt:56:9
 returns : tie.Need-returns
 returns c = (rw (c .if1 .taken, mul-zero), omega arith)
 
--- src/demands.rt:58:14
 add-ceil-div : tie.Need-add-ceil-div
 add-ceil-div c = search needs
 
--- src/demands.rt:58:5
 ceil-div-requires : tie.Need-ceil-div-requires
 ceil-div-requires c κs = search needs
 
--- src/demands.rt:58:5
 mul-result : tie.Need-mul-result
 mul-result c = omega (arith, prod-le 102000000 200000 {a = c .ceil-div .result} {b = c .before .before .args .cost} (search needs) (search needs))
 
--- src/demands.rt:50:1
 returns-2 : tie.Need-returns-2
 returns-2 c = (rw (c .ceil-div .ensures .0), omega (arith, prod-le 102000000 200000 {a = c .ceil-div .result} {b = c .before .before .args .cost} (search needs) (search needs)))
 

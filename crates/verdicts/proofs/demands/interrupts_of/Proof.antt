@@ -8,19 +8,15 @@ use Rattle.verdicts.proofs.demands.interrupts_of.Reads as reads
 use Rattle.verdicts.proofs.demands.interrupts_of.Lts as lts
 use Rattle.verdicts.proofs.demands.calls_of.Reads as calls-of-reads
 
--- src/demands.rt:66:9
 calls-of-requires : tie.Need-calls-of-requires
 calls-of-requires c κs = search needs
 
--- src/demands.rt:67:9
 calls-of-requires-2 : tie.Need-calls-of-requires-2
 calls-of-requires-2 c κs = search needs
 
--- src/demands.rt:68:5
 add-result : tie.Need-add-result
 add-result c = search needs
 
--- src/demands.rt:61:1
 returns : tie.Need-returns
 unfolding interrupts
 returns c = (cc (c .before .calls-of .ensures .0, c .calls-of2 .ensures .0), omega arith)

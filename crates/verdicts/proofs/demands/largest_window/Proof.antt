@@ -4,17 +4,17 @@ use Prim.Native.Nat.{_≤_, _-_}
 use mathlib.Core.Path.{_≡_}
 use native.Mathlib.Omega.{arith}
 use Rattle.demand.specs.Demand.{largestWindow}
-use Rattle.verdicts.specs.ways.Lanes.{rows}
-use Rattle.verdicts.proofs.LaneLaws.{largest-more}
+use Rattle.verdicts.specs.ChargedArray.{chargedIn}
+use Rattle.verdicts.proofs.ChargedArrayLaws.{largest-more}
 use Rattle.verdicts.proofs.demands.largest_window.Statement.{statement}
 use Rattle.verdicts.proofs.demands.largest_window.Tie as tie
 use Rattle.verdicts.proofs.demands.largest_window.Reads as reads
 use Rattle.verdicts.proofs.demands.largest_window.Lts as lts
 use Rattle.demand.proofs.greater.Reads as greater-reads
-use Rattle.verdicts.proofs.lanes.lane_at.Reads as lane-at-reads
+use Rattle.verdicts.proofs.arrays.charged_at.Reads as charged-at-reads
 
 abbrev Inv-loop : tie.InvT-loop
-Inv-loop core n widest₀ i₀ widest i = (i ≤ n) × (widest ≡ largestWindow (rows core i))
+Inv-loop core n widest₀ i₀ widest i = (i ≤ n) × (widest ≡ largestWindow (chargedIn core i))
 
 abbrev μ-loop : tie.MeasureT-loop
 μ-loop core n widest₀ i₀ widest i = n - i
@@ -22,8 +22,8 @@ abbrev μ-loop : tie.MeasureT-loop
 loop-holds : tie.Need-loop-holds Inv-loop μ-loop
 loop-holds c = search needs
 
-lane-at-requires : tie.Need-lane-at-requires Inv-loop μ-loop
-lane-at-requires c κs = search needs
+charged-at-requires : tie.Need-charged-at-requires Inv-loop μ-loop
+charged-at-requires c κs = search needs
 
 greater-requires : tie.Need-greater-requires Inv-loop μ-loop
 greater-requires c κs = search needs
@@ -35,7 +35,7 @@ loop-less : tie.Need-loop-less Inv-loop μ-loop
 loop-less c = search needs
 
 loop-again : tie.Need-loop-again Inv-loop μ-loop
-loop-again c = (search needs, cc (largest-more (c .before .before .before .before .args .core .now) (c .before .before .before .loop .i), c .before .before .before .loop .inv .1, c .greater .ensures, c .before .lane-at .ensures))
+loop-again c = (search needs, cc (largest-more (c .before .before .before .before .args .core .now) (c .before .before .before .loop .i), c .before .before .before .loop .inv .1, c .greater .ensures, c .before .charged-at .ensures))
 
 returns : tie.Need-returns Inv-loop μ-loop
 returns c =
@@ -49,7 +49,7 @@ largest-window-spec =
     Inv-loop
     μ-loop
     loop-holds
-    lane-at-requires
+    charged-at-requires
     greater-requires
     add-i
     loop-less

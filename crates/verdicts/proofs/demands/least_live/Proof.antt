@@ -4,9 +4,9 @@ use Prim.Native.Nat.{_≤_, _-_}
 use mathlib.Core.Path.{_≡_}
 use native.Mathlib.Omega.{arith}
 use Rattle.demand.specs.Demand.{earliest}
-use Rattle.verdicts.specs.ways.Lanes.{rows, lane}
+use Rattle.verdicts.specs.ChargedArray.{chargedIn, chargedAt}
 use Rattle.demand.specs.ways.Ranges.{Ranged}
-use Rattle.verdicts.proofs.LaneLaws.{earliest-more, least-live-rows, lane-each}
+use Rattle.verdicts.proofs.ChargedArrayLaws.{earliest-more, least-live-charged, charged-at-each}
 use Rattle.demand.proofs.DemandLaws.{earliest-le}
 use Rattle.verdicts.proofs.demands.least_live.Statement.{statement}
 use Rattle.verdicts.proofs.demands.least_live.Tie as tie
@@ -14,16 +14,16 @@ use Rattle.verdicts.proofs.demands.least_live.Reads as reads
 use Rattle.verdicts.proofs.demands.least_live.Lts as lts
 use Rattle.demand.proofs.less.Reads as less-reads
 use Rattle.demand.proofs.lesser.Reads as lesser-reads
-use Rattle.verdicts.proofs.lanes.lane_at.Reads as lane-at-reads
+use Rattle.verdicts.proofs.arrays.charged_at.Reads as charged-at-reads
 
 abbrev Inv-loop : tie.InvT-loop
-Inv-loop core n soonest₀ i₀ soonest i = (i ≤ n) × (soonest ≡ earliest soonest₀ (rows core i))
+Inv-loop core n soonest₀ i₀ soonest i = (i ≤ n) × (soonest ≡ earliest soonest₀ (chargedIn core i))
 
 abbrev μ-loop : tie.MeasureT-loop
 μ-loop core n soonest₀ i₀ soonest i = n - i
 
-lane-at-requires : tie.Need-lane-at-requires Inv-loop μ-loop
-lane-at-requires c κs = search needs
+charged-at-requires : tie.Need-charged-at-requires Inv-loop μ-loop
+charged-at-requires c κs = search needs
 
 less-requires : tie.Need-less-requires Inv-loop μ-loop
 less-requires c κs = search needs
@@ -31,8 +31,8 @@ less-requires c κs = search needs
 loop-holds : tie.Need-loop-holds Inv-loop μ-loop
 loop-holds c = search needs
 
-lane-at-requires-2 : tie.Need-lane-at-requires-2 Inv-loop μ-loop
-lane-at-requires-2 c κs = search needs
+charged-at-requires-2 : tie.Need-charged-at-requires-2 Inv-loop μ-loop
+charged-at-requires-2 c κs = search needs
 
 less-requires-2 : tie.Need-less-requires-2 Inv-loop μ-loop
 less-requires-2 c κs = search needs
@@ -47,16 +47,16 @@ loop-less : tie.Need-loop-less Inv-loop μ-loop
 loop-less c = search needs
 
 loop-again : tie.Need-loop-again Inv-loop μ-loop
-loop-again c = (search needs, cc (earliest-more (c .before .before .before .before .before .less .result) (c .before .before .before .before .before .before .before .args .core .now) (c .before .before .before .before .loop .i), c .before .before .before .before .loop .inv .1, c .lesser .ensures, c .before .less2 .ensures, c .before .before .lane-at2 .ensures))
+loop-again c = (search needs, cc (earliest-more (c .before .before .before .before .before .less .result) (c .before .before .before .before .before .before .before .args .core .now) (c .before .before .before .before .loop .i), c .before .before .before .before .loop .inv .1, c .lesser .ensures, c .before .less2 .ensures, c .before .before .charged-at2 .ensures))
 
 returns : tie.Need-returns Inv-loop μ-loop
 returns c =
     let s = c .before .before .before .before .args in
     let w = c .before .before .less .result in
     let e : c .before .loop .i ≡ s .n = omega arith in
-    let head : w ≡ lane (s .core .now) 0 .window - lane (s .core .now) 0 .jitter = cc (c .before .before .less .ensures, c .before .before .before .lane-at .ensures) in
-    let first : Ranged (lane (s .core .now) 0) = lane-each Ranged (s .core .now) (s .n) (c .before .before .before .before .pre .2) 0 (c .before .before .before .before .pre .0) in
-    (cc (e, head, c .before .loop .inv .1, least-live-rows (s .core .now) (s .n) (c .before .before .before .before .pre .0)), omega (arith, earliest-le w (rows (s .core .now) (c .before .loop .i))))
+    let head : w ≡ chargedAt (s .core .now) 0 .window - chargedAt (s .core .now) 0 .jitter = cc (c .before .before .less .ensures, c .before .before .before .charged-at .ensures) in
+    let first : Ranged (chargedAt (s .core .now) 0) = charged-at-each Ranged (s .core .now) (s .n) (c .before .before .before .before .pre .2) 0 (c .before .before .before .before .pre .0) in
+    (cc (e, head, c .before .loop .inv .1, least-live-charged (s .core .now) (s .n) (c .before .before .before .before .pre .0)), omega (arith, earliest-le w (chargedIn (s .core .now) (c .before .loop .i))))
 
 pub least-live-spec : {M : Type 1} → statement M
 least-live-spec =
@@ -64,10 +64,10 @@ least-live-spec =
     (tie.spec
     Inv-loop
     μ-loop
-    lane-at-requires
+    charged-at-requires
     less-requires
     loop-holds
-    lane-at-requires-2
+    charged-at-requires-2
     less-requires-2
     lesser-requires
     add-i

@@ -4,18 +4,19 @@ use Prim.Native.Nat.{_≤_, _*_, _-_, _+_}
 use mathlib.Core.Path.{_≡_}
 use native.Mathlib.Omega.{arith}
 use Rattle.demand.specs.Demand.{total}
-use Rattle.verdicts.specs.ways.Lanes.{rows, term}
+use Rattle.verdicts.specs.ChargedArray.{chargedIn}
+use Rattle.verdicts.specs.Laid.{term}
 use Rattle.demand.specs.ways.Ranges.{Ranged}
-use Rattle.verdicts.proofs.LaneLaws.{lane-each, total-more}
+use Rattle.verdicts.proofs.ChargedArrayLaws.{charged-at-each, total-more}
 use Rattle.verdicts.proofs.demands.sum_at.Statement.{statement}
 use Rattle.verdicts.proofs.demands.sum_at.Tie as tie
 use Rattle.verdicts.proofs.demands.sum_at.Reads as reads
 use Rattle.verdicts.proofs.demands.sum_at.Lts as lts
 use Rattle.verdicts.proofs.demands.term_of.Reads as term-of-reads
-use Rattle.verdicts.proofs.lanes.lane_at.Reads as lane-at-reads
+use Rattle.verdicts.proofs.arrays.charged_at.Reads as charged-at-reads
 
 abbrev Inv-loop : tie.InvT-loop
-Inv-loop core n sum t so-far₀ i₀ so-far i = (i ≤ n) × (so-far ≡ total (term sum t) (rows core i)) × (so-far ≤ i * 1000000000000000)
+Inv-loop core n sum t so-far₀ i₀ so-far i = (i ≤ n) × (so-far ≡ total (term sum t) (chargedIn core i)) × (so-far ≤ i * 1000000000000000)
 
 abbrev μ-loop : tie.MeasureT-loop
 μ-loop core n sum t so-far₀ i₀ so-far i = n - i
@@ -23,13 +24,13 @@ abbrev μ-loop : tie.MeasureT-loop
 loop-holds : tie.Need-loop-holds Inv-loop μ-loop
 loop-holds c = search needs
 
-lane-at-requires : tie.Need-lane-at-requires Inv-loop μ-loop
-lane-at-requires c κs = search needs
+charged-at-requires : tie.Need-charged-at-requires Inv-loop μ-loop
+charged-at-requires c κs = search needs
 
 term-of-requires : tie.Need-term-of-requires Inv-loop μ-loop
 term-of-requires c κs =
     let s = c .before .before .before .args in
-    (rw (c .lane-at .ensures) (lane-each Ranged (s .core .now) (s .n) (c .before .before .before .pre .0 .1) (c .before .before .loop .i) (c .before .loop-test .taken)), c .before .before .before .pre .1)
+    (rw (c .charged-at .ensures) (charged-at-each Ranged (s .core .now) (s .n) (c .before .before .before .pre .0 .1) (c .before .before .loop .i) (c .before .loop-test .taken)), c .before .before .before .pre .1)
 
 add-so-far : tie.Need-add-so-far Inv-loop μ-loop
 add-so-far c = search needs
@@ -44,7 +45,7 @@ loop-again : tie.Need-loop-again Inv-loop μ-loop
 loop-again c =
     let s = c .before .before .before .before .args in
     let more = total-more (term (s .sum) (s .t)) (s .core .now) (c .before .before .before .loop .i) in
-    (search needs, cc (more, c .before .before .before .loop .inv .1, c .term-of .ensures .0, c .before .lane-at .ensures), omega arith)
+    (search needs, cc (more, c .before .before .before .loop .inv .1, c .term-of .ensures .0, c .before .charged-at .ensures), omega arith)
 
 returns : tie.Need-returns Inv-loop μ-loop
 returns c =
@@ -58,7 +59,7 @@ sum-at-spec =
     Inv-loop
     μ-loop
     loop-holds
-    lane-at-requires
+    charged-at-requires
     term-of-requires
     add-so-far
     add-i

@@ -3,10 +3,10 @@ use borrow.Author.Needs.{needs}
 use Prim.Native.Nat.{ℕ, _≤_, _-_, _+_}
 use native.Mathlib.Omega.{arith}
 use Rattle.demand.specs.declared.Found.the-variants.{At, Nothing}
-use Rattle.verdicts.specs.ways.Lanes.{rows}
+use Rattle.verdicts.specs.ChargedArray.{chargedIn}
 use Rattle.demand.specs.Busy.{Clear}
 use Rattle.demand.proofs.BusyLaws.{clear-one, clear-step, least-holding-is}
-use Rattle.verdicts.proofs.LaneLaws.{asked, asked-mono}
+use Rattle.verdicts.proofs.ChargedArrayLaws.{asked, asked-mono}
 use Rattle.demand.proofs.ChargeLaws.{all-recurs}
 use Rattle.verdicts.proofs.lengths.climb.Statement.{statement}
 use Rattle.verdicts.proofs.lengths.climb.Tie as tie
@@ -15,7 +15,7 @@ use Rattle.verdicts.proofs.lengths.climb.Lts as lts
 use Rattle.verdicts.proofs.demands.sum_at.Reads as sum-at-reads
 
 abbrev Inv-loop : tie.InvT-loop
-Inv-loop core n sum base top l₀ l = (1 ≤ l) × Clear (asked sum base (rows core n)) l
+Inv-loop core n sum base top l₀ l = (1 ≤ l) × Clear (asked sum base (chargedIn core n)) l
 
 abbrev μ-loop : tie.MeasureT-loop
 μ-loop core n sum base top l₀ l = 100000001 - l
@@ -32,7 +32,7 @@ add-asked c = search needs
 returns : tie.Need-returns Inv-loop μ-loop
 returns c =
     let s = c .before .before .before .before .args in
-    let qs = rows (s .core .now) (s .n) in
+    let qs = chargedIn (s .core .now) (s .n) in
     least-holding-is (asked (s .sum) (s .base) qs) (asked-mono (s .sum) (s .base) qs (all-recurs qs (c .before .before .before .before .pre .0 .1))) (s .top) (At (c .before .before .before .loop .l))
     (record { here = record { some = c .before .before .before .loop .inv .0; fits = omega arith }; none-below = c .before .before .before .loop .inv .1 }, search needs)
 
@@ -42,13 +42,13 @@ loop-less c = search needs
 loop-again : tie.Need-loop-again Inv-loop μ-loop
 loop-again c =
     let s = c .before .before .before .before .args in
-    let qs = rows (s .core .now) (s .n) in
+    let qs = chargedIn (s .core .now) (s .n) in
     (search needs, rw (c .before .sum-at .ensures .0) (clear-step (asked (s .sum) (s .base) qs) (asked-mono (s .sum) (s .base) qs (all-recurs qs (c .before .before .before .before .pre .0 .1))) (c .before .before .before .loop .l) (c .before .before .before .loop .inv .1) (omega arith)))
 
 returns-2 : tie.Need-returns-2 Inv-loop μ-loop
 returns-2 c =
     let s = c .before .before .args in
-    let qs = rows (s .core .now) (s .n) in
+    let qs = chargedIn (s .core .now) (s .n) in
     least-holding-is (asked (s .sum) (s .base) qs) (asked-mono (s .sum) (s .base) qs (all-recurs qs (c .before .before .pre .0 .1))) (s .top) Nothing
     (λ k h p. c .before .loop .inv .1 k (omega arith) p)
 

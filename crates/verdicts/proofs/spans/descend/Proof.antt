@@ -3,7 +3,7 @@ use borrow.Author.Needs.{needs}
 use Prim.Native.Nat.{ℕ, _≤_, _-_, _+_}
 use native.Mathlib.Omega.{arith}
 use Rattle.demand.specs.declared.Verdict.the-variants.{Passes, Overloaded}
-use Rattle.verdicts.specs.ways.Lanes.{rows}
+use Rattle.verdicts.specs.ChargedArray.{chargedIn}
 use Rattle.demand.specs.Verdict.{Calm}
 use Rattle.demand.proofs.ChargeLaws.{all-recurs}
 use Rattle.demand.proofs.VerdictLaws.{calm-more, scan-is}
@@ -16,7 +16,7 @@ use Rattle.verdicts.proofs.demands.largest_window.Reads as largest-wind
 use Rattle.verdicts.proofs.spans.next_end.Reads as next-end-reads
 
 abbrev Inv-loop : tie.InvT-loop
-Inv-loop core n b a l w end₀ end = (end ≤ a + l) × Calm b (rows core n) end (a + l)
+Inv-loop core n b a l w end₀ end = (end ≤ a + l) × Calm b (chargedIn core n) end (a + l)
 
 abbrev μ-loop : tie.MeasureT-loop
 μ-loop core n b a l w end₀ end = end
@@ -39,7 +39,7 @@ demand-at-requires c κs = (c .before .before .before .pre .0, (c .before .befor
 returns : tie.Need-returns Inv-loop μ-loop
 returns c =
     let s = c .before .before .before .before .before .args in
-    scan-is (s .b) (rows (s .core .now) (s .n)) (s .a) (s .l) (Overloaded (c .before .before .before .loop .end - 1))
+    scan-is (s .b) (chargedIn (s .core .now) (s .n)) (s .a) (s .l) (Overloaded (c .before .before .before .loop .end - 1))
     (record { from = omega arith; below = omega arith; over = omega arith; calm = λ u from below. c .before .before .before .loop .inv .1 u (omega arith) below })
 
 next-end-requires : tie.Need-next-end-requires Inv-loop μ-loop
@@ -51,13 +51,13 @@ loop-less c = search needs
 loop-again : tie.Need-loop-again Inv-loop μ-loop
 loop-again c =
     let s = c .before .before .before .before .before .before .args in
-    let qs = rows (s .core .now) (s .n) in
+    let qs = chargedIn (s .core .now) (s .n) in
     (omega arith, calm-more (s .b) qs (all-recurs qs (c .before .before .before .before .before .before .pre .0 .1)) (c .before .before .before .before .loop .end - 1) (c .next-end .result) (s .a + s .l) (omega arith) (λ wide. omega (arith, c .next-end .ensures .2 (omega arith))) (λ u from below. c .before .before .before .before .loop .inv .1 u (omega arith) below))
 
 returns-2 : tie.Need-returns-2 Inv-loop μ-loop
 returns-2 c =
     let s = c .before .before .before .args in
-    scan-is (s .b) (rows (s .core .now) (s .n)) (s .a) (s .l) Passes (λ u from below. c .before .loop .inv .1 u (omega arith) below)
+    scan-is (s .b) (chargedIn (s .core .now) (s .n)) (s .a) (s .l) Passes (λ u from below. c .before .loop .inv .1 u (omega arith) below)
 
 pub descend-spec : {M : Type 1} → statement M
 descend-spec =

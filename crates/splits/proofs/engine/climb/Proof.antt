@@ -1,0 +1,18 @@
+-- `engine::climb` meets its contract: there is a core, and no number is past its bound.
+use mathlib.Core.Path.{_∙_}
+use Rattle.verdicts.proofs.LaidLaws.{wait-held}
+use borrow.Author.Needs.{needs}
+use Rattle.splits.proofs.engine.climb.Statement.{statement}
+use Rattle.splits.proofs.engine.climb.Tie as tie
+use Rattle.splits.proofs.engine.climb.Reads as reads
+use Rattle.splits.proofs.engine.climb.Lts as lts
+use Rattle.verdicts.proofs.laid_wait.Reads as laid-wait-reads
+
+laid-wait-requires : tie.Need-laid-wait-requires
+laid-wait-requires c κs = search needs
+
+returns : tie.Need-returns
+returns c = c .laid-wait .ensures ∙ wait-held (c .before .args .core .now) (c .before .args .n) (c .before .pre .0) (c .before .args .base) (c .before .args .top) (c .before .pre .1 .0) (c .before .pre .1 .1)
+
+pub climb-spec : {M : Type 1} → statement M
+climb-spec = tie.close (tie.spec laid-wait-requires returns)

@@ -1,0 +1,88 @@
+-- `split_search::bound_last` meets its contract: the verdict on the last piece, and where it is overloaded its excess there.
+use mathlib.Core.Path.{_≡_, refl, sym, ap, _∙_}
+use mathlib.Core.List.{List}
+use Prim.Native.Nat.{ℕ, _+_, _-_}
+use Rattle.demand.specs.declared.Charged.{Charged}
+use Rattle.demand.specs.Charge.{stall}
+use Rattle.demand.specs.Demand.{largestWindow, demand}
+use Rattle.verdicts.specs.ChargedArray.{chargedIn}
+use Rattle.demand.specs.ways.ChargedSplit.{lastAlone}
+use Rattle.demand.proofs.ChargedSplitLaws.{last-largest, last-undecided}
+use Rattle.splits.proofs.SplitSearchLaws.{judged-last}
+use Rattle.splits.proofs.SkipLaws.{over-within, last-falls}
+use borrow.Author.Needs.{needs}
+use Rattle.splits.proofs.split_search.bound_last.Statement.{statement}
+use Rattle.splits.proofs.split_search.bound_last.Tie as tie
+use Rattle.splits.proofs.split_search.bound_last.Reads as reads
+use Rattle.splits.proofs.split_search.bound_last.Lts as lts
+use Rattle.splits.proofs.engine.judge_core.Reads as judge-core-reads
+use Rattle.splits.proofs.engine.stall_of.Reads as stall-of-reads
+use Rattle.splits.proofs.laying.lay_last.Reads as lay-last-reads
+use Rattle.splits.proofs.split_search.excess_at.Reads as excess-at-reads
+
+lay-last-requires : tie.Need-lay-last-requires
+lay-last-requires c κs = search needs
+
+stall-of-requires : tie.Need-stall-of-requires
+stall-of-requires c κs = search needs
+
+judge-core-requires : tie.Need-judge-core-requires
+judge-core-requires c κs = search needs
+
+enum-told : tie.Need-enum-told
+enum-told c = search needs
+
+enum-told-2 : tie.Need-enum-told-2
+enum-told-2 c = search needs
+
+enum-known-t : tie.Need-enum-known-t
+enum-known-t c = search needs
+
+sub-excess-at : tie.Need-sub-excess-at
+sub-excess-at c = search needs
+
+excess-at-requires : tie.Need-excess-at-requires
+excess-at-requires c κs =
+    let s = c .before .before .before .before .before .before .before .before .before .before .args in
+    let rs = chargedIn (c .before .before .before .before .before .before .before .before .lay-last .last .0) 1 in
+    let judged = judged-last (s .costs) (s .task) (s .x) (s .w) (c .before .before .before .before .before .before .before .stall-of .result) rs (c .before .before .before .before .before .before .before .stall-of .ensures .0) (c .before .before .before .before .before .before .before .before .lay-last .ensures .0) (c .before .before .before .before .before .judge-core .result) (c .before .before .before .before .before .judge-core .ensures) in
+    (c .before .before .before .before .before .before .before .before .lay-last .ensures .1, (c .before .before .before .before .before .before .before .stall-of .ensures .1, sym (ap (λ (qs : List Charged). largestWindow qs) (c .before .before .before .before .before .before .before .before .lay-last .ensures .0) ∙ last-largest (s .costs) (s .task) (s .x) (s .w)), over-within (s .costs) (s .task) (c .before .before .before .before .before .before .before .before .before .before .pre .1 .0) (s .x) (s .w) (c .before .before .before .t .given .0 .0) (sym judged ∙ c .before .before .before .t .given .1)))
+
+returns : tie.Need-returns
+returns c =
+    let s = c .before .before .before .before .before .before .before .args in
+    let rs = chargedIn (c .before .before .before .before .before .lay-last .last .0) 1 in
+    let judged = judged-last (s .costs) (s .task) (s .x) (s .w) (c .before .before .before .before .stall-of .result) rs (c .before .before .before .before .stall-of .ensures .0) (c .before .before .before .before .before .lay-last .ensures .0) (c .before .before .judge-core .result) (c .before .before .judge-core .ensures) in
+    (sym judged ∙ c .enum-told .given .1, c .before .before .before .before .before .lay-last .ensures .2)
+
+returns-2 : tie.Need-returns-2
+returns-2 c =
+    let s = c .before .before .before .before .before .before .before .args in
+    let rs = chargedIn (c .before .before .before .before .before .lay-last .last .0) 1 in
+    let judged = judged-last (s .costs) (s .task) (s .x) (s .w) (c .before .before .before .before .stall-of .result) rs (c .before .before .before .before .stall-of .ensures .0) (c .before .before .before .before .before .lay-last .ensures .0) (c .before .before .judge-core .result) (c .before .before .judge-core .ensures) in
+    ((c .before .before .before .before .before .before .before .pre .1 .1 .1 .0, λ y v less pass. last-undecided (s .costs) (s .task) (s .x) y (s .w) v (c .before .before .before .before .before .before .before .pre .1 .0) less (sym judged ∙ c .enum-told2 .given .1) pass), c .before .before .before .before .before .lay-last .ensures .2)
+
+returns-3 : tie.Need-returns-3
+returns-3 c =
+    let s = c .before .before .before .before .before .before .before .before .before .before .before .args in
+    let rs = chargedIn (c .before .before .before .before .before .before .before .before .before .lay-last .last .0) 1 in
+    let judged = judged-last (s .costs) (s .task) (s .x) (s .w) (c .before .before .before .before .before .before .before .before .stall-of .result) rs (c .before .before .before .before .before .before .before .before .stall-of .ensures .0) (c .before .before .before .before .before .before .before .before .before .lay-last .ensures .0) (c .before .before .before .before .before .before .judge-core .result) (c .before .before .before .before .before .before .judge-core .ensures) in
+    let t = c .before .before .before .before .t .given .0 .0 in
+    let asked : demand (c .before .before .before .before .before .before .before .before .stall-of .result) rs t ≡ demand (stall (s .costs)) (lastAlone (s .costs) (s .task) (s .x) (s .w)) t = rw (c .before .before .before .before .before .before .before .before .stall-of .ensures .0, c .before .before .before .before .before .before .before .before .before .lay-last .ensures .0) refl in
+    (last-falls (s .costs) (s .task) (c .before .before .before .before .before .before .before .before .before .before .before .pre .1 .0) (s .x) (s .w) t (sym judged ∙ c .before .before .before .before .t .given .1) (c .before .before .before .before .before .before .before .before .before .before .before .pre .1 .1 .1 .1) (c .before .before .before .before .before .before .before .before .before .before .before .pre .1 .1 .1 .2) (c .excess-at .result) (c .excess-at .ensures ∙ ap (λ (g : ℕ). g - (t + 1)) asked), c .before .before .before .before .before .before .before .before .before .lay-last .ensures .2)
+
+pub bound-last-spec : {M : Type 1} → statement M
+bound-last-spec =
+    tie.close
+    (tie.spec
+    lay-last-requires
+    stall-of-requires
+    judge-core-requires
+    enum-told
+    enum-told-2
+    enum-known-t
+    sub-excess-at
+    excess-at-requires
+    returns
+    returns-2
+    returns-3)

@@ -1,0 +1,67 @@
+-- `split_search::window_below` meets its contract: a first piece without a budget lies behind, and the base is the stall and its charge.
+use mathlib.Core.Path.{refl, ap, _∙_}
+use Prim.Native.Nat.{_+_}
+use native.Mathlib.Omega.{arith}
+use Rattle.demand.specs.declared.Charged.{Charged}
+use Rattle.verdicts.specs.ChargedArray.{chargedIn}
+use Rattle.demand.specs.ways.Ranges.{Ranged}
+use Rattle.verdicts.proofs.ChargedArrayLaws.{charged-at-each}
+use Rattle.splits.proofs.SplitSearchLaws.{laid-charged}
+use Rattle.splits.proofs.SkipLaws.{misses-lowered}
+use borrow.Author.Needs.{needs}
+use Rattle.splits.proofs.split_search.window_below.Statement.{statement}
+use Rattle.splits.proofs.split_search.window_below.Tie as tie
+use Rattle.splits.proofs.split_search.window_below.Reads as reads
+use Rattle.splits.proofs.split_search.window_below.Lts as lts
+use Rattle.splits.proofs.engine.stall_of.Reads as stall-of-reads
+use Rattle.splits.proofs.engine.charged_at.Reads as charged-at-reads
+use Rattle.splits.proofs.monotone_search.lowered.Reads as lowered-reads
+use Rattle.splits.proofs.laying.lay_first.Reads as lay-first-reads
+
+lay-first-requires : tie.Need-lay-first-requires
+lay-first-requires c κs = search needs
+
+charged-at-requires : tie.Need-charged-at-requires
+charged-at-requires c κs = search needs
+
+stall-of-requires : tie.Need-stall-of-requires
+stall-of-requires c κs = search needs
+
+add-base : tie.Need-add-base
+add-base c =
+    let s = c .before .before .before .before .before .before .args in
+    let ranged : Ranged (c .before .before .charged-at .result) = rw (c .before .before .charged-at .ensures) (charged-at-each Ranged (c .before .before .before .before .lay-first .last .0) (s .n + 1) (c .before .before .before .before .lay-first .ensures .2) (s .n) (omega arith)) in
+    omega (arith, ranged .charge-fits, c .before .stall-of .ensures .1)
+
+add-lowered : tie.Need-add-lowered
+add-lowered c = search needs
+
+lowered-requires : tie.Need-lowered-requires
+lowered-requires c κs =
+    let s = c .before .before .before .before .before .before .before .args in
+    let ranged : Ranged (c .before .before .before .charged-at .result) = rw (c .before .before .before .charged-at .ensures) (charged-at-each Ranged (c .before .before .before .before .before .lay-first .last .0) (s .n + 1) (c .before .before .before .before .before .lay-first .ensures .2) (s .n) (omega arith)) in
+    ((omega (arith, c .before .before .before .before .before .before .before .pre .1 .1 .0 .room), c .before .before .before .before .before .lay-first .ensures .2), ((omega (arith, ranged .charge-fits, c .before .before .stall-of .ensures .1), omega (arith, c .before .before .before .before .before .before .before .pre .1 .1 .1 .2)), omega arith, omega (arith, c .before .before .before .before .before .before .before .pre .1 .1 .1 .1, c .before .before .before .before .before .before .before .pre .1 .0 .budget-fits, c .before .before .before .before .before .before .before .pre .1 .0 .window-fits, c .before .before .before .before .before .before .before .pre .1 .0 .period-fits)))
+
+sub-result : tie.Need-sub-result
+sub-result c = omega (arith, c .lowered .ensures .some (c .before .before .before .before .before .before .before .before .pre .1 .1 .1 .0))
+
+returns : tie.Need-returns
+returns c =
+    let s = c .before .before .before .before .before .before .before .before .args in
+    let qs = chargedIn (s .core .now) (s .n) in
+    let new = c .before .before .before .before .before .before .lay-first .last .0 in
+    let charge = ap (λ (q : Charged). q .charge) (c .before .before .before .before .charged-at .ensures ∙ laid-charged (s .costs) (s .task) 0 0 (s .core .now) new (s .n) (c .before .before .before .before .before .before .lay-first .ensures .0)) in
+    (misses-lowered (s .costs) qs (s .task) (c .before .before .before .stall-of .result + c .before .before .before .before .charged-at .result .charge) (c .before .before .before .stall-of .result) (c .before .before .before .before .charged-at .result .charge) refl (c .before .before .before .stall-of .ensures .0) charge (chargedIn new (s .n + 1)) (c .before .before .before .before .before .before .lay-first .ensures .0) (s .top) (s .x) (c .lowered .result) (c .before .before .before .before .before .before .before .before .pre .1 .1 .1 .0) (c .lowered .ensures), c .before .before .before .before .before .before .lay-first .ensures .1)
+
+pub window-below-spec : {M : Type 1} → statement M
+window-below-spec =
+    tie.close
+    (tie.spec
+    lay-first-requires
+    charged-at-requires
+    stall-of-requires
+    add-base
+    add-lowered
+    lowered-requires
+    sub-result
+    returns)

@@ -1,0 +1,203 @@
+// How much a piece may be charged beside a core: a walk down that lowers its charge wherever it does not fit. One walk so tells of every smaller
+// charge at once, where a verdict tells of one.
+use crate::arrays::charged_at;
+use crate::demands::demand_at;
+use crate::demands::interrupts_of;
+use crate::demands::jobs_due;
+use crate::demands::largest_window;
+use crate::spans::next_end;
+use demand::Charged;
+use demand::RUN_NUMBERS;
+use demand::greater;
+use demand::less;
+use demand::lesser;
+ghost use mathlib.Core.Path.{_≡_};
+ghost use Prim.Native.Nat.{_+_, _≤_};
+ghost use Rattle.demand.specs.Demand.{largestWindow};
+ghost use Rattle.verdicts.specs.ChargedArray.{chargedIn};
+ghost use Rattle.verdicts.specs.MostFitting.{mostFitting};
+ghost use Rattle.verdicts.specs.ways.ChargeWalk.{FitsInto, Levels, Lowers};
+ghost use Rattle.demand.specs.ways.Ranges.{Ranged, stallMost, chargeMost};
+ghost use Rattle.demand.specs.Sizes.{Each, lengthMost, timeMost, runMost};
+
+// What a length told: the greatest charge that fits there, what is asked for beside it, and how many jobs are charged.
+pub struct Look {
+    pub charge: u64,
+    pub rest: u64,
+    pub jobs: u64,
+}
+
+// What a step left: the charge, and the end below which the walk goes on.
+pub struct Level {
+    pub charge: u64,
+    pub end: u64,
+}
+
+// The greatest charge up to f whose jobs fit the room.
+pub fn fitting(f: u64, jobs: u64, room: u64) -> u64
+    requires { ⌜ (f ≤ chargeMost) × (jobs ≤ 102000001) ⌝ }
+    ensures { λ r. ⌜ FitsInto f jobs room r ⌝ }
+{
+    if jobs * f <= room { f } else { room / jobs }
+}
+
+// The greatest multiple of b up to a.
+pub fn floor_to(a: u64, b: u64) -> u64
+    requires { ⌜ 1 ≤ b ⌝ }
+    ensures { λ r. ⌜ r ≤ a ⌝ }
+{
+    a / b * b
+}
+
+// From where on as many jobs of q are due as at t. What is made of it needs no more than that it is a length.
+pub fn due_start(q: Charged, t: u64) -> u64
+    requires { ⌜ Ranged q ⌝ }
+    requires { ⌜ t ≤ lengthMost ⌝ }
+{
+    if t + q.jitter < q.window {
+        return 0;
+    }
+    less(
+        q.window + floor_to(t + q.jitter - q.window, q.period),
+        q.jitter,
+    )
+}
+
+// From where on as many interrupts, of that cost and jitter, have come as at t, if they cost anything.
+pub fn call_start(cost: u64, period: u64, jitter: u64, t: u64) -> u64
+    requires { ⌜ (1 ≤ period) × (jitter ≤ timeMost) × (t ≤ lengthMost) ⌝ }
+{
+    if cost == 0 {
+        return 0;
+    }
+    less(floor_to(less(t + jitter, 1), period) + 1, jitter)
+}
+
+pub fn piece_start(q: Charged, t: u64) -> u64
+    requires { ⌜ Ranged q ⌝ }
+    requires { ⌜ t ≤ lengthMost ⌝ }
+{
+    let calls = call_start(q.release, q.period, q.jitter, t);
+    let ipis = call_start(q.ipi, q.period, q.ipij, t);
+    greater(due_start(q, t), greater(calls, ipis))
+}
+
+// From where on the demand of the n pieces and of q is as at t.
+pub fn stretch_start(core: &[u64; RUN_NUMBERS], n: usize, q: Charged, t: u64) -> u64
+    requires { ⌜ (n ≤ runMost) × Each Ranged (chargedIn (now core) n) ⌝ }
+    requires { ⌜ Ranged q ⌝ }
+    requires { ⌜ t ≤ lengthMost ⌝ }
+{
+    let mut start = piece_start(q, t);
+    let mut i: usize = 0;
+    while i < n {
+        start = greater(start, piece_start(charged_at(core, i), t));
+        i += 1;
+    }
+    start
+}
+
+// The greatest charge up to f that fits at t; w is the largest window of the n pieces. Where none fits, all is 0.
+pub fn level_at(
+    core: &[u64; RUN_NUMBERS],
+    n: usize,
+    b: u64,
+    w: u64,
+    q: Charged,
+    f: u64,
+    t: u64,
+) -> Look
+    requires { ⌜ (n ≤ runMost) × Each Ranged (chargedIn (now core) n) ⌝ }
+    requires { ⌜ Ranged q ⌝ }
+    requires { ⌜ (b ≤ stallMost) × (w ≡ largestWindow (chargedIn (now core) n)) × (f ≤ chargeMost) × (t ≤ lengthMost) ⌝ }
+    ensures { λ r. ⌜ Levels b (chargedIn (now (core .entry)) n) q f t r ⌝ }
+{
+    let g = demand_at(core, n, b, w, t);
+    if t < g {
+        return Look {
+            charge: 0,
+            rest: 0,
+            jobs: 0,
+        };
+    }
+    let calls = interrupts_of(q, t);
+    if t - g < calls {
+        return Look {
+            charge: 0,
+            rest: 0,
+            jobs: 0,
+        };
+    }
+    let jobs = jobs_due(q, t);
+    let y = fitting(f, jobs, t - g - calls);
+    Look {
+        charge: y,
+        rest: g + calls,
+        jobs: jobs,
+    }
+}
+
+// One step down: what fits at t, and where that is less than f, what of it fits where the demand at t begins, since it fits least there. The walk goes on below
+// what is asked for at t with that.
+pub fn lower(
+    core: &[u64; RUN_NUMBERS],
+    n: usize,
+    b: u64,
+    w: u64,
+    q: Charged,
+    f: u64,
+    a: u64,
+    t: u64,
+) -> Level
+    requires { ⌜ (n ≤ runMost) × Each Ranged (chargedIn (now core) n) ⌝ }
+    requires { ⌜ Ranged q ⌝ }
+    requires { ⌜ (b ≤ stallMost) × (w ≡ largestWindow (chargedIn (now core) n)) × (f ≤ chargeMost) × (t ≤ lengthMost) ⌝ }
+    requires { ⌜ a ≤ t ⌝ }
+    ensures { λ r. ⌜ Lowers b (chargedIn (now (core .entry)) n) q f a t r ⌝ }
+{
+    let v = level_at(core, n, b, w, q, f, t);
+    if v.charge == 0 {
+        return Level { charge: 0, end: 0 };
+    }
+    if f <= v.charge {
+        let end = next_end(v.rest + v.jobs * f, w, t);
+        return Level {
+            charge: f,
+            end: end,
+        };
+    }
+    let s = lesser(t, greater(a, stretch_start(core, n, q, t)));
+    let y = level_at(core, n, b, w, q, v.charge, s).charge;
+    let end = next_end(v.rest + v.jobs * y, w, t);
+    Level {
+        charge: y,
+        end: end,
+    }
+}
+
+// The greatest charge up to f with which q fits beside the n pieces at each of the l lengths from a, or 0: down from the last of them, with f lowered wherever it
+// does not fit.
+pub fn squeeze(
+    core: &[u64; RUN_NUMBERS],
+    n: usize,
+    b: u64,
+    q: Charged,
+    f: u64,
+    a: u64,
+    l: u64,
+) -> u64
+    requires { ⌜ (n ≤ runMost) × Each Ranged (chargedIn (now core) n) ⌝ }
+    requires { ⌜ Ranged q ⌝ }
+    requires { ⌜ (b ≤ stallMost) × (f ≤ chargeMost) × (a + l ≤ lengthMost) ⌝ }
+    ensures { λ r. ⌜ r ≡ mostFitting b (chargedIn (now (core .entry)) n) q a l f ⌝ }
+{
+    let w = largest_window(core, n);
+    let mut r = f;
+    let mut end = a + l;
+    while a < end {
+        let v = lower(core, n, b, w, q, r, a, end - 1);
+        r = v.charge;
+        end = v.end;
+    }
+    r
+}
