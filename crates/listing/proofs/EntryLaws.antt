@@ -33,7 +33,7 @@ use Rattle.plan.specs.declared.Plan.{Plan}
 use Rattle.plan.specs.Layout.{keptPiece, blank}
 use Rattle.plan.proofs.Lists.{map-more}
 use Rattle.lines.specs.Lines.{bytesOf, tab}
-use Rattle.listing.specs.Text.{ended, decimal}
+use Rattle.listing.specs.Text.{endedBy, decimal}
 use Rattle.listing.specs.Listing.{Entry, spelling, kindWord, figuresLine, rowPieces, entryOf, rowEntries, entriesOn}
 use Rattle.listing.specs.Listing.{entryWith, entryLine, entryLines, header, listingOf, planWith, listedOn}
 
@@ -43,8 +43,8 @@ spelling-capped n r h f l =
     (eq-or-lt-of-le h)
 
 pub piece-line : (c : Costs) (q : ℕ) (name : List ℕ) (s : Stored) (n : ℕ) (a : Piece) (charged : ℕ) → n ≡ q + 1 → a ≡ keptPiece s → charged ≡ chargedTime c a
-    → ended tab (bytesOf "piece") ++ (ended tab (decimal n) ++ (ended tab name
-    ++ (ended tab (kindWord (a .kind)) ++ figuresLine (s .budget) (s .window) (s .jitter) charged))) ≡ entryLine (entryWith c q name s)
+    → endedBy tab (bytesOf "piece") ++ (endedBy tab (decimal n) ++ (endedBy tab name
+    ++ (endedBy tab (kindWord (a .kind)) ++ figuresLine (s .budget) (s .window) (s .jitter) charged))) ≡ entryLine (entryWith c q name s)
 unfolding entryLine
 piece-line c q name s n a charged core piece time = rw (core, time, piece)
 

@@ -37,7 +37,7 @@ use Rattle.plan.specs.declared.Plan.{Plan}
 use Rattle.plan.specs.Walk.{walked}
 use Rattle.plan.specs.Plan.{planOf}
 use Rattle.plan.proofs.Theorems.{plan-counts}
-use Rattle.listing.specs.Text.{ended, decimal}
+use Rattle.listing.specs.Text.{endedBy, decimal}
 use Rattle.listing.specs.Listing.{Entry, spelling, rowEntries, entriesOn, entries, kindWord, figuresLine, entryLine, entryLines, header, listingOf}
 use Rattle.listing.specs.Placed.{placedEntry}
 use Rattle.listing.proofs.ReadLaws.{Lacks, Readable}
@@ -93,13 +93,13 @@ line-short e short =
     let few : length word ≤ 5 = word-short (e .kind) in
     omega (
       arith,
-      length-append (ended tab (bytesOf "piece")) (ended tab core ++ (ended tab (e .task) ++ (ended tab word ++ figures))),
-      length-append (ended tab core) (ended tab (e .task) ++ (ended tab word ++ figures)),
-      length-append (ended tab (e .task)) (ended tab word ++ figures),
-      length-append (ended tab word) figures,
-      length-append (ended tab b) (ended tab w ++ (ended tab j ++ ended newline k)),
-      length-append (ended tab w) (ended tab j ++ ended newline k),
-      length-append (ended tab j) (ended newline k),
+      length-append (endedBy tab (bytesOf "piece")) (endedBy tab core ++ (endedBy tab (e .task) ++ (endedBy tab word ++ figures))),
+      length-append (endedBy tab core) (endedBy tab (e .task) ++ (endedBy tab word ++ figures)),
+      length-append (endedBy tab (e .task)) (endedBy tab word ++ figures),
+      length-append (endedBy tab word) figures,
+      length-append (endedBy tab b) (endedBy tab w ++ (endedBy tab j ++ endedBy newline k)),
+      length-append (endedBy tab w) (endedBy tab j ++ endedBy newline k),
+      length-append (endedBy tab j) (endedBy newline k),
       ended-length tab core,
       ended-length tab (e .task),
       ended-length tab word,
@@ -130,8 +130,8 @@ header-short p =
     let k = decimal (p .layout .count) in
     omega (
       arith,
-      length-append (ended tab (bytesOf "plan")) (ended tab t ++ ended newline k),
-      length-append (ended tab t) (ended newline k),
+      length-append (endedBy tab (bytesOf "plan")) (endedBy tab t ++ endedBy newline k),
+      length-append (endedBy tab t) (endedBy newline k),
       ended-length tab t,
       ended-length newline k,
       decimal-few (p .tasks .count),

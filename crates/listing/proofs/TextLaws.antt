@@ -20,7 +20,7 @@ use lib.ListN.{length, getD, take, drop, set, length-append, length-set, length-
 use lib.Seq.{sets, sets-eq, length-sets, take-suc, take-all, drop-cons, drop-set-lt, getD-set-same}
 use lib.Dec.{ltb, lit<}
 use borrow.Author.Tests.{lt-ltb, le-ltb, lt-leb, le-leb}
-use Rattle.listing.specs.Text.{Wrote, ended, digitsOnto, decimal, over}
+use Rattle.listing.specs.Text.{Wrote, endedBy, digitsOnto, decimal, over}
 
 -- one run after another is one run
 sets-append : (l : List ℕ) (at : ℕ) (a b : List ℕ) → sets (sets l at a) (at + length a) b ≡ sets l at (a ++ b)
@@ -55,7 +55,7 @@ wrote-more l at s i m r n h f g =
     record { place = sym q ∙ rw t (b .place); bytes = rw t (b .bytes) }
 
 -- a run and its end
-pub ended-length : (b : ℕ) (f : List ℕ) → length (ended b f) ≡ length f + 1
+pub ended-length : (b : ℕ) (f : List ℕ) → length (endedBy b f) ≡ length f + 1
 ended-length b f = length-append f (b ∷ [])
 
 -- ---- digits

@@ -30,7 +30,7 @@ use Rattle.plan.specs.declared.Layout.{Layout}
 use Rattle.plan.specs.declared.Plan.{Plan}
 use Rattle.plan.specs.Layout.{keptPiece, blank}
 use Rattle.lines.specs.Lines.{bytesOf, tab}
-use Rattle.listing.specs.Text.{ended, lineOf, decimal}
+use Rattle.listing.specs.Text.{endedBy, textLine, decimal}
 
 pub record Entry : Type 0 where
   pub core : ℕ
@@ -84,14 +84,14 @@ kindWord Last = bytesOf "last"
 
 -- the figures that end a piece's line
 abbrev pub figuresLine : (budget window jitter charged : ℕ) → List ℕ
-figuresLine b w j c = lineOf (decimal b ∷ decimal w ∷ decimal j ∷ decimal c ∷ [])
+figuresLine b w j c = textLine (decimal b ∷ decimal w ∷ decimal j ∷ decimal c ∷ [])
 
 unfoldable pub entryLine : Entry → List ℕ
 entryLine e =
-    ended tab (bytesOf "piece")
-    ++ (ended tab (decimal (e .core))
-    ++ (ended tab (e .task)
-    ++ (ended tab (kindWord (e .kind))
+    endedBy tab (bytesOf "piece")
+    ++ (endedBy tab (decimal (e .core))
+    ++ (endedBy tab (e .task)
+    ++ (endedBy tab (kindWord (e .kind))
     ++ figuresLine (e .budget) (e .window) (e .jitter) (e .charged))))
 
 abbrev pub entryLines : List Entry → List ℕ
@@ -99,7 +99,7 @@ entryLines [] = []
 entryLines (e ∷ es) = entryLine e ++ entryLines es
 
 unfoldable pub header : Plan → List ℕ
-header p = lineOf (bytesOf "plan" ∷ decimal (p .tasks .count) ∷ decimal (p .layout .count) ∷ [])
+header p = textLine (bytesOf "plan" ∷ decimal (p .tasks .count) ∷ decimal (p .layout .count) ∷ [])
 
 unfoldable pub listingOf : Plan → List ℕ
 listingOf p = header p ++ entryLines (entries p)

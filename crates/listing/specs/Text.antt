@@ -1,7 +1,7 @@
 -- Text as bytes, and what a writer leaves in a lent buffer: document 01, "Sheet".
 --
---   ended b f             the bytes f, ended by the byte b
---   lineOf fs             the fields fs, parted by tabs, ended by a newline
+--   endedBy b f             the bytes f, endedBy by the byte b
+--   textLine fs             the fields fs, parted by tabs, endedBy by a newline
 --   decimal n             the digits of n, as far as 64 bits go
 --   Wrote old at vs r new vs is written from the place `at` on, as far as the buffer goes, and r is the place behind it
 --   over text old         what a buffer holds after a text: the text and then what it held, or what it held where it is too short
@@ -14,13 +14,13 @@ use lib.ListN.{length, drop}
 use lib.Seq.{sets}
 use Rattle.lines.specs.Lines.{newline, tab}
 
-abbrev pub ended : ℕ → List ℕ → List ℕ
-ended b f = f ++ (b ∷ [])
+abbrev pub endedBy : ℕ → List ℕ → List ℕ
+endedBy b f = f ++ (b ∷ [])
 
-abbrev pub lineOf : List (List ℕ) → List ℕ
-lineOf [] = newline ∷ []
-lineOf (f ∷ []) = ended newline f
-lineOf (f ∷ g ∷ fs) = ended tab f ++ lineOf (g ∷ fs)
+abbrev pub textLine : List (List ℕ) → List ℕ
+textLine [] = newline ∷ []
+textLine (f ∷ []) = endedBy newline f
+textLine (f ∷ g ∷ fs) = endedBy tab f ++ textLine (g ∷ fs)
 
 -- the digits of n, at most k of them, in front of those that stand
 unfoldable pub digitsOnto : ℕ → ℕ → List ℕ → List ℕ

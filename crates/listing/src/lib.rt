@@ -21,13 +21,13 @@ ghost use lib.Dec.{ltb};
 ghost use lib.ListN.{length};
 ghost use Rattle.plan.specs.Layout.{blank};
 ghost use Rattle.lines.specs.Lines.{bytesOf};
-ghost use Rattle.listing.specs.Text.{Wrote, ended, lineOf, decimal, over};
+ghost use Rattle.listing.specs.Text.{Wrote, endedBy, textLine, decimal, over};
 ghost use Rattle.listing.specs.Listing.{spelling, kindWord, figuresLine, entryWith, listingOf, planWith, listedOn, entryLine};
 
 // A kind's word, ended by a tab.
 fn put_kind(buf: &mut [u8], at: usize, kind: Kind) -> usize
     requires { ⌜ at < 900000 ⌝ }
-    ensures { λ r. ⌜ (Wrote (now (buf .entry)) at (ended 9 (kindWord kind)) r (now (buf .exit))) × (r ≤ at + 6) ⌝ }
+    ensures { λ r. ⌜ (Wrote (now (buf .entry)) at (endedBy 9 (kindWord kind)) r (now (buf .exit))) × (r ≤ at + 6) ⌝ }
 {
     match kind {
         Kind::Whole => put_bytes(buf, at, b"whole", 9),
@@ -130,7 +130,7 @@ fn seats(n: usize) -> usize
 
 // The first line, with how many tasks and pieces there are.
 fn put_header(buf: &mut [u8], tasks: usize, pieces: usize) -> usize
-    ensures { λ r. ⌜ (Wrote (now (buf .entry)) 0 (lineOf (bytesOf "plan" ∷ decimal tasks ∷ decimal pieces ∷ [])) r (now (buf .exit))) × (r ≤ 47) ⌝ }
+    ensures { λ r. ⌜ (Wrote (now (buf .entry)) 0 (textLine (bytesOf "plan" ∷ decimal tasks ∷ decimal pieces ∷ [])) r (now (buf .exit))) × (r ≤ 47) ⌝ }
 {
     let a = put_bytes(buf, 0, b"plan", 9);
     let b = put_number(buf, a, wide(tasks), 9);

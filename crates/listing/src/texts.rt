@@ -5,7 +5,7 @@ ghost use mathlib.Core.Path.{_≡_};
 ghost use mathlib.Core.List.{[], _∷_};
 ghost use Prim.Native.Nat.{_+_, _≤_, _<_};
 ghost use lib.ListN.{length};
-ghost use Rattle.listing.specs.Text.{Wrote, ended, decimal};
+ghost use Rattle.listing.specs.Text.{Wrote, endedBy, decimal};
 ghost use Rattle.listing.specs.Listing.{spelling};
 
 // One byte, where the buffer reaches that far.
@@ -23,7 +23,7 @@ pub fn put_byte(buf: &mut [u8], at: usize, b: u8) -> usize
 // A run of bytes, and the byte that ends it.
 pub fn put_bytes<'a>(buf: &'a mut [u8], at: usize, s: &'a [u8], end: u8) -> usize
     requires { ⌜ at + length (now s) < 1000000 ⌝ }
-    ensures { λ r. ⌜ Wrote (now (buf .entry)) at (ended end (now (s .entry))) r (now (buf .exit)) ⌝ }
+    ensures { λ r. ⌜ Wrote (now (buf .entry)) at (endedBy end (now (s .entry))) r (now (buf .exit)) ⌝ }
 {
     let mut i = 0;
     while i < s.len() {
@@ -43,7 +43,7 @@ fn digit(m: u64) -> u8
 // A number in decimal digits.
 pub fn put_number(buf: &mut [u8], at: usize, n: u64, end: u8) -> usize
     requires { ⌜ at < 900000 ⌝ }
-    ensures { λ r. ⌜ (Wrote (now (buf .entry)) at (ended end (decimal n)) r (now (buf .exit))) × (r ≤ at + 21) ⌝ }
+    ensures { λ r. ⌜ (Wrote (now (buf .entry)) at (endedBy end (decimal n)) r (now (buf .exit))) × (r ≤ at + 21) ⌝ }
 {
     let mut d = [0u8; 20];
     let mut i: usize = 20;
@@ -71,7 +71,7 @@ fn capped(n: usize) -> usize
 // A name's bytes.
 pub fn put_name(buf: &mut [u8], at: usize, name: Name, end: u8) -> usize
     requires { ⌜ at < 900000 ⌝ }
-    ensures { λ r. ⌜ (Wrote (now (buf .entry)) at (ended end (spelling name)) r (now (buf .exit))) × (r ≤ at + 25) ⌝ }
+    ensures { λ r. ⌜ (Wrote (now (buf .entry)) at (endedBy end (spelling name)) r (now (buf .exit))) × (r ≤ at + 25) ⌝ }
 {
     let len = capped(name.len);
     let bytes = name.bytes;

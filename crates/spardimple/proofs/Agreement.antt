@@ -20,7 +20,7 @@ use Rattle.demand.specs.declared.Costs.{Costs}
 use Rattle.demand.specs.Sizes.{Each}
 use Rattle.demand.specs.Answer.{answerOf, told}
 use Rattle.demand.specs.Kinds.{kindNumber, kindOf}
-use Rattle.spardimple.specs.Bytes.{numberAt, outside, sevenAt, pieceAt, firstPieces, piecesOf, costsOf}
+use Rattle.spardimple.specs.Bytes.{numberAt, outside, sevenAt, pieceAt, firstPieces, piecesOf, costsSpelt}
 use Rattle.spardimple.specs.Numbers.{number, verdictNumber, said}
 use Rattle.spardimple.specs.Spelling.{fourBytes, sevenNumbers, runNumbers, nineNumbers, spell, Narrow}
 use Rattle.spardimple.proofs.ByteLaws.{piece-named}
@@ -114,8 +114,8 @@ module _ (ps : List Piece) (narrow : Each Narrow (runNumbers ps)) where
 
 -- ---- costs
 
-pub costs-spelt : (c : Costs) → Each Narrow (nineNumbers c) → costsOf (spell (nineNumbers c)) ≡ c
-unfolding costsOf
+pub costs-spelt : (c : Costs) → Each Narrow (nineNumbers c) → costsSpelt (spell (nineNumbers c)) ≡ c
+unfolding costsSpelt
 costs-spelt c narrow = λ i. record {
   relo = spell-at (nineNumbers c) narrow 0 (omega arith) i;
   schedo = spell-at (nineNumbers c) narrow 1 (omega arith) i;
@@ -130,7 +130,7 @@ costs-spelt c narrow = λ i. record {
 
 -- ---- both forms
 
-pub read-agree : (rs cs : List ℕ) (ps : List Piece) (c : Costs) → length rs % 28 ≡ 0 → length cs ≡ 36 → piecesOf rs ≡ ps → costsOf cs ≡ c
+pub read-agree : (rs cs : List ℕ) (ps : List Piece) (c : Costs) → length rs % 28 ≡ 0 → length cs ≡ 36 → piecesOf rs ≡ ps → costsSpelt cs ≡ c
     → verdictNumber rs cs ≡ number (told (answerOf c (length ps) ps))
 read-agree rs cs ps c whole nine pieces costs =
     number-reply rs cs (said (answerOf c (length ps) ps))

@@ -21,7 +21,7 @@ use Rattle.demand.specs.declared.Refusal.the-variants.{TooMany}
 use Rattle.demand.specs.Sizes.{runMost}
 use Rattle.demand.specs.Answer.{checkRun, answerOf}
 use Rattle.demand.proofs.RunLaws.{check-many, answer-bad}
-use Rattle.spardimple.specs.Runs.{Holds, Holding}
+use Rattle.spardimple.specs.Runs.{CopiedIn, Copied}
 
 pub record Filled (ps : List Piece) (i : ℕ) (r : Run) : Type 0 where
   pub counts : r .count ≡ length ps
@@ -45,7 +45,7 @@ module _ (ps : List Piece) where
     first = λ fits. ap (take (i + 1)) (put .1) ∙ first-put i (r .pieces) (getD ps i d) d inside (filled .room) refl (filled .first) fits;
   }
 
-  pub filled-holding : (r : Run) → Filled ps (length ps) r → Holding ps r
+  pub filled-holding : (r : Run) → Filled ps (length ps) r → Copied ps r
   filled-holding r filled = record { counts = filled .counts; holds = λ few. filled .first few ∙ take-length ps }
 
   same-pieces : (c : Costs) (qs : List Piece) → take (length ps) qs ≡ ps → answerOf c (length ps) qs ≡ answerOf c (length ps) ps
@@ -53,12 +53,12 @@ module _ (ps : List Piece) where
   same-pieces c qs e = rw (e ∙ sym (take-length ps))
 
   -- 79 at the most: the pieces are the same. More: 6, by their count alone.
-  pub holds-answer : (c : Costs) (qs : List Piece) → Holds ps qs → answerOf c (length ps) qs ≡ answerOf c (length ps) ps
+  pub holds-answer : (c : Costs) (qs : List Piece) → CopiedIn ps qs → answerOf c (length ps) qs ≡ answerOf c (length ps) ps
   holds-answer c qs holds = elim (decLe (length ps) runMost) [
     | yes few ↦ same-pieces c qs (holds few)
     | no many ↦ answer-bad c (length ps) qs TooMany (check-many c (length ps) qs (omega arith))
         ∙ sym (answer-bad c (length ps) ps TooMany (check-many c (length ps) ps (omega arith)))
   ]
 
-  pub holding-answer : (c : Costs) (r : Run) → Holding ps r → answerOf c (r .count) (r .pieces) ≡ answerOf c (length ps) ps
+  pub holding-answer : (c : Costs) (r : Run) → Copied ps r → answerOf c (r .count) (r .pieces) ≡ answerOf c (length ps) ps
   holding-answer c r holding = ap (λ (n : ℕ). answerOf c n (r .pieces)) (holding .counts) ∙ holds-answer c (r .pieces) (holding .holds)

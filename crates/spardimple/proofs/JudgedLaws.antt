@@ -19,8 +19,8 @@ use Rattle.demand.specs.Sizes.{Sized, Each}
 use Rattle.demand.specs.Answer.{checkRun, answerOf}
 use Rattle.demand.specs.Verdict.{verdictOf}
 use Rattle.demand.proofs.RunLaws.{check-taken, answer-fine, answer-bad}
-use Rattle.spardimple.specs.Bytes.{piecesOf, costsOf}
-use Rattle.spardimple.specs.Numbers.{said, formed, replyOf}
+use Rattle.spardimple.specs.Bytes.{piecesOf, costsSpelt}
+use Rattle.spardimple.specs.Numbers.{said, measured, replyOf}
 use Rattle.spardimple.proofs.NumberLaws.{reply-true, reply-false}
 
 module _ (c : Costs) (n : ℕ) (ps : List Piece) (v : Verdict) (is : answerOf c n ps ≡ Judged v) where
@@ -38,15 +38,15 @@ module _ (c : Costs) (n : ℕ) (ps : List Piece) (v : Verdict) (is : answerOf c 
   answered-verdict = let h : Judged (verdictOf c (take n ps)) ≡ Judged v = sym (answer-fine c n ps checked) ∙ is in cc
 
 module _ (rs cs : List ℕ) (v : Verdict) (is : replyOf rs cs ≡ said (Judged v)) where
-  answered : answerOf (costsOf cs) (length (piecesOf rs)) (piecesOf rs) ≡ Judged v
-  answered = by (formed rs cs) refl
+  answered : answerOf (costsSpelt cs) (length (piecesOf rs)) (piecesOf rs) ≡ Judged v
+  answered = by (measured rs cs) refl
     where
-      by : (b : Bool) → formed rs cs ≡ b → answerOf (costsOf cs) (length (piecesOf rs)) (piecesOf rs) ≡ Judged v
-      by true e = let h : said (answerOf (costsOf cs) (length (piecesOf rs)) (piecesOf rs)) ≡ said (Judged v) = sym (reply-true rs cs e) ∙ is in cc
+      by : (b : Bool) → measured rs cs ≡ b → answerOf (costsSpelt cs) (length (piecesOf rs)) (piecesOf rs) ≡ Judged v
+      by true e = let h : said (answerOf (costsSpelt cs) (length (piecesOf rs)) (piecesOf rs)) ≡ said (Judged v) = sym (reply-true rs cs e) ∙ is in cc
       by false e = let h = sym (reply-false rs cs e) ∙ is in let z : _≡_ {A = ℕ} 0 1 = cc in absurd (omega arith)
 
   pub judged-sized : Each Sized (piecesOf rs)
-  judged-sized = subst (Each Sized) (take-length (piecesOf rs)) (answered-sized (costsOf cs) (length (piecesOf rs)) (piecesOf rs) v answered)
+  judged-sized = subst (Each Sized) (take-length (piecesOf rs)) (answered-sized (costsSpelt cs) (length (piecesOf rs)) (piecesOf rs) v answered)
 
-  pub judged-verdict : verdictOf (costsOf cs) (piecesOf rs) ≡ v
-  judged-verdict = ap (verdictOf (costsOf cs)) (sym (take-length (piecesOf rs))) ∙ answered-verdict (costsOf cs) (length (piecesOf rs)) (piecesOf rs) v answered
+  pub judged-verdict : verdictOf (costsSpelt cs) (piecesOf rs) ≡ v
+  judged-verdict = ap (verdictOf (costsSpelt cs)) (sym (take-length (piecesOf rs))) ∙ answered-verdict (costsSpelt cs) (length (piecesOf rs)) (piecesOf rs) v answered

@@ -23,8 +23,8 @@ use Rattle.demand.specs.declared.Answer.{Answer}
 use Rattle.demand.specs.declared.Answer.the-variants.{Judged, Refused}
 use Rattle.demand.specs.Answer.{Told, told, answerOf}
 use Rattle.demand.proofs.AnswerLaws.{answer-carries}
-use Rattle.spardimple.specs.Bytes.{piecesOf, costsOf}
-use Rattle.spardimple.specs.Numbers.{number, Reply, toldReply, formed, replyOf, verdictNumber, malformed, said}
+use Rattle.spardimple.specs.Bytes.{piecesOf, costsSpelt}
+use Rattle.spardimple.specs.Numbers.{number, Reply, toldReply, measured, replyOf, verdictNumber, malformed, said}
 
 -- ---- no two answers share a number
 
@@ -78,24 +78,24 @@ answer-one a b small less e = let same : said a ≡ said b = number-one (said a)
 -- ---- the refusals in their order
 
 module _ (rs cs : List ℕ) where
-  pub reply-true : formed rs cs ≡ true → replyOf rs cs ≡ said (answerOf (costsOf cs) (length (piecesOf rs)) (piecesOf rs))
+  pub reply-true : measured rs cs ≡ true → replyOf rs cs ≡ said (answerOf (costsSpelt cs) (length (piecesOf rs)) (piecesOf rs))
   unfolding replyOf
   reply-true e = simp e
 
-  pub reply-false : formed rs cs ≡ false → replyOf rs cs ≡ malformed
+  pub reply-false : measured rs cs ≡ false → replyOf rs cs ≡ malformed
   unfolding replyOf
   reply-false e = simp e
 
   pub reply-records : (length rs % 28 ≡ 0 → ⊥) → replyOf rs cs ≡ malformed
-  unfolding formed
+  unfolding measured
   reply-records odd = reply-false (simp (ne-eqb (length rs % 28) 0 odd))
 
   pub reply-costs : length rs % 28 ≡ 0 → (length cs ≡ 36 → ⊥) → replyOf rs cs ≡ malformed
-  unfolding formed
+  unfolding measured
   reply-costs whole odd = reply-false (simp (eq-eqb (length rs % 28) 0 whole, ne-eqb (length cs) 36 odd))
 
-  pub reply-formed : length rs % 28 ≡ 0 → length cs ≡ 36 → replyOf rs cs ≡ said (answerOf (costsOf cs) (length (piecesOf rs)) (piecesOf rs))
-  unfolding formed
+  pub reply-formed : length rs % 28 ≡ 0 → length cs ≡ 36 → replyOf rs cs ≡ said (answerOf (costsSpelt cs) (length (piecesOf rs)) (piecesOf rs))
+  unfolding measured
   reply-formed whole nine = reply-true (simp (eq-eqb (length rs % 28) 0 whole, eq-eqb (length cs) 36 nine))
 
   -- the number of a reply that is known
@@ -106,10 +106,10 @@ module _ (rs cs : List ℕ) where
 -- ---- any lent bytes
 
 pub reply-carries : (rs cs : List ℕ) → toldReply (replyOf rs cs) .carries < 2 ^ 32
-reply-carries rs cs = look (formed rs cs) refl
+reply-carries rs cs = look (measured rs cs) refl
   where
-    look : (b : Bool) → formed rs cs ≡ b → toldReply (replyOf rs cs) .carries < 2 ^ 32
-    look true e = rw (reply-true rs cs e) (omega (arith, answer-carries (costsOf cs) (length (piecesOf rs)) (piecesOf rs)))
+    look : (b : Bool) → measured rs cs ≡ b → toldReply (replyOf rs cs) .carries < 2 ^ 32
+    look true e = rw (reply-true rs cs e) (omega (arith, answer-carries (costsSpelt cs) (length (piecesOf rs)) (piecesOf rs)))
     look false e = rw (reply-false rs cs e) (omega arith)
 
 pub verdict-number-one : (rs cs ss ds : List ℕ) → verdictNumber rs cs ≡ verdictNumber ss ds → replyOf rs cs ≡ replyOf ss ds

@@ -66,7 +66,7 @@ use Rattle.listing.proofs.Theorems.{listing-placed, header-counts, listing-dete
 use Rattle.edits.specs.Edits.{byName, TaskEdit, tasksHeld, editOf, accepted, Held, played}
 use Rattle.edits.specs.Kept.{inOrder, Keeps, editedName, Ahead}
 use Rattle.edits.proofs.Theorems.{plan-held, edit-refused, edit-does, after-edits-afresh, edit-before, edit-after, same-stand}
-use Rattle.spardimple.specs.Bytes.{piecesOf, costsOf}
+use Rattle.spardimple.specs.Bytes.{piecesOf, costsSpelt}
 use Rattle.spardimple.specs.Numbers.{said, replyOf, verdictNumber}
 use Rattle.spardimple.specs.Sheets.{refused, written, machineIn, costsIn, tasksIn, planIn, paperOf, refusal, toldPaper, listingNumber, listingLeft}
 use Rattle.spardimple.proofs.NumberLaws.{verdict-number-one}
@@ -113,24 +113,24 @@ refused-state e s = edit-refused e s
 
 module _ (rs cs : List ℕ) where
   pub passes : replyOf rs cs ≡ said (Judged Passes)
-      → ((coreOf (costsOf cs) (piecesOf rs) ≡ []) ⊎ ((l : ℕ) × Least (Holds (busySum (coreOf (costsOf cs) (piecesOf rs)))) l × (l ≤ busyMost)))
-      × ((t : ℕ) → Live (coreOf (costsOf cs) (piecesOf rs)) t → demand (stall (costsOf cs)) (coreOf (costsOf cs) (piecesOf rs)) t ≤ t)
+      → ((coreOf (costsSpelt cs) (piecesOf rs) ≡ []) ⊎ ((l : ℕ) × Least (Holds (busySum (coreOf (costsSpelt cs) (piecesOf rs)))) l × (l ≤ busyMost)))
+      × ((t : ℕ) → Live (coreOf (costsSpelt cs) (piecesOf rs)) t → demand (stall (costsSpelt cs)) (coreOf (costsSpelt cs) (piecesOf rs)) t ≤ t)
   passes is =
       let sizes = judged-sized rs cs Passes is in
       let so = judged-verdict rs cs Passes is in
-      (passes-busy (costsOf cs) (piecesOf rs) sizes so, passes-all (costsOf cs) (piecesOf rs) sizes so)
+      (passes-busy (costsSpelt cs) (piecesOf rs) sizes so, passes-all (costsSpelt cs) (piecesOf rs) sizes so)
 
   pub overloaded : (t : ℕ) → replyOf rs cs ≡ said (Judged (Overloaded t))
-      → Live (coreOf (costsOf cs) (piecesOf rs)) t × (t < demand (stall (costsOf cs)) (coreOf (costsOf cs) (piecesOf rs)) t)
-      × ((t₀ : ℕ) × (l : ℕ) × Span (coreOf (costsOf cs) (piecesOf rs)) t₀ l × Worst (stall (costsOf cs)) (coreOf (costsOf cs) (piecesOf rs)) t₀ l t)
+      → Live (coreOf (costsSpelt cs) (piecesOf rs)) t × (t < demand (stall (costsSpelt cs)) (coreOf (costsSpelt cs) (piecesOf rs)) t)
+      × ((t₀ : ℕ) × (l : ℕ) × Span (coreOf (costsSpelt cs) (piecesOf rs)) t₀ l × Worst (stall (costsSpelt cs)) (coreOf (costsSpelt cs) (piecesOf rs)) t₀ l t)
   overloaded t is =
       let sizes = judged-sized rs cs (Overloaded t) is in
       let so = judged-verdict rs cs (Overloaded t) is in
-      let shown = overloaded-live (costsOf cs) (piecesOf rs) sizes t so in
-      (shown .0, shown .1, overloaded-worst (costsOf cs) (piecesOf rs) sizes t so)
+      let shown = overloaded-live (costsSpelt cs) (piecesOf rs) sizes t so in
+      (shown .0, shown .1, overloaded-worst (costsSpelt cs) (piecesOf rs) sizes t so)
 
-  pub undecided : replyOf rs cs ≡ said (Judged Undecided) → (l : ℕ) → l ≤ busyMost → Holds (busySum (coreOf (costsOf cs) (piecesOf rs))) l → ⊥
-  undecided is = undecided-only (costsOf cs) (piecesOf rs) (judged-sized rs cs Undecided is) (judged-verdict rs cs Undecided is)
+  pub undecided : replyOf rs cs ≡ said (Judged Undecided) → (l : ℕ) → l ≤ busyMost → Holds (busySum (coreOf (costsSpelt cs) (piecesOf rs))) l → ⊥
+  undecided is = undecided-only (costsSpelt cs) (piecesOf rs) (judged-sized rs cs Undecided is) (judged-verdict rs cs Undecided is)
 
 -- ---- demand 2: the plan
 

@@ -7,7 +7,7 @@
 --   pieceAt s at         the piece that they spell
 --   firstPieces s n      the first n pieces of s
 --   piecesOf s           the pieces that s spells
---   costsOf s            the costs that s spells, in the sheet's order
+--   costsSpelt s            the costs that s spells, in the sheet's order
 use mathlib.Core.Bool.{cond}
 use mathlib.Core.List.{List, [], _∷_, _++_}
 use Prim.Native.Nat.{ℕ, zero, suc, _+_, _*_, _/_}
@@ -46,8 +46,8 @@ firstPieces s (suc n) = firstPieces s n ++ (pieceAt s (28 * n) ∷ [])
 unfoldable pub piecesOf : List ℕ → List Piece
 piecesOf s = firstPieces s (length s / 28)
 
-unfoldable pub costsOf : List ℕ → Costs
-costsOf s = record {
+unfoldable pub costsSpelt : List ℕ → Costs
+costsSpelt s = record {
   relo = numberAt s 0;
   schedo = numberAt s 4;
   tseto = numberAt s 8;

@@ -1,7 +1,7 @@
 -- A `Run` that a lent run of records was copied into.
 --
---   Holds ps qs          qs holds the records ps, where there is room for all: more are refused by their count
---   Holding ps r         r counts the records ps, and holds them
+--   CopiedIn ps qs          qs holds the records ps, where there is room for all: more are refused by their count
+--   Copied ps r         r counts the records ps, and holds them
 use mathlib.Core.Path.{_≡_}
 use mathlib.Core.List.{List}
 use Prim.Native.Nat.{_≤_}
@@ -10,9 +10,9 @@ use Rattle.demand.specs.declared.Piece.{Piece}
 use Rattle.demand.specs.declared.Run.{Run}
 use Rattle.demand.specs.Sizes.{runMost}
 
-abbrev pub Holds : List Piece → List Piece → Type 0
-Holds ps qs = length ps ≤ runMost → take (length ps) qs ≡ ps
+abbrev pub CopiedIn : List Piece → List Piece → Type 0
+CopiedIn ps qs = length ps ≤ runMost → take (length ps) qs ≡ ps
 
-pub record Holding (ps : List Piece) (r : Run) : Type 0 where
+pub record Copied (ps : List Piece) (r : Run) : Type 0 where
   pub counts : r .count ≡ length ps
-  pub holds : Holds ps (r .pieces)
+  pub holds : CopiedIn ps (r .pieces)

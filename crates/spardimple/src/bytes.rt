@@ -8,8 +8,8 @@ ghost use mathlib.Core.Path.{_≡_};
 ghost use Prim.Native.Nat.{_+_, _*_, _≤_, _<_};
 ghost use lib.ListN.{length};
 ghost use Rattle.demand.specs.Records.{recordsOf};
-ghost use Rattle.spardimple.specs.Bytes.{numberAt, pieceAt, piecesOf, costsOf};
-ghost use Rattle.spardimple.specs.Runs.{Holds};
+ghost use Rattle.spardimple.specs.Bytes.{numberAt, pieceAt, piecesOf, costsSpelt};
+ghost use Rattle.spardimple.specs.Runs.{CopiedIn};
 
 fn wide(b: u8) -> u64
     ensures { λ r. ⌜ (r ≡ b) × (r < 256) ⌝ }
@@ -68,7 +68,7 @@ pub fn room_for(n: usize) -> usize
 // The records that the bytes spell, put as numbers where there is room for all.
 pub fn read_records<'a>(records: &'a mut [u64; 553], s: &'a [u8])
     requires { ⌜ length (now records) ≡ 553 ⌝ }
-    ensures { λ r. ⌜ Holds (piecesOf (now (s .entry))) (recordsOf (now (records .exit))) ⌝ }
+    ensures { λ r. ⌜ CopiedIn (piecesOf (now (s .entry))) (recordsOf (now (records .exit))) ⌝ }
 {
     let most = room_for(s.len() / 28);
     let mut i: usize = 0;
@@ -81,7 +81,7 @@ pub fn read_records<'a>(records: &'a mut [u64; 553], s: &'a [u8])
 // The nine costs that the bytes spell, in the sheet's order.
 pub fn read_costs(s: &[u8]) -> Costs
     requires { ⌜ length (now s) ≡ 36 ⌝ }
-    ensures { λ r. ⌜ r ≡ costsOf (now (s .entry)) ⌝ }
+    ensures { λ r. ⌜ r ≡ costsSpelt (now (s .entry)) ⌝ }
 {
     Costs {
         relo: number_at(s, 0),

@@ -5,7 +5,7 @@ use demand::Run;
 ghost use mathlib.Core.Path.{_≡_};
 ghost use lib.ListN.{length, set};
 ghost use Rattle.spardimple.specs.Bytes.{outside};
-ghost use Rattle.spardimple.specs.Runs.{Holding};
+ghost use Rattle.spardimple.specs.Runs.{Copied};
 
 // A piece outside the sizes.
 pub fn nothing() -> Piece
@@ -47,7 +47,7 @@ pub fn put(run: Run, i: usize, piece: Piece) -> Run
 
 // The lent records as a run: a walk by hand, since no covered function goes through a slice of structs.
 pub fn gather(pieces: &[Piece]) -> Run
-    ensures { λ r. ⌜ Holding (now (pieces .entry)) r ⌝ }
+    ensures { λ r. ⌜ Copied (now (pieces .entry)) r ⌝ }
 {
     let mut run = empty(pieces.len());
     let mut i = 0;

@@ -44,7 +44,7 @@ use Rattle.demand.specs.declared.Costs.{Costs}
 use Rattle.demand.specs.declared.Answer.{Answer}
 use Rattle.demand.specs.declared.Run.{Run}
 use Rattle.demand.specs.Answer.{answerOf}
-use Rattle.spardimple.specs.Runs.{Holding}
+use Rattle.spardimple.specs.Runs.{Copied}
 use Rattle.spardimple.proofs.HoldingLaws.{holding-answer}
 use Rattle.demand.proofs.Piece as P
 use Rattle.demand.proofs.Costs as K
@@ -89,8 +89,8 @@ module _ {M : Type 1} (𝓤 : URA M) (H : Heap 𝓤) (A : Atoms 𝓤) (at-mem : 
   Judge = tripleOf 𝓤 H A judge.signature (judge.spec 𝓤 H A at-mem run)
 
   gathered-of : (κ : Lft) (l : Lent) (r : Run)
-      → ent 𝓤 (ensured 𝓤 H A gather.ended (gather.clauses 𝓤 H A at-mem run) (κ, tt) l tt r) (fact 𝓤 (Holding (l .0 .now) r))
-  gathered-of κ l r = exE 𝓤 _ (λ ws. snd∗ 𝓤 (sem 𝓤 H A (lasts gather.ended (κ, tt) l ws)) (fact 𝓤 (Holding (l .0 .now) r)))
+      → ent 𝓤 (ensured 𝓤 H A gather.ended (gather.clauses 𝓤 H A at-mem run) (κ, tt) l tt r) (fact 𝓤 (Copied (l .0 .now) r))
+  gathered-of κ l r = exE 𝓤 _ (λ ws. snd∗ 𝓤 (sem 𝓤 H A (lasts gather.ended (κ, tt) l ws)) (fact 𝓤 (Copied (l .0 .now) r)))
 
   judged-of : (k : Costs) (s : Run) (a : Answer)
       → ent 𝓤 (ensured 𝓤 H A judge.ended (judge.clauses 𝓤 H A at-mem run) tt (k, (s, tt)) tt a) (fact 𝓤 (a ≡ answerOf k (s .count) (s .pieces)))
@@ -160,8 +160,8 @@ module _ {M : Type 1} (𝓤 : URA M) (H : Heap 𝓤) (A : Atoms 𝓤) (W : Given
         calls-at ! fm (Gather 𝓤 H A at-mem run) known-gather to-gather (and-then ! (load ! (from ! (stop !)) (look ! 4 refl)) (no-more !)) (λ w.
         use1 W (later (some (λ (r : Run). ((‵ (flft κ q) ⊛ ‵ ftrue) ⊛ ‵ (R.the-row .own r (w ∷ []))) ⊛ raw
         (ensured 𝓤 H A gather.ended (gather.clauses 𝓤 H A at-mem run) (κ, tt) l tt r)))) (id⊢ 𝓤 _) $ await ! tt $ pick ! (λ r.
-        split ! $ move ! (1 ∷ []) $ use1 W (raw (fact 𝓤 (Holding ys r))) (gathered-of 𝓤 H A at-mem run κ l r) $
-        heard ! (Holding ys r) (λ holding. split ! $ move ! (1 ∷ []) $
+        split ! $ move ! (1 ∷ []) $ use1 W (raw (fact 𝓤 (Copied ys r))) (gathered-of 𝓤 H A at-mem run κ l r) $
+        heard ! (Copied ys r) (λ holding. split ! $ move ! (1 ∷ []) $
         peeks ! R.the-row (Is R.the-row) (shows 𝓤 H A R.the-row) r (w ∷ []) (λ made.
         land ! (from ! (stop !)) (init ! 3 refl (LL.lawful R.the-type R′.the-laws 𝓤 H A W .typed r _ made .0)) $
         rewrite ! 3 (λ (u : Val). ‵ (fat fullShare (spell code.Mir.table (pointee (R.the-row .written))) l₃ 0 u))

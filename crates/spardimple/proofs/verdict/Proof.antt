@@ -8,7 +8,7 @@ use Rattle.demand.specs.declared.Answer.{Answer}
 use Rattle.demand.specs.declared.Costs.{Costs}
 use Rattle.demand.specs.Answer.{answerOf, told}
 use Rattle.demand.proofs.AnswerLaws.{answer-carries}
-use Rattle.spardimple.specs.Bytes.{piecesOf, costsOf}
+use Rattle.spardimple.specs.Bytes.{piecesOf, costsSpelt}
 use Rattle.spardimple.specs.Numbers.{number, malformed, said}
 use Rattle.spardimple.proofs.ByteLaws.{pieces-length}
 use Rattle.spardimple.proofs.HoldingLaws.{holds-answer}
@@ -81,15 +81,15 @@ returns-3 c =
     let cs = start .costs .now in
     let read-records = c .before .before .before .before .read-records in
     let run = recordsOf (read-records .last .0) in
-    let answer : c .before .judge-records .result ≡ answerOf (costsOf cs) (length (piecesOf rs)) (piecesOf rs) =
+    let answer : c .before .judge-records .result ≡ answerOf (costsSpelt cs) (length (piecesOf rs)) (piecesOf rs) =
     c .before .judge-records .ensures
     ∙ (ap (λ (k : Costs). answerOf k (length rs / 28) run) (c .before .before .before .read-costs .ensures)
-    ∙ (ap (λ (n : ℕ). answerOf (costsOf cs) n run) (sym (pieces-length rs)) ∙ holds-answer (piecesOf rs) (costsOf cs) run (read-records .ensures))) in
+    ∙ (ap (λ (n : ℕ). answerOf (costsSpelt cs) n run) (sym (pieces-length rs)) ∙ holds-answer (piecesOf rs) (costsSpelt cs) run (read-records .ensures))) in
     let if2 = c .before .before .before .before .before .before .if2 in
     let if1 = c .before .before .before .before .before .before .before .if1 in
     c .number-of .ensures
     ∙ (ap (λ (a : Answer). number (told a)) answer
-    ∙ sym (number-reply rs cs (said (answerOf (costsOf cs) (length (piecesOf rs)) (piecesOf rs))) (reply-formed rs cs (if1 .left) (if2 .left))))
+    ∙ sym (number-reply rs cs (said (answerOf (costsSpelt cs) (length (piecesOf rs)) (piecesOf rs))) (reply-formed rs cs (if1 .left) (if2 .left))))
 
 pub verdict-spec : {M : Type 1} → statement M
 verdict-spec =

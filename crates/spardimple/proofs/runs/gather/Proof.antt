@@ -52,7 +52,7 @@ use denote.Exit.{yes}
 use Rattle.demand.specs.declared.Piece.{Piece}
 use Rattle.demand.specs.declared.Run.{Run}
 use Rattle.spardimple.specs.Bytes.{outside}
-use Rattle.spardimple.specs.Runs.{Holding}
+use Rattle.spardimple.specs.Runs.{Copied}
 use Rattle.spardimple.proofs.HoldingLaws.{Filled, filled-none, filled-put, filled-holding}
 use Rattle.demand.proofs.Piece as P
 use Rattle.demand.proofs.Piece.Laws as P′
@@ -156,7 +156,7 @@ module _ {M : Type 1} (𝓤 : URA M) (H : Heap 𝓤) (A : Atoms 𝓤) (W : Given
   abbrev Post : Val → SProp 𝓤
   Post = walkOf 𝓤 H A f.ended stayed (f.clauses 𝓤 H A at-mem run) .post (((κ, tt), (q, tt), tt, x, at), tt)
 
-  exits : (s : Run) → Holding ys s → Is R.the-row s (r-val s ∷ []) → ent 𝓤 (⋆ 𝓤 H A (‵ (flft κ q) ∷ ‵ Own ∷ [])) (Post (r-val s))
+  exits : (s : Run) → Copied ys s → Is R.the-row s (r-val s ∷ []) → ent 𝓤 (⋆ 𝓤 H A (‵ (flft κ q) ∷ ‵ Own ∷ [])) (Post (r-val s))
   exits s e is =
       qed W (‵ (flft κ q) ∷ ‵ Own ∷ []) ∵
       suffices ! _ (ends-at 𝓤 H A f.ended stayed (f.clauses 𝓤 H A at-mem run) W (((κ, tt), (q, tt), tt, x, at), tt) (r-val s) s (tt, tt) (tt, tt)) $ says ! e $
@@ -263,7 +263,7 @@ module _ {M : Type 1} (𝓤 : URA M) (H : Heap 𝓤) (A : Atoms 𝓤) (W : Given
           by ! (k r e (subst (Is R.the-row r) (LL.tells R.the-type R′.the-laws r (w ∷ []) made) made))))))))
 
       -- the turn that leaves the loop, and the rest of the body
-      ends : (s : Run) (X : SProp 𝓤) → Holding ys s → Is R.the-row s (r-val s ∷ [])
+      ends : (s : Run) (X : SProp 𝓤) → Copied ys s → Is R.the-row s (r-val s ∷ [])
           → ent 𝓤 (⋆ 𝓤 H A (At n s)) (Wp 𝓤 H C Λ En code.Mir.turn-1 (afterTurn 𝓤 H X Left))
       unfolding afterTurn
       ends s X e is =
