@@ -22,7 +22,7 @@ use Rattle.lines.specs.declared.Number.{Number}
 use Rattle.lines.specs.Lines.{isDigit, every, unled, isNumber, valueFrom, valueOf, nameOf}
 use Rattle.demand.specs.Lists.{padded}
 use Rattle.task.specs.Names.{nameMost}
-use Rattle.lines.specs.Answers.{noNumber, numberOf}
+use Rattle.lines.specs.ways.NumbersRead.{noNumber, numberOf}
 use Rattle.demand.proofs.PaddedLaws.{padded-put, padded-cut}
 
 pub both-left : (a b : Bool) → (a && b) ≡ true → a ≡ true

@@ -19,9 +19,8 @@ use Rattle.lines.specs.declared.Word.{Word}
 use Rattle.lines.specs.declared.Numbers.{Numbers}
 use Rattle.lines.specs.Lines.{tab, upTo, beyond, fields, every, isNumber, nameOf, isName}
 use Rattle.demand.specs.Lists.{padded}
-use Rattle.lines.specs.Forms.{noLine, machineLine, costLine, partLine, fitLine, machineOf, costsOf, timesOf, numbered}
-use Rattle.lines.specs.Forms.{values, machineForm, costForm, partForm, fitForm, wordOf, formOf, lineOf}
-use Rattle.lines.specs.Answers.{numbersMost, noNumbers, numbersIn}
+use Rattle.lines.specs.Forms.{noLine, machineLine, costLine, partLine, fitLine, machineOf, costsOf, timesOf, numbered, values, machineForm, costForm, partForm, fitForm, wordOf, formOf, lineOf}
+use Rattle.lines.specs.ways.NumbersRead.{numbersMost, noNumbers, numbersIn}
 use Rattle.demand.proofs.PaddedLaws.{padded-at}
 use Rattle.lines.proofs.LineLaws.{rest, run-take, run-whole, run-last, run-more}
 use Rattle.lines.proofs.FieldLaws.{both-left, both-right}

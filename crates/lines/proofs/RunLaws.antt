@@ -18,7 +18,7 @@ use Rattle.lines.specs.declared.Numbers.{Numbers}
 use Rattle.lines.specs.Lines.{tab, upTo, beyond, fields, every, isNumber, valueOf}
 use Rattle.demand.specs.Lists.{padded}
 use Rattle.lines.specs.Forms.{values}
-use Rattle.lines.specs.Answers.{numberOf, numbersMost, noNumbers, numbersIn}
+use Rattle.lines.specs.ways.NumbersRead.{numberOf, numbersMost, noNumbers, numbersIn}
 use Rattle.lines.proofs.LineLaws.{rest, rest-drop, rest-length, rest-rest, run-le, run-take, run-last, run-more}
 use Rattle.demand.proofs.PaddedLaws.{padded-none, padded-put}
 use Rattle.lines.proofs.FieldLaws.{number-ok, number-value}

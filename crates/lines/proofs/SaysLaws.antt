@@ -20,8 +20,7 @@ use Rattle.lines.specs.declared.Word.{Word}
 use Rattle.lines.specs.declared.Line.{Line}
 use Rattle.lines.specs.Lines.{bytesOf, tab, upTo, beyond, fields, nameOf, isName}
 use Rattle.demand.specs.Lists.{padded}
-use Rattle.lines.specs.Forms.{noLine, machineLine, machineOf, costLine, costsOf, partLine, fitLine, timesOf, numbered}
-use Rattle.lines.specs.Forms.{values, machineForm, costForm, partForm, fitForm, wordOf, formOf, lineOf}
+use Rattle.lines.specs.Forms.{noLine, machineLine, machineOf, costLine, costsOf, partLine, fitLine, timesOf, numbered, values, machineForm, costForm, partForm, fitForm, wordOf, formOf, lineOf}
 use Rattle.demand.proofs.PaddedLaws.{padded-length, padded-take}
 use Rattle.lines.proofs.FieldLaws.{both-left, both-right}
 

@@ -2,4 +2,4 @@
 pub mod Lines
 pub mod Forms
 pub mod Orders
-pub mod Answers
+pub mod ways

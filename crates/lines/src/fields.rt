@@ -9,7 +9,7 @@ ghost use mathlib.Core.Path.{_≡_};
 ghost use Prim.Native.Nat.{_<_};
 ghost use Rattle.task.specs.Names.{sameBytes};
 ghost use Rattle.lines.specs.Lines.{fields, isDigit, unled, nameOf};
-ghost use Rattle.lines.specs.Answers.{noNumber, numberOf, noNumbers, numbersIn};
+ghost use Rattle.lines.specs.ways.NumbersRead.{noNumber, numberOf, noNumbers, numbersIn};
 
 // Whether two runs of bytes are equal: their lengths and all their bytes are.
 pub fn same_run<'a>(a: &'a [u8], b: &'a [u8]) -> bool

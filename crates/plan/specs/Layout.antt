@@ -19,6 +19,8 @@ use Rattle.demand.specs.Kinds.{kindNumber, kindOf}
 use Rattle.plan.specs.declared.Stored.{Stored}
 use Rattle.plan.specs.declared.Layout.{Layout}
 use Rattle.walks.specs.Way.{Placed}
+use Rattle.task.specs.Tasks.{coresMost}
+use Rattle.plan.specs.Sizes.{piecesMost, rowMost}
 
 abbrev pub stored : ℕ → Piece → Stored
 stored k q = record { task = k; kind = kindNumber (q .kind); budget = q .budget; window = q .window; period = q .period; jitter = q .jitter; preempt = q .preempt; migrate = q .migrate }
@@ -36,13 +38,13 @@ unfoldable pub putOf : Layout → ℕ → ℕ → Piece → Layout
 putOf s p k q = record {
   count = s .count + 1;
   pieces = set (s .pieces) (s .count) (stored k q);
-  rows = set (s .rows) (p * 64 + getD (s .lens) p 0) (s .count);
+  rows = set (s .rows) (p * rowMost + getD (s .lens) p 0) (s .count);
   lens = set (s .lens) p (getD (s .lens) p 0 + 1);
   words = set (s .words) p (bitOr (getD (s .words) p 0) (2 ^ k));
 }
 
 unfoldable pub none : Layout
-none = record { count = 0; pieces = replicate 79 blank; rows = replicate 1024 0; lens = replicate 16 0; words = replicate 16 0 }
+none = record { count = 0; pieces = replicate piecesMost blank; rows = replicate (coresMost * rowMost) 0; lens = replicate coresMost 0; words = replicate coresMost 0 }
 
 abbrev pub layoutOn : Layout → List (Placed ℕ) → Layout
 layoutOn s [] = s
@@ -50,4 +52,4 @@ layoutOn s (e ∷ l) = layoutOn (putOf s (e .on) (e .item) (e .piece)) l
 
 -- the number of tasks on a core: the ones of its word
 unfoldable pub tasksOn : Layout → ℕ → ℕ
-tasksOn s p = cond (leb 16 p) 0 (ones (getD (s .words) p 0))
+tasksOn s p = cond (leb coresMost p) 0 (ones (getD (s .words) p 0))

@@ -16,19 +16,21 @@ use Rattle.plan.specs.declared.Layout.{Layout}
 use Rattle.walks.specs.Way.{Placed, onCore, rowOf}
 use Rattle.plan.specs.Layout.{stored, blank, pieceNumbered}
 use Rattle.plan.specs.Places.{ofTask}
+use Rattle.task.specs.Tasks.{coresMost}
+use Rattle.plan.specs.Sizes.{rowMost}
 
 abbrev pub storedOf : Placed ℕ → Stored
 storedOf e = stored (e .item) (e .piece)
 
 abbrev pub numbersOn : Layout → ℕ → List ℕ
-numbersOn s q = take (getD (s .lens) q 0) (drop (q * 64) (s .rows))
+numbersOn s q = take (getD (s .lens) q 0) (drop (q * rowMost) (s .rows))
 
 pub record LayoutShows (s : Layout) (l : List (Placed ℕ)) : Type 0 where
   pub count : s .count ≡ length l
   pub pieces : take (s .count) (s .pieces) ≡ map storedOf l
-  pub lens : (q : ℕ) → q < 16 → getD (s .lens) q 0 ≡ length (rowOf q l)
-  pub numbers : (q : ℕ) → q < 16 → map (λ i. getD (s .pieces) i blank) (numbersOn s q) ≡ map storedOf (onCore q l)
-  pub rows : (q : ℕ) → q < 16 → map (pieceNumbered (s .pieces)) (numbersOn s q) ≡ rowOf q l
+  pub lens : (q : ℕ) → q < coresMost → getD (s .lens) q 0 ≡ length (rowOf q l)
+  pub numbers : (q : ℕ) → q < coresMost → map (λ i. getD (s .pieces) i blank) (numbersOn s q) ≡ map storedOf (onCore q l)
+  pub rows : (q : ℕ) → q < coresMost → map (pieceNumbered (s .pieces)) (numbersOn s q) ≡ rowOf q l
 
 abbrev pub bitOf : ℕ → ℕ → ℕ
 bitOf w k = w / 2 ^ k % 2

@@ -1,15 +1,21 @@
 // The plan's rows and words, one piece at a time.
 use crate::Layout;
+use crate::PIECES_MOST;
+use crate::PLACED_NUMBERS;
+use crate::ROW_MOST;
 use crate::Stored;
 use crate::seats::seat_at;
 use demand::Piece;
 use demand::kind_number;
 use demand::kind_of;
+use task::CORES_MOST;
 ghost use mathlib.Core.Path.{_≡_};
 ghost use Prim.Native.Nat.{_<_, _≤_, _^_};
 ghost use lib.Bits.{bitOr};
 ghost use Rattle.plan.specs.Layout.{stored, keptPiece, none, layoutOn};
 ghost use Rattle.plan.specs.ways.PlacedArray.{placedIn, HasRoom};
+ghost use Rattle.plan.specs.Sizes.{piecesMost};
+ghost use Rattle.task.specs.Tasks.{tasksMost};
 
 // A piece of the task at place k, as the plan keeps it.
 pub fn store(k: usize, q: Piece) -> Stored
@@ -44,7 +50,7 @@ pub fn piece_of(s: Stored) -> Piece
 }
 
 pub fn with_bit(word: u64, k: usize) -> u64
-    requires { ⌜ k < 64 ⌝ }
+    requires { ⌜ k < tasksMost ⌝ }
     ensures { λ r. ⌜ r ≡ bitOr word (2 ^ k) ⌝ }
 {
     word | (1u64 << k)
@@ -66,16 +72,16 @@ pub fn empty() -> Layout
     };
     Layout {
         count: 0,
-        pieces: [q; 79],
-        rows: [0usize; 1024],
-        lens: [0usize; 16],
-        words: [0u64; 16],
+        pieces: [q; PIECES_MOST],
+        rows: [0usize; CORES_MOST * ROW_MOST],
+        lens: [0usize; CORES_MOST],
+        words: [0u64; CORES_MOST],
     }
 }
 
 // The first n that were placed, one piece at a time.
-pub fn layout_of(placed: &[u64; 711], n: usize) -> Layout
-    requires { ⌜ (n ≤ 79) × HasRoom (placedIn (now placed) n) ⌝ }
+pub fn layout_of(placed: &[u64; PLACED_NUMBERS], n: usize) -> Layout
+    requires { ⌜ (n ≤ piecesMost) × HasRoom (placedIn (now placed) n) ⌝ }
     ensures { λ r. ⌜ r ≡ layoutOn none (placedIn (now (placed .entry)) n) ⌝ }
 {
     let mut s = empty();
@@ -88,7 +94,7 @@ pub fn layout_of(placed: &[u64; 711], n: usize) -> Layout
         let len = s.lens[p];
         let word = s.words[p];
         s.pieces[i] = store(k, q);
-        s.rows[p * 64 + len] = i;
+        s.rows[p * ROW_MOST + len] = i;
         s.lens[p] = len + 1;
         s.words[p] = with_bit(word, k);
         i += 1;

@@ -8,11 +8,13 @@ mod walk;
 
 use demand::Costs;
 use demand::Piece;
+use demand::RUN_NUMBERS;
 use demand::no_costs;
 use layouts::empty;
 use layouts::layout_of;
 use layouts::piece_of;
 use orders::order_of;
+use task::CORES_MOST;
 use task::Machine;
 use task::TASKS_MOST;
 use task::Tasks;
@@ -25,6 +27,18 @@ use walk::walk_over;
 ghost use mathlib.Core.Path.{_≡_};
 ghost use Rattle.plan.specs.Layout.{tasksOn, keptPiece};
 ghost use Rattle.plan.specs.Plan.{planOf, refused};
+
+/// The most pieces of a plan: 64 tasks and 15 splits.
+pub const PIECES_MOST: usize = 79;
+
+/// The most pieces on one core of it.
+pub const ROW_MOST: usize = 64;
+
+/// How many numbers what was placed is, nine to a piece.
+pub const PLACED_NUMBERS: usize = 9 * PIECES_MOST;
+
+/// How many numbers the times of a task list are, six to a task.
+pub const TIMES_NUMBERS: usize = 6 * TASKS_MOST;
 
 /// A piece as the plan keeps it: its task's place, from 0, its kind's number (0 whole, 1 first, 2 last), and its figures.
 pub struct Stored {
@@ -42,10 +56,10 @@ pub struct Stored {
 /// with a bit by place in the task list for every task that has a piece there. Zeros fill what is not used.
 pub struct Layout {
     pub count: usize,
-    pub pieces: [Stored; 79],
-    pub rows: [usize; 1024],
-    pub lens: [usize; 16],
-    pub words: [u64; 16],
+    pub pieces: [Stored; PIECES_MOST],
+    pub rows: [usize; CORES_MOST * ROW_MOST],
+    pub lens: [usize; CORES_MOST],
+    pub words: [u64; CORES_MOST],
 }
 
 /// A plan: machine, costs, task list, and what the walk over them placed.
@@ -73,7 +87,7 @@ pub struct Seat {
 /// A core's row on the walk: the numbers of its pieces, in placement order.
 pub struct Row {
     pub len: usize,
-    pub numbers: [usize; 64],
+    pub numbers: [usize; ROW_MOST],
 }
 
 /// A walk under way: the core, its row, and how many pieces are placed; or the place, from 1, of the task that it stuck at.
@@ -118,12 +132,12 @@ pub fn plan_tasks(machine: Machine, costs: Costs, tasks: Tasks) -> Reply
         return refuse(fault, 0);
     }
     let n = tasks.count;
-    let mut times: [u64; 384] = [0; 384];
+    let mut times: [u64; TIMES_NUMBERS] = [0; TIMES_NUMBERS];
     lay_times(&mut times, tasks);
-    let mut order: [usize; 64] = [0; 64];
+    let mut order: [usize; TASKS_MOST] = [0; TASKS_MOST];
     order_of(&times, n, &mut order);
-    let mut placed: [u64; 711] = [0; 711];
-    let mut records: [u64; 553] = [0; 553];
+    let mut placed: [u64; PLACED_NUMBERS] = [0; PLACED_NUMBERS];
+    let mut records: [u64; RUN_NUMBERS] = [0; RUN_NUMBERS];
     let end = walk_over(machine, costs, &times, n, &order, &mut placed, &mut records);
     let stuck = end.stuck;
     if 0 < stuck {
@@ -162,7 +176,7 @@ pub fn stored_piece(stored: Stored) -> Piece
 pub fn tasks_on(layout: Layout, core: usize) -> u64
     ensures exact { λ r. ⌜ r ≡ tasksOn layout core ⌝ }
 {
-    if 16 <= core {
+    if CORES_MOST <= core {
         return 0;
     }
     let word = layout.words[core];

@@ -1,12 +1,14 @@
 // What the walk placed, in one lent array of numbers, nine to a piece, in placement order.
+use crate::PLACED_NUMBERS;
 use crate::Seat;
 use demand::Piece;
 use demand::kind_number;
 use demand::kind_of;
 ghost use mathlib.Core.Path.{_≡_};
-ghost use Prim.Native.Nat.{_<_};
+ghost use Prim.Native.Nat.{_<_, _*_};
 ghost use lib.ListN.{length};
 ghost use Rattle.plan.specs.ways.PlacedArray.{seatOf, placedAt, Put};
+ghost use Rattle.plan.specs.Sizes.{piecesMost};
 
 fn wide(n: usize) -> u64
     ensures { λ r. ⌜ r ≡ n ⌝ }
@@ -21,8 +23,8 @@ fn narrow(n: u64) -> usize
 }
 
 // The piece with the number i, with its core and its task's place.
-pub fn seat_at(placed: &[u64; 711], i: usize) -> Seat
-    requires { ⌜ i < 79 ⌝ }
+pub fn seat_at(placed: &[u64; PLACED_NUMBERS], i: usize) -> Seat
+    requires { ⌜ i < piecesMost ⌝ }
     ensures { λ r. ⌜ seatOf (r .core) (r .task) (r .piece) ≡ placedAt (now (placed .entry)) i ⌝ }
 {
     let at = 9 * i;
@@ -46,8 +48,8 @@ pub fn seat_at(placed: &[u64; 711], i: usize) -> Seat
 }
 
 // The piece q of the task at place k, on the core p, goes behind the first n.
-pub fn put_seat(placed: &mut [u64; 711], n: usize, p: usize, k: usize, q: Piece)
-    requires { ⌜ (n < 79) × (length (now placed) ≡ 711) ⌝ }
+pub fn put_seat(placed: &mut [u64; PLACED_NUMBERS], n: usize, p: usize, k: usize, q: Piece)
+    requires { ⌜ (n < piecesMost) × (length (now placed) ≡ 9 * piecesMost) ⌝ }
     ensures { λ r. ⌜ Put (now (placed .entry)) n (seatOf p k q) (now (placed .exit)) ⌝ }
 {
     let at = 9 * n;

@@ -1,10 +1,11 @@
 // A list of tasks with zeros past its end; and its times, laid out once in one array of numbers, six to a task, and lent from then on.
+use crate::TIMES_NUMBERS;
 use task::TASKS_MOST;
 use task::Tasks;
 use task::Times;
 use task::no_task;
 ghost use mathlib.Core.Path.{_≡_};
-ghost use Prim.Native.Nat.{_<_, _≤_};
+ghost use Prim.Native.Nat.{_<_, _≤_, _*_};
 ghost use lib.ListN.{take, length, replicate};
 ghost use Rattle.plan.specs.ways.TimesArray.{timesAt, Laid, OthersKept};
 ghost use Rattle.demand.specs.Lists.{padded};
@@ -26,8 +27,8 @@ pub fn tidy(tasks: Tasks) -> Tasks
 }
 
 // The times of the task at place i.
-pub fn times_at(times: &[u64; 384], i: usize) -> Times
-    requires { ⌜ i < 64 ⌝ }
+pub fn times_at(times: &[u64; TIMES_NUMBERS], i: usize) -> Times
+    requires { ⌜ i < tasksMost ⌝ }
     ensures { λ r. ⌜ r ≡ timesAt (now (times .entry)) i ⌝ }
 {
     let at = 6 * i;
@@ -42,9 +43,9 @@ pub fn times_at(times: &[u64; 384], i: usize) -> Times
 }
 
 // The times t go to place i.
-pub fn put_times(times: &mut [u64; 384], i: usize, t: Times)
-    requires { ⌜ (i < 64) × (length (now times) ≡ 384) ⌝ }
-    ensures { λ r. ⌜ (timesAt (now (times .exit)) i ≡ t) × OthersKept i (now (times .entry)) (now (times .exit)) × (length (now (times .exit)) ≡ 384) ⌝ }
+pub fn put_times(times: &mut [u64; TIMES_NUMBERS], i: usize, t: Times)
+    requires { ⌜ (i < tasksMost) × (length (now times) ≡ 6 * tasksMost) ⌝ }
+    ensures { λ r. ⌜ (timesAt (now (times .exit)) i ≡ t) × OthersKept i (now (times .entry)) (now (times .exit)) × (length (now (times .exit)) ≡ 6 * tasksMost) ⌝ }
 {
     let at = 6 * i;
     times[at] = t.worst;
@@ -56,8 +57,8 @@ pub fn put_times(times: &mut [u64; 384], i: usize, t: Times)
 }
 
 // The times of the tasks go into an array of zeros.
-pub fn lay_times(times: &mut [u64; 384], tasks: Tasks)
-    requires { ⌜ (tasks .count ≤ 64) × (now times ≡ replicate 384 0) ⌝ }
+pub fn lay_times(times: &mut [u64; TIMES_NUMBERS], tasks: Tasks)
+    requires { ⌜ (tasks .count ≤ tasksMost) × (now times ≡ replicate (6 * tasksMost) 0) ⌝ }
     ensures { λ r. ⌜ Laid (now (times .exit)) (take (tasks .count) (tasks .list)) ⌝ }
 {
     let mut i: usize = 0;

@@ -1,12 +1,16 @@
 // The C=D walk. What it placed lies in a lent array, and the records to be judged in another.
 use crate::Going;
+use crate::PLACED_NUMBERS;
+use crate::ROW_MOST;
 use crate::Row;
+use crate::TIMES_NUMBERS;
 use crate::rows::lay_row;
 use crate::seats::put_seat;
 use crate::times::times_at;
 use demand::Answer;
 use demand::Costs;
 use demand::Piece;
+use demand::RUN_NUMBERS;
 use demand::Split;
 use demand::Splitting;
 use demand::Verdict;
@@ -15,13 +19,14 @@ use demand::last_piece;
 use demand::put_record;
 use splits::split_records;
 use task::Machine;
+use task::TASKS_MOST;
 use task::whole_piece;
 use verdicts::judge_records;
 ghost use mathlib.Core.Path.{_≡_};
 ghost use mathlib.Core.List.{[], _∷_, _++_};
-ghost use Prim.Native.Nat.{_+_, _-_, _<_};
+ghost use Prim.Native.Nat.{_+_, _-_, _<_, _*_};
 ghost use lib.ListN.{take, length};
-ghost use Rattle.demand.specs.Sizes.{Sized};
+ghost use Rattle.demand.specs.Sizes.{Sized, runMost};
 ghost use Rattle.demand.specs.Split.{greatestSplit, firstPiece, lastPiece};
 ghost use Rattle.demand.specs.Verdict.{verdictOf};
 ghost use Rattle.walks.specs.Way.{landed, walkOver};
@@ -30,12 +35,13 @@ ghost use Rattle.plan.specs.Walk.{wayFor};
 ghost use Rattle.plan.specs.ways.TimesArray.{wholeIn};
 ghost use Rattle.plan.specs.ways.PlacedArray.{seatOf, placedIn, Put};
 ghost use Rattle.plan.specs.ways.WalkGoing.{piecesOfRow, firstRecords, AskFits, SeatFits, BothFit, LandFits, seatedOf, nextOf, stickOf, beginOf, Both, Reach, WalkFits};
+ghost use Rattle.task.specs.Tasks.{coresMost, tasksMost};
 
 // The verdict on the first n records with one piece more, which then lies behind them.
-pub fn judge_with(costs: Costs, records: &mut [u64; 553], n: usize, q: Piece) -> Verdict
+pub fn judge_with(costs: Costs, records: &mut [u64; RUN_NUMBERS], n: usize, q: Piece) -> Verdict
     requires { ⌜ AskFits costs (now records) n ⌝ }
     requires { ⌜ Sized q ⌝ }
-    ensures { λ r. ⌜ (r ≡ verdictOf costs (firstRecords (now (records .entry)) n ++ (q ∷ []))) × (firstRecords (now (records .exit)) (n + 1) ≡ firstRecords (now (records .entry)) n ++ (q ∷ [])) × (length (now (records .exit)) ≡ 553) ⌝ }
+    ensures { λ r. ⌜ (r ≡ verdictOf costs (firstRecords (now (records .entry)) n ++ (q ∷ []))) × (firstRecords (now (records .exit)) (n + 1) ≡ firstRecords (now (records .entry)) n ++ (q ∷ [])) × (length (now (records .exit)) ≡ 7 * runMost) ⌝ }
 {
     put_record(records, n, q);
     let Answer::Judged(v) = judge_records(costs, records, n + 1) else {
@@ -45,7 +51,7 @@ pub fn judge_with(costs: Costs, records: &mut [u64; 553], n: usize, q: Piece) ->
 }
 
 // The greatest split of a whole piece beside the first n records.
-pub fn split_on(costs: Costs, grain: u64, records: &[u64; 553], n: usize, q: Piece) -> Split
+pub fn split_on(costs: Costs, grain: u64, records: &[u64; RUN_NUMBERS], n: usize, q: Piece) -> Split
     requires { ⌜ AskFits costs (now records) n ⌝ }
     requires { ⌜ Sized q ⌝ }
     ensures { λ r. ⌜ r ≡ greatestSplit costs grain (firstRecords (now (records .entry)) n) q ⌝ }
@@ -57,7 +63,7 @@ pub fn split_on(costs: Costs, grain: u64, records: &[u64; 553], n: usize, q: Pie
 }
 
 // A piece of the task at place k on the core.
-pub fn seat(placed: &mut [u64; 711], going: Going, k: usize, q: Piece) -> Going
+pub fn seat(placed: &mut [u64; PLACED_NUMBERS], going: Going, k: usize, q: Piece) -> Going
     requires { ⌜ SeatFits (now placed) going ⌝ }
     ensures { λ r. ⌜ (r ≡ seatedOf going) × Put (now (placed .entry)) (going .count) (seatOf (going .core) k q) (now (placed .exit)) ⌝ }
 {
@@ -75,7 +81,7 @@ pub fn seat(placed: &mut [u64; 711], going: Going, k: usize, q: Piece) -> Going
 
 // The next core, with nothing on it.
 pub fn next_core(going: Going) -> Going
-    requires { ⌜ going .core < 16 ⌝ }
+    requires { ⌜ going .core < coresMost ⌝ }
     ensures { λ r. ⌜ r ≡ nextOf going ⌝ }
 {
     let mut row = going.row;
@@ -87,7 +93,7 @@ pub fn next_core(going: Going) -> Going
 }
 
 pub fn stick(going: Going, k: usize) -> Going
-    requires { ⌜ k < 64 ⌝ }
+    requires { ⌜ k < tasksMost ⌝ }
     ensures { λ r. ⌜ r ≡ stickOf going k ⌝ }
 {
     let mut next = going;
@@ -101,7 +107,7 @@ pub fn begin() -> Going
 {
     let row = Row {
         len: 0,
-        numbers: [0usize; 64],
+        numbers: [0usize; ROW_MOST],
     };
     Going {
         stuck: 0,
@@ -114,7 +120,7 @@ pub fn begin() -> Going
 // Both pieces of a split: the first on the core, the last alone on the next.
 pub fn seat_both(
     costs: Costs,
-    placed: &mut [u64; 711],
+    placed: &mut [u64; PLACED_NUMBERS],
     going: Going,
     k: usize,
     whole: Piece,
@@ -133,8 +139,8 @@ pub fn seat_both(
 pub fn land<'a>(
     machine: Machine,
     costs: Costs,
-    placed: &'a mut [u64; 711],
-    records: &'a mut [u64; 553],
+    placed: &'a mut [u64; PLACED_NUMBERS],
+    records: &'a mut [u64; RUN_NUMBERS],
     going: Going,
     k: usize,
     whole: Piece,
@@ -166,11 +172,11 @@ pub fn land<'a>(
 pub fn walk_over<'a>(
     machine: Machine,
     costs: Costs,
-    times: &'a [u64; 384],
+    times: &'a [u64; TIMES_NUMBERS],
     n: usize,
-    order: &'a [usize; 64],
-    placed: &'a mut [u64; 711],
-    records: &'a mut [u64; 553],
+    order: &'a [usize; TASKS_MOST],
+    placed: &'a mut [u64; PLACED_NUMBERS],
+    records: &'a mut [u64; RUN_NUMBERS],
 ) -> Going
     requires { ⌜ WalkFits machine costs (now times) n (now order) (now placed) (now records) ⌝ }
     ensures { λ r. ⌜ Reach [] (now (placed .exit)) (now (records .exit)) r (walkOver (wayFor machine costs (wholeIn (now (times .entry)))) (take n (now (order .entry)))) ⌝ }

@@ -31,7 +31,7 @@ use Rattle.sheet.specs.declared.Head.{Head}
 use Rattle.demand.specs.Lists.{padded}
 use Rattle.demand.proofs.PaddedLaws.{padded-none, padded-take, padded-put, padded-length}
 use Rattle.sheet.specs.Sheet.{Above, partFault, fitFault, lineFault, wordAfter, after, partNamed}
-use Rattle.sheet.specs.Held.{partsOf, headOf, Carries, Found}
+use Rattle.sheet.specs.ways.ReaderHolds.{partsOf, headOf, Carries, Found}
 
 -- ---- lists in arrays
 

@@ -18,7 +18,7 @@ ghost use lib.Dec.{leb, ltb, eqb};
 ghost use Rattle.demand.specs.Sizes.{sized};
 ghost use Rattle.task.specs.Tasks.{tasksMost, wholePiece, rule, tasksOf};
 ghost use Rattle.sheet.specs.Sheet.{Above, machineFault, costFault, lineFault, after};
-ghost use Rattle.sheet.specs.Held.{partsOf, headOf, Found};
+ghost use Rattle.sheet.specs.ways.ReaderHolds.{partsOf, headOf, Found};
 
 // No task.
 pub fn no_tasks() -> Tasks

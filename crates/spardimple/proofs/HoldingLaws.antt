@@ -21,7 +21,7 @@ use Rattle.demand.specs.declared.Refusal.the-variants.{TooMany}
 use Rattle.demand.specs.Sizes.{runMost}
 use Rattle.demand.specs.Answer.{checkRun, answerOf}
 use Rattle.demand.proofs.RunLaws.{check-many, answer-bad}
-use Rattle.spardimple.specs.Runs.{CopiedIn, Copied}
+use Rattle.spardimple.specs.ways.CopiedRun.{CopiedIn, Copied}
 
 pub record Filled (ps : List Piece) (i : ℕ) (r : Run) : Type 0 where
   pub counts : r .count ≡ length ps

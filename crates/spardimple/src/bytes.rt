@@ -9,7 +9,7 @@ ghost use Prim.Native.Nat.{_+_, _*_, _≤_, _<_};
 ghost use lib.ListN.{length};
 ghost use Rattle.demand.specs.Records.{recordsOf};
 ghost use Rattle.spardimple.specs.Bytes.{numberAt, pieceAt, piecesOf, costsSpelt};
-ghost use Rattle.spardimple.specs.Runs.{CopiedIn};
+ghost use Rattle.spardimple.specs.ways.CopiedRun.{CopiedIn};
 
 fn wide(b: u8) -> u64
     ensures { λ r. ⌜ (r ≡ b) × (r < 256) ⌝ }

@@ -5,7 +5,7 @@ use demand::Run;
 ghost use mathlib.Core.Path.{_≡_};
 ghost use lib.ListN.{length, set};
 ghost use Rattle.spardimple.specs.Bytes.{outside};
-ghost use Rattle.spardimple.specs.Runs.{Copied};
+ghost use Rattle.spardimple.specs.ways.CopiedRun.{Copied};
 
 // A piece outside the sizes.
 pub fn nothing() -> Piece

@@ -14,6 +14,8 @@ use Rattle.demand.specs.Kinds.{kindOf}
 use Rattle.demand.specs.Lists.{firsts}
 use Rattle.demand.specs.Sizes.{Each}
 use Rattle.walks.specs.Way.{Placed, onCore}
+use Rattle.task.specs.Tasks.{coresMost, tasksMost}
+use Rattle.plan.specs.Sizes.{piecesMost, rowMost}
 
 abbrev pub seatOf : ℕ → ℕ → Piece → Placed ℕ
 seatOf p k q = record { on = p; item = k; piece = q }
@@ -40,9 +42,9 @@ placedIn a n = firsts (placedAt a) n
 pub record Put (a : List ℕ) (n : ℕ) (e : Placed ℕ) (b : List ℕ) : Type 0 where
   pub kept : (i : ℕ) → i < n → placedAt b i ≡ placedAt a i
   pub there : placedAt b n ≡ e
-  pub size : length b ≡ 711
+  pub size : length b ≡ 9 * piecesMost
 
 pub record HasRoom (l : List (Placed ℕ)) : Type 0 where
-  pub cores : Each (λ e. e .on < 16) l
-  pub places : Each (λ e. e .item < 64) l
-  pub rows : (q : ℕ) → length (onCore q l) ≤ 64
+  pub cores : Each (λ e. e .on < coresMost) l
+  pub places : Each (λ e. e .item < tasksMost) l
+  pub rows : (q : ℕ) → length (onCore q l) ≤ rowMost

@@ -13,12 +13,12 @@
 --   Reach base .. o      g with its arrays is what the ending o of a walk is, behind what base has
 use mathlib.Core.Path.{_≡_}
 use mathlib.Core.List.{List, _++_, map}
-use Prim.Native.Nat.{ℕ, suc, _+_, _<_, _≤_}
+use Prim.Native.Nat.{ℕ, suc, _+_, _<_, _≤_, _*_}
 use lib.ListN.{length, take, set, replicate}
 use Rattle.demand.specs.declared.Piece.{Piece}
 use Rattle.demand.specs.declared.Costs.{Costs}
 use Rattle.demand.specs.Records.{recordsOf}
-use Rattle.demand.specs.Sizes.{Sized, SizedCosts, Each}
+use Rattle.demand.specs.Sizes.{Sized, SizedCosts, Each, runMost}
 use Rattle.task.specs.declared.Machine.{Machine}
 use Rattle.plan.specs.declared.Row.{Row}
 use Rattle.plan.specs.declared.Going.{Going}
@@ -26,6 +26,8 @@ use Rattle.walks.specs.Way.{Placed, Ending, fine, stuck}
 use Rattle.walks.specs.Halves.{Stand}
 use Rattle.plan.specs.ways.TimesArray.{wholeIn}
 use Rattle.plan.specs.ways.PlacedArray.{placedAt, placedIn, Put}
+use Rattle.task.specs.Tasks.{coresMost, tasksMost}
+use Rattle.plan.specs.Sizes.{piecesMost, rowMost}
 
 abbrev pub piecesOfRow : List ℕ → Row → List Piece
 piecesOfRow placed row = map (λ i. placedAt placed i .piece) (take (row .len) (row .numbers))
@@ -43,28 +45,28 @@ unfoldable pub stickOf : Going → ℕ → Going
 stickOf g k = record { stuck = k + 1; core = g .core; row = g .row; count = g .count }
 
 unfoldable pub beginOf : Going
-beginOf = record { stuck = 0; core = 0; row = record { len = 0; numbers = replicate 64 0 }; count = 0 }
+beginOf = record { stuck = 0; core = 0; row = record { len = 0; numbers = replicate rowMost 0 }; count = 0 }
 
 pub record Seated (g : Going) : Type 0 where
-  pub size : length (g .row .numbers) ≡ 64
+  pub size : length (g .row .numbers) ≡ rowMost
   pub below : Each (λ i. i < g .count) (take (g .row .len) (g .row .numbers))
 
 pub record AskFits (c : Costs) (records : List ℕ) (n : ℕ) : Type 0 where
   pub costs : SizedCosts c
-  pub free : n < 64
-  pub size : length records ≡ 553
+  pub free : n < rowMost
+  pub size : length records ≡ 7 * runMost
   pub sizes : Each Sized (firstRecords records n)
 
 pub record SeatFits (placed : List ℕ) (g : Going) : Type 0 where
-  pub room : g .count < 79
-  pub free : g .row .len < 64
-  pub size : length placed ≡ 711
+  pub room : g .count < piecesMost
+  pub free : g .row .len < rowMost
+  pub size : length placed ≡ 9 * piecesMost
 
 pub record BothFit (placed : List ℕ) (g : Going) : Type 0 where
-  pub core : g .core < 16
-  pub room : g .count + 1 < 79
-  pub free : g .row .len < 64
-  pub size : length placed ≡ 711
+  pub core : g .core < coresMost
+  pub room : g .count + 1 < piecesMost
+  pub free : g .row .len < rowMost
+  pub size : length placed ≡ 9 * piecesMost
 
 pub record Both (a : List ℕ) (n : ℕ) (e f : Placed ℕ) (b : List ℕ) : Type 0 where
   pub mid : List ℕ
@@ -73,14 +75,14 @@ pub record Both (a : List ℕ) (n : ℕ) (e f : Placed ℕ) (b : List ℕ) : Typ
 
 pub record LandFits (m : ℕ) (c : Costs) (placed records : List ℕ) (g : Going) (k : ℕ) : Type 0 where
   pub costs : SizedCosts c
-  pub place : k < 64
+  pub place : k < tasksMost
   pub core : g .core < m
-  pub cores : m ≤ 16
+  pub cores : m ≤ coresMost
   pub room : g .count ≤ 63 + g .core
-  pub free : g .row .len < 64
+  pub free : g .row .len < rowMost
   pub going : g .stuck ≡ 0
-  pub placed-size : length placed ≡ 711
-  pub records-size : length records ≡ 553
+  pub placed-size : length placed ≡ 9 * piecesMost
+  pub records-size : length records ≡ 7 * runMost
   pub seated : Seated g
   pub sizes : Each Sized (piecesOfRow placed (g .row))
 
@@ -90,8 +92,8 @@ pub record Reached (base : List (Placed ℕ)) (placed records : List ℕ) (g : G
   pub len-is : g .row .len ≡ length (s .row)
   pub row-is : piecesOfRow placed (g .row) ≡ s .row
   pub placed-is : placedIn placed (g .count) ≡ base ++ l
-  pub placed-size : length placed ≡ 711
-  pub records-size : length records ≡ 553
+  pub placed-size : length placed ≡ 9 * piecesMost
+  pub records-size : length records ≡ 7 * runMost
   pub seated : Seated g
 
 abbrev pub Reach : List (Placed ℕ) → List ℕ → List ℕ → Going → Ending Stand ℕ → Type 0
@@ -101,11 +103,11 @@ Reach base placed records g (stuck k n) = (g .stuck ≡ suc k) × (n ≡ 7)
 -- what the walk needs of its input: sizes, and an order of places within them
 pub record WalkFits (m : Machine) (c : Costs) (times : List ℕ) (n : ℕ) (order placed records : List ℕ) : Type 0 where
   pub some : 1 ≤ m .cores
-  pub few : m .cores ≤ 16
+  pub few : m .cores ≤ coresMost
   pub costs : SizedCosts c
-  pub count : n ≤ 64
-  pub long : length order ≡ 64
-  pub places : Each (λ k. k < 64) (take n order)
+  pub count : n ≤ tasksMost
+  pub long : length order ≡ tasksMost
+  pub places : Each (λ k. k < tasksMost) (take n order)
   pub sizes : Each (λ k. Sized (wholeIn times k)) (take n order)
-  pub placed-size : length placed ≡ 711
-  pub records-size : length records ≡ 553
+  pub placed-size : length placed ≡ 9 * piecesMost
+  pub records-size : length records ≡ 7 * runMost

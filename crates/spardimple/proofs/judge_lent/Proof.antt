@@ -44,7 +44,7 @@ use Rattle.demand.specs.declared.Costs.{Costs}
 use Rattle.demand.specs.declared.Answer.{Answer}
 use Rattle.demand.specs.declared.Run.{Run}
 use Rattle.demand.specs.Answer.{answerOf}
-use Rattle.spardimple.specs.Runs.{Copied}
+use Rattle.spardimple.specs.ways.CopiedRun.{Copied}
 use Rattle.spardimple.proofs.HoldingLaws.{holding-answer}
 use Rattle.demand.proofs.Piece as P
 use Rattle.demand.proofs.Costs as K
@@ -61,7 +61,7 @@ use Rattle.verdicts.proofs.judge as judge
 use Rattle.verdicts.proofs.judge.Symbol as judge-def
 use Rattle.verdicts.proofs.judge.Symbol.{name as #judge}
 use Rattle.verdicts.proofs.judge.Met as judge-thm
-use Rattle.spardimple.proofs.judge_lent.Key.{name as #judge-lent}
+use Rattle.lines.proofs.SaysLaws.{name as #judge-lent}
 use Rattle.spardimple.proofs.judge_lent as f
 use Rattle.spardimple.proofs.judge_lent.Statement as stated
 use Rattle.spardimple.proofs.judge_lent.Code as code

@@ -9,8 +9,7 @@ use native.Mathlib.Omega.{arith}
 use borrow.Author.Tests.{not-true, not-false}
 use lib.ListN.{length, drop, getD}
 use Rattle.lines.specs.Lines.{isDigit, every, valueFrom, valueOf}
-use Rattle.lines.proofs.FieldLaws.{every-at, every-end, value-at, value-end, digit-low, digit-high, digits-small}
-use Rattle.lines.proofs.FieldLaws.{digits-more, number-short, number-long, number-led, number-other, number-yes}
+use Rattle.lines.proofs.FieldLaws.{every-at, every-end, value-at, value-end, digit-low, digit-high, digits-small, digits-more, number-short, number-long, number-led, number-other, number-yes}
 use Rattle.lines.proofs.fields.number_of.Statement.{statement}
 use Rattle.lines.proofs.fields.number_of.Tie as tie
 

@@ -52,7 +52,7 @@ use denote.Exit.{yes}
 use Rattle.demand.specs.declared.Piece.{Piece}
 use Rattle.demand.specs.declared.Run.{Run}
 use Rattle.spardimple.specs.Bytes.{outside}
-use Rattle.spardimple.specs.Runs.{Copied}
+use Rattle.spardimple.specs.ways.CopiedRun.{Copied}
 use Rattle.spardimple.proofs.HoldingLaws.{Filled, filled-none, filled-put, filled-holding}
 use Rattle.demand.proofs.Piece as P
 use Rattle.demand.proofs.Piece.Laws as P′
@@ -66,7 +66,7 @@ use Rattle.spardimple.proofs.runs.put as put
 use Rattle.spardimple.proofs.runs.put.Symbol as put-def
 use Rattle.spardimple.proofs.runs.put.Symbol.{name as #put}
 use Rattle.spardimple.proofs.runs.put.Met as put-thm
-use Rattle.spardimple.proofs.runs.gather.Key.{name as #gather}
+use Rattle.lines.proofs.SaysLaws.{name as #gather}
 use Rattle.spardimple.proofs.runs.gather as f
 use Rattle.spardimple.proofs.runs.gather.Statement as stated
 use Rattle.spardimple.proofs.runs.gather.Code as code

@@ -1,0 +1,2 @@
+-- What no promise rests on: fields read as numbers.
+pub mod NumbersRead

@@ -1,0 +1,2 @@
+-- What no promise rests on: a run that lent records were copied into.
+pub mod CopiedRun
