@@ -61,7 +61,7 @@ use Rattle.verdicts.proofs.judge as judge
 use Rattle.verdicts.proofs.judge.Symbol as judge-def
 use Rattle.verdicts.proofs.judge.Symbol.{name as #judge}
 use Rattle.verdicts.proofs.judge.Met as judge-thm
-use Rattle.lines.proofs.SaysLaws.{name as #judge-lent}
+use Rattle.spardimple.proofs.judge_lent.Key.{name as #judge-lent}
 use Rattle.spardimple.proofs.judge_lent as f
 use Rattle.spardimple.proofs.judge_lent.Statement as stated
 use Rattle.spardimple.proofs.judge_lent.Code as code

@@ -66,7 +66,7 @@ use Rattle.spardimple.proofs.runs.put as put
 use Rattle.spardimple.proofs.runs.put.Symbol as put-def
 use Rattle.spardimple.proofs.runs.put.Symbol.{name as #put}
 use Rattle.spardimple.proofs.runs.put.Met as put-thm
-use Rattle.lines.proofs.SaysLaws.{name as #gather}
+use Rattle.spardimple.proofs.runs.gather.Key.{name as #gather}
 use Rattle.spardimple.proofs.runs.gather as f
 use Rattle.spardimple.proofs.runs.gather.Statement as stated
 use Rattle.spardimple.proofs.runs.gather.Code as code
