@@ -105,11 +105,6 @@ pub largest-fits : (qs : List Charged) → Each Ranged qs → largestWindow qs �
 largest-fits [] ok = zero-le
 largest-fits (q ∷ qs) ok = omega (arith, ok .0 .window-fits, largest-fits qs (ok .1))
 
-pub least-live-fits : (qs : List Charged) → Each Ranged qs → leastLive qs ≤ timeMost
-unfolding leastLive
-least-live-fits [] ok = zero-le
-least-live-fits (q ∷ qs) ok = omega (arith, ok .0 .window-fits)
-
 -- ---- the busy length
 
 -- r is q but for the charge and the window

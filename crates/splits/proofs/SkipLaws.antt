@@ -24,7 +24,7 @@ use Rattle.demand.specs.declared.Piece.{Piece}
 use Rattle.demand.specs.declared.Costs.{Costs}
 use Rattle.demand.specs.declared.Charged.{Charged}
 use Rattle.demand.specs.declared.Found.the-variants.{At}
-use Rattle.verdicts.specs.declared.Sum.the-variants.{Interrupts}
+use Rattle.verdicts.specs.declared.Sum.the-variants.{Interrupts, Jobs}
 use Rattle.splits.specs.declared.monotone_search.Probe.the-variants.{Window, Calls, Due}
 use Rattle.demand.specs.declared.Verdict.{Verdict}
 use Rattle.demand.specs.declared.Verdict.the-variants.{Passes, Overloaded}
@@ -43,8 +43,9 @@ use Rattle.splits.specs.ways.SplitSearch.{Weighs, Steps, Misses, Skips, 
 use Rattle.demand.specs.ways.ChargedSplit.{withFirst, lastAlone, tightBeside, Tight, Fits, TightIn}
 use Rattle.demand.proofs.SizeLaws.{window-most}
 use Rattle.demand.proofs.Division.{div-mono}
-use Rattle.demand.proofs.Sums.{total-mono, total-snoc}
-use Rattle.demand.proofs.DemandLaws.{Recurs, jobs-due-none, jobs-due-some, jobs-due-mono, interrupts-mono, demand-below, largest-snoc, live-mono}
+use Rattle.verdicts.proofs.ChargedArrayLaws.{sum-mono}
+use Rattle.demand.proofs.Sums.{total-snoc}
+use Rattle.demand.proofs.DemandLaws.{Recurs, jobs-due-none, jobs-due-some, interrupts-mono, demand-below, largest-snoc, live-mono}
 use Rattle.demand.proofs.BusyLaws.{least-le}
 use Rattle.splits.proofs.MonotoneSearchLaws.{late-more}
 use Rattle.demand.proofs.VerdictLaws.{verdict-means, passes-forever}
@@ -307,27 +308,19 @@ module _ (c : Costs) (qs : List Charged) (p : Piece) where
 -- ---- where tight windows end
 
 -- the jobs alone
-unfoldable work : ℕ → Charged → ℕ
-work u q = jobsDue q u * q .charge
+jobs-parts : (u : ℕ) (qs : List Charged) → total (load u) qs ≡ total (term Jobs u) qs + total (λ q. interrupts q u) qs
+unfolding load
+jobs-parts u [] = refl
+jobs-parts u (q ∷ qs) = omega (arith, jobs-parts u qs)
 
-work-parts : (u : ℕ) (qs : List Charged) → total (load u) qs ≡ total (work u) qs + total (λ q. interrupts q u) qs
-unfolding load work
-work-parts u [] = refl
-work-parts u (q ∷ qs) = omega (arith, work-parts u qs)
+jobs-none : (u : ℕ) (qs : List Charged) → Each Weighs qs → total (term Jobs u) qs ≡ 0 → Some (λ q. 1 ≤ jobsDue q u) qs → ⊥
+jobs-none u [] weighs none live = live
+jobs-none u (q ∷ qs) weighs none live =
+    ⊎-elim (λ here. omega (arith, mul-le-mul-right (q .charge) here, weighs .0 .some)) (λ there. jobs-none u qs (weighs .1) (omega arith) there) live
 
-work-none : (u : ℕ) (qs : List Charged) → Each Weighs qs → total (work u) qs ≡ 0 → Some (λ q. 1 ≤ jobsDue q u) qs → ⊥
-unfolding work
-work-none u [] weighs none live = live
-work-none u (q ∷ qs) weighs none live =
-    ⊎-elim (λ here. omega (arith, mul-le-mul-right (q .charge) here, weighs .0 .some)) (λ there. work-none u qs (weighs .1) (omega arith) there) live
-
-work-idle : (u : ℕ) (qs : List Charged) → Each Weighs qs → total (work u) qs ≡ 0 → Live qs u → ⊥
+jobs-idle : (u : ℕ) (qs : List Charged) → Each Weighs qs → total (term Jobs u) qs ≡ 0 → Live qs u → ⊥
 unfolding Live
-work-idle u qs weighs none live = work-none u qs weighs none live
-
-work-mono : (qs : List Charged) → Each Recurs qs → {t u : ℕ} → t ≤ u → total (work t) qs ≤ total (work u) qs
-unfolding work
-work-mono qs recurs {t} {u} h = total-mono Recurs (work t) (work u) (λ q pos. mul-le-mul-right (q .charge) (jobs-due-mono pos h)) qs recurs
+jobs-idle u qs weighs none live = jobs-none u qs weighs none live
 
 first-one : (c : Costs) (p : Piece) (x t : ℕ) → jobsDue (charged c (firstPiece p x (p .jitter + t))) t ≡ 1
 unfolding charged firstPiece pieceOf
@@ -343,12 +336,12 @@ first-live c qs p x t = last-some (λ q. 1 ≤ jobsDue q t) qs (charged c (first
     last-some P [] q h = _⊎_.inl h
     last-some P (r ∷ rs) q h = _⊎_.inr (last-some P rs q h)
 
-first-demand : (c : Costs) (qs : List Charged) (p : Piece) (x t : ℕ) → demand (stall c) (withFirst c qs p x (p .jitter + t)) t ≡ blocking (stall c) (withFirst c qs p x (p .jitter + t)) t + total (work t) qs + (x + extra c p) + calls c qs p t
+first-demand : (c : Costs) (qs : List Charged) (p : Piece) (x t : ℕ) → demand (stall c) (withFirst c qs p x (p .jitter + t)) t ≡ blocking (stall c) (withFirst c qs p x (p .jitter + t)) t + total (term Jobs t) qs + (x + extra c p) + calls c qs p t
 unfolding demand withFirst load calls
 first-demand c qs p x t =
     let q = charged c (firstPiece p x (p .jitter + t)) in
     let one : jobsDue q t * q .charge ≡ x + extra c p = rw (first-one c p x t, first-charge c p x (p .jitter + t)) (omega arith) in
-    omega (arith, total-snoc (load t) qs q, work-parts t qs, one, first-interrupts c p x (p .jitter + t) t)
+    omega (arith, total-snoc (load t) qs q, jobs-parts t qs, one, first-interrupts c p x (p .jitter + t) t)
 
 first-largest : (c : Costs) (qs : List Charged) (p : Piece) (x w : ℕ) → largestWindow (withFirst c qs p x w) ≡ max (largestWindow qs) w
 unfolding withFirst charged firstPiece pieceOf
@@ -367,7 +360,7 @@ module _ (c : Costs) (qs : List Charged) (p : Piece) where
   ends-room x t some fits = omega (arith, fits .room)
 
   module _ (recurs : Each Recurs qs) (ok : Sized p) where
-    left-over : (x t : ℕ) → 1 ≤ x → Fits c qs p x t → blocking (stall c) (withFirst c qs p x (p .jitter + t)) t + total (work t) qs ≤ stall c
+    left-over : (x t : ℕ) → 1 ≤ x → Fits c qs p x t → blocking (stall c) (withFirst c qs p x (p .jitter + t)) t + total (term Jobs t) qs ≤ stall c
     left-over x t some fits =
         let rs = withFirst c qs p x (p .jitter + t) in
         omega (arith, forever (stall c) rs (with-recurs c qs p x (p .jitter + t) recurs ok) (fits .here) t (first-live c qs p x t), first-demand c qs p x t, tight-full c qs p recurs ok x some (fits .tight))
@@ -379,7 +372,7 @@ module _ (c : Costs) (qs : List Charged) (p : Piece) where
           let rs = withFirst c qs p z (p .jitter + u) in
           let shorter = tight-shorter c qs p recurs ok x z some less tight (fits .tight) in
           let counts = blocking-below (stall c) rs u (omega (arith, first-largest c qs p z (p .jitter + u))) in
-          work-idle u qs weighs (omega (arith, left-over z u some fits, counts)) (live-mono qs recurs {t = leastLive qs} {u = u} due (least-live-some qs many .here))
+          jobs-idle u qs weighs (omega (arith, left-over z u some fits, counts)) (live-mono qs recurs {t = leastLive qs} {u = u} due (least-live-some qs many .here))
 
       pub step-due : (m r : ℕ) → 1 ≤ x → leastLive qs ≤ t → m ≡ leastLive qs - 1 → Misses c qs p m r x → Steps c qs p x (Below r)
       step-due m r some due is misses =
@@ -395,7 +388,7 @@ module _ (c : Costs) (qs : List Charged) (p : Piece) where
           let left = left-over x t some fits in
           ⊎-elim (λ same. omega (arith, ends-room x t some fits))
           (λ over.
-          let heavy : most < total (work t) qs = omega (arith, over, work-parts r qs, work-mono qs recurs {t = r} {u = t} (omega arith)) in
+          let heavy : most < total (term Jobs t) qs = omega (arith, over, sum-mono qs recurs Jobs {t = r} {u = t} (omega arith)) in
           ⊎-elim (λ stalled. absurd (omega (arith, left))) (λ jitter. absurd (omega (arith, left, blocking-below (stall c) rs t (omega (arith, first-largest c qs p x (p .jitter + t)))))) side) (low .told)
     ]
 

@@ -62,7 +62,11 @@ pub fn bound_within(core: &[u64; RUN_NUMBERS], n: usize, b: u64, a: u64, l: u64)
         return Bound::AtMost(near);
     }
     let own = greater(a, largest_window(core, n));
-    match descend(core, n + 1, b, own, less(q.window, own)) {
+    let left = less(q.window, own);
+    if left == 0 {
+        return Bound::Stands;
+    }
+    match descend(core, n + 1, b, own, left) {
         Verdict::Passes => Bound::Stands,
         Verdict::Overloaded(t) => Bound::Falls(t),
         Verdict::Undecided => Bound::Falls(own),

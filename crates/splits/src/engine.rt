@@ -93,7 +93,7 @@ pub fn sum_at(core: &[u64; RUN_NUMBERS], n: usize, sum: Sum, t: u64) -> u64
 }
 
 pub fn largest_window(core: &[u64; RUN_NUMBERS], n: usize) -> u64
-    requires { ⌜ (n ≤ runMost) × Each Ranged (chargedIn (now core) n) ⌝ }
+    requires { ⌜ n ≤ runMost ⌝ }
     ensures { λ r. ⌜ r ≡ largestWindow (chargedIn (now (core .entry)) n) ⌝ }
 {
     laid_largest_window(core, n)

@@ -39,10 +39,7 @@ pub fn refused(core: &[u64; RUN_NUMBERS], n: usize, probe: Probe, m: u64) -> boo
             Found::At(t) => false,
         },
         Probe::Calls(come) => come <= sum_at(core, n, Sum::Interrupts, m),
-        Probe::Due(most) => {
-            let calls = sum_at(core, n, Sum::Interrupts, m);
-            most + calls < sum_at(core, n, Sum::Load, m)
-        }
+        Probe::Due(most) => most < sum_at(core, n, Sum::Jobs, m),
     }
 }
 

@@ -14,7 +14,7 @@
 use mathlib.Core.Path.{_≡_, refl, sym, ap, _∙_}
 use mathlib.Core.List.{List, [], _∷_, _++_, map, append-nil, append-assoc}
 use Prim.Native.Nat.{ℕ, zero, suc, _+_, _*_, _-_, _≤_, _<_, min, max}
-use native.Mathlib.Nat.{add-zero, not-suc-le-zero}
+use native.Mathlib.Nat.{add-zero, not-suc-le-zero, mul-le-mul-right}
 use native.Mathlib.Decide.{decLt}
 use native.Mathlib.Numerals.{add-one}
 use native.Mathlib.Omega.{arith}
@@ -31,7 +31,7 @@ use Rattle.demand.proofs.ChargeLaws.{map-snoc, charged-within}
 use Rattle.demand.specs.Demand.{total, largestWindow, earliest, leastLive}
 use Rattle.demand.specs.declared.Found.{Found}
 use Rattle.verdicts.specs.declared.Sum.{Sum}
-use Rattle.verdicts.specs.declared.Sum.the-variants.{Load, Interrupts, Busy}
+use Rattle.verdicts.specs.declared.Sum.the-variants.{Load, Interrupts, Jobs, Busy}
 use Rattle.demand.specs.Busy.{leastHolding, later, tightSum, tightWindow}
 use Rattle.demand.specs.Answer.{tightOfLast}
 use Rattle.verdicts.specs.ChargedArray.{chargedAt, chargedIn, numbers, laidPiece, layPiece, layAll, layRecords}
@@ -39,13 +39,14 @@ use Rattle.verdicts.specs.Laid.{term}
 use Rattle.demand.proofs.ArrayLaws.{firsts-length, firsts-same, firsts-last, firsts-front, sets-before, sets-there}
 use Rattle.demand.proofs.BusyLaws.{tight-of-last}
 use Rattle.demand.proofs.Sums.{total-mono, total-snoc, each-front, each-last}
-use Rattle.demand.proofs.DemandLaws.{Recurs, load-mono, interrupts-mono, busy-load-mono, largest-snoc, earliest-snoc}
+use Rattle.demand.proofs.DemandLaws.{Recurs, jobs-due-mono, load-mono, interrupts-mono, busy-load-mono, largest-snoc, earliest-snoc}
 
 -- ---- the sums
 
 pub term-mono : (s : Sum) {q : Charged} → Recurs q → {t u : ℕ} → t ≤ u → term s t q ≤ term s u q
 term-mono Load pos h = load-mono pos h
 term-mono Interrupts pos h = interrupts-mono pos h
+term-mono Jobs {q} pos h = mul-le-mul-right (q .charge) (jobs-due-mono pos h)
 term-mono Busy pos h = busy-load-mono pos h
 
 pub sum-mono : (qs : List Charged) → Each Recurs qs → (s : Sum) {t u : ℕ} → t ≤ u → total (term s t) qs ≤ total (term s u) qs

@@ -3,11 +3,13 @@
 --
 --   laid-some, laid-none      what the test of the ranges tells: the pieces of a core, or no core
 --   sum-held, .. -held        each answer where there is a core and no number is past its bound
+--   laid-pieces-is, -past     the pieces at the first places
+--   least-live-none, -fits    their least live length
 --   sum-most                  no sum wraps
 use mathlib.Core.Path.{_≡_, refl, sym, subst, _∙_}
 use mathlib.Core.Bool.{Bool, true, false, _&&_}
 use mathlib.Core.List.{List, [], _∷_}
-use Prim.Native.Nat.{ℕ, _+_, _*_, _-_, _/_, _≤_, _<_, zero-le}
+use Prim.Native.Nat.{ℕ, _+_, _*_, _-_, _/_, _≤_, _<_, zero-le, min}
 use native.Mathlib.Nat.{div-le-self}
 use native.Mathlib.Decide.{decLt}
 use native.Mathlib.Omega.{arith}
@@ -17,16 +19,16 @@ use lib.ListN.{length}
 use Rattle.demand.specs.declared.Charged.{Charged}
 use Rattle.demand.specs.declared.Found.the-variants.{Nothing}
 use Rattle.verdicts.specs.declared.Sum.{Sum}
-use Rattle.verdicts.specs.declared.Sum.the-variants.{Load, Interrupts, Busy}
+use Rattle.verdicts.specs.declared.Sum.the-variants.{Load, Interrupts, Jobs, Busy}
 use Rattle.demand.specs.Sizes.{Each, Tells, runMost, timeMost, busyMost, lengthMost}
 use Rattle.demand.specs.ways.Ranges.{Ranged, ranged, stallMost, chargeMost}
-use Rattle.demand.specs.Demand.{ceil, jobsDue, interrupts, load, total, largestWindow, leastLive}
+use Rattle.demand.specs.Demand.{ceil, jobsDue, interrupts, load, total, leastLive}
 use Rattle.demand.specs.Busy.{busyLoad, busyLength, leastHolding}
 use Rattle.demand.specs.Verdict.{scan, verdict}
 use Rattle.demand.specs.Answer.{tightOfLast}
-use Rattle.verdicts.specs.ChargedArray.{chargedIn}
+use Rattle.verdicts.specs.ChargedArray.{chargedIn, laidPieces}
 use Rattle.verdicts.specs.MostFitting.{mostFitting}
-use Rattle.verdicts.specs.Laid.{held, unlaid, allRanged, laid, term, laidSum, laidLargestWindow, laidLeastLive, laidBusyLength, laidTightWindow, laidWait, waitMost, laidSpan, laidVerdict, laidMostFitting}
+use Rattle.verdicts.specs.Laid.{held, unlaid, allRanged, laid, term, laidSum, laidBusyLength, laidTightWindow, laidWait, waitMost, laidSpan, laidVerdict, laidMostFitting}
 use Rattle.demand.proofs.SizeLaws.{tells-unique, tells-both, tells-leb, tells-ranged, ranged-is}
 use Rattle.demand.proofs.Division.{prod-le}
 use Rattle.verdicts.proofs.ChargedArrayLaws.{charged-in-length}
@@ -64,18 +66,6 @@ module _ (a : List ℕ) (n : ℕ) where
     unfolding laidSum
     sum-held s t h = rw (le-leb t lengthMost h, laid-held core)
 
-    pub largest-window-held : laidLargestWindow (laid a n) ≡ largestWindow (chargedIn a n)
-    unfolding laidLargestWindow
-    largest-window-held = rw (laid-held core)
-
-    pub least-live-held : laidLeastLive (laid a n) ≡ leastLive (chargedIn a n)
-    unfolding laidLeastLive
-    least-live-held = rw (laid-held core)
-
-    pub least-live-none : n ≡ 0 → 0 ≡ laidLeastLive (laid a n)
-    unfolding leastLive
-    least-live-none none = sym (least-live-held ∙ rw none)
-
     pub busy-length-held : laidBusyLength (laid a n) ≡ busyLength (chargedIn a n)
     unfolding laidBusyLength
     busy-length-held = rw (laid-held core)
@@ -103,6 +93,25 @@ module _ (a : List ℕ) (n : ℕ) where
     unfolding laidMostFitting
     most-fitting-held b q from l f h i j k = rw (le-leb b stallMost h, sym (ranged-is q true i), le-leb f chargeMost j, le-leb (from + l) lengthMost k, laid-held core)
 
+-- ---- the windows
+
+pub laid-pieces-is : (a : List ℕ) (n : ℕ) → n ≤ runMost → laidPieces a n ≡ chargedIn a n
+unfolding laidPieces
+laid-pieces-is a n h = let e : min n runMost ≡ n = omega arith in rw e
+
+pub laid-pieces-past : (a : List ℕ) (n : ℕ) → runMost < n → laidPieces a n ≡ chargedIn a runMost
+unfolding laidPieces
+laid-pieces-past a n h = let e : min n runMost ≡ runMost = omega arith in rw e
+
+pub least-live-none : (a : List ℕ) (n : ℕ) → n ≡ 0 → 0 ≡ leastLive (laidPieces a n)
+unfolding leastLive laidPieces
+least-live-none a n none = rw none
+
+pub least-live-fits : (qs : List Charged) → Each Ranged qs → leastLive qs ≤ timeMost
+unfolding leastLive
+least-live-fits [] ok = zero-le
+least-live-fits (q ∷ qs) ok = omega (arith, ok .0 .window-fits)
+
 -- ---- no sum wraps
 
 jobs-most : (q : Charged) → Ranged q → (t : ℕ) → t ≤ lengthMost → jobsDue q t ≤ 102000001
@@ -124,6 +133,7 @@ term-most : (s : Sum) (q : Charged) → Ranged q → (t : ℕ) → t ≤ lengthM
 unfolding load busyLoad
 term-most Load q ok t h = omega (arith, prod-le 102000001 2000000 {a = jobsDue q t} {b = q .charge} (jobs-most q ok t h) (ok .charge-fits), interrupts-most q ok t h)
 term-most Interrupts q ok t h = omega (arith, interrupts-most q ok t h)
+term-most Jobs q ok t h = omega (arith, prod-le 102000001 2000000 {a = jobsDue q t} {b = q .charge} (jobs-most q ok t h) (ok .charge-fits))
 term-most Busy q ok t h =
     omega (arith, calls-most q ok t (q .period) 101000000 (q .charge + q .release + q .ipi) h (ok .period-some) (ok .period-fits) (omega (arith, ok .charge-fits, ok .release-fits, ok .ipi-fits)))
 

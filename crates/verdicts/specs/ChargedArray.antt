@@ -3,13 +3,14 @@
 --   chargedAt a i        the charged piece at place i
 --   laidPiece a i        the same, and nothing but zeros past the last place
 --   chargedIn a n        those at the first n places
+--   laidPieces a n       the same, of which there are at most 79
 --   numbers q            the seven numbers of a charged piece
 --   layPiece a i q       the charged piece q written at place i; past the last place nothing changes
 --   layAll a i qs        the charged pieces qs written from place i on
 --   layRecords a c ps    the records ps charged, and written from the first place on
 use mathlib.Core.Bool.{cond}
 use mathlib.Core.List.{List, [], _∷_, map}
-use Prim.Native.Nat.{ℕ, _+_, _*_}
+use Prim.Native.Nat.{ℕ, _+_, _*_, min}
 use lib.Dec.{leb}
 use lib.ListN.{getD}
 use lib.Seq.{sets}
@@ -36,6 +37,9 @@ laidPiece a i = cond (leb runMost i) noCharge (chargedAt a i)
 
 abbrev pub chargedIn : List ℕ → ℕ → List Charged
 chargedIn a n = firsts (chargedAt a) n
+
+unfoldable pub laidPieces : List ℕ → ℕ → List Charged
+laidPieces a n = chargedIn a (min n runMost)
 
 abbrev pub numbers : Charged → List ℕ
 numbers q = q .charge ∷ q .window ∷ q .period ∷ q .jitter ∷ q .release ∷ q .ipi ∷ q .ipij ∷ []

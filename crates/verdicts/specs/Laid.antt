@@ -4,8 +4,6 @@
 --   laid a n             the core that the first n places of a hold, if they hold one
 --   term s t q           the figure s of q at t
 --   laidSum s t c        a figure of its pieces, summed at the length t
---   laidLargestWindow c  its largest window
---   laidLeastLive c      its least live length
 --   laidBusyLength c     its busy length
 --   laidTightWindow b c  the tight window of its last piece, where that is at most its own window
 --   laidWait k e c       the least length up to e that holds k and all interrupts that come within it
@@ -14,7 +12,7 @@
 --   laidMostFitting b q a l f c      the greatest charge up to f with which q fits beside it at the l lengths from a, or 0
 use mathlib.Core.Bool.{Bool, true, false, cond, _&&_}
 use mathlib.Core.List.{List, [], _∷_}
-use Prim.Native.Nat.{ℕ, _+_}
+use Prim.Native.Nat.{ℕ, _+_, _*_}
 use lib.Dec.{leb}
 use Rattle.demand.specs.declared.Charged.{Charged}
 use Rattle.demand.specs.declared.Found.{Found}
@@ -22,10 +20,10 @@ use Rattle.demand.specs.declared.Found.the-variants.{Nothing}
 use Rattle.demand.specs.declared.Verdict.{Verdict}
 use Rattle.demand.specs.declared.Verdict.the-variants.{Undecided}
 use Rattle.verdicts.specs.declared.Sum.{Sum}
-use Rattle.verdicts.specs.declared.Sum.the-variants.{Load, Interrupts, Busy}
+use Rattle.verdicts.specs.declared.Sum.the-variants.{Load, Interrupts, Jobs, Busy}
 use Rattle.demand.specs.Sizes.{runMost, timeMost, busyMost, lengthMost}
 use Rattle.demand.specs.ways.Ranges.{ranged, stallMost, chargeMost}
-use Rattle.demand.specs.Demand.{load, interrupts, total, largestWindow, leastLive}
+use Rattle.demand.specs.Demand.{jobsDue, load, interrupts, total}
 use Rattle.demand.specs.Busy.{busyLoad, busyLength, leastHolding}
 use Rattle.demand.specs.Verdict.{scan, verdict}
 use Rattle.demand.specs.Answer.{tightOfLast}
@@ -53,16 +51,11 @@ answer none f unlaid = none
 abbrev pub term : Sum → ℕ → Charged → ℕ
 term Load t q = load t q
 term Interrupts t q = interrupts q t
+term Jobs t q = jobsDue q t * q .charge
 term Busy t q = busyLoad t q
 
 unfoldable pub laidSum : Sum → ℕ → LaidCore → ℕ
 laidSum s t c = cond (leb t lengthMost) (answer 0 (total (term s t)) c) 0
-
-unfoldable pub laidLargestWindow : LaidCore → ℕ
-laidLargestWindow c = answer 0 largestWindow c
-
-unfoldable pub laidLeastLive : LaidCore → ℕ
-laidLeastLive c = answer 0 leastLive c
 
 -- ---- lengths
 

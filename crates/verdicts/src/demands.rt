@@ -56,12 +56,21 @@ pub fn interrupts_of(q: Charged, t: u64) -> u64
     releases + ipis
 }
 
+// What the jobs due within t are charged.
+pub fn work_of(q: Charged, t: u64) -> u64
+    requires { ⌜ Ranged q ⌝ }
+    requires { ⌜ t ≤ lengthMost ⌝ }
+    ensures { λ r. ⌜ (r ≡ jobsDue q t * q .charge) × (r ≤ 500000000000000) ⌝ }
+{
+    jobs_due(q, t) * q.charge
+}
+
 pub fn load_of(q: Charged, t: u64) -> u64
     requires { ⌜ Ranged q ⌝ }
     requires { ⌜ t ≤ lengthMost ⌝ }
     ensures { λ r. ⌜ (r ≡ load t q) × (r ≤ 1000000000000000) ⌝ }
 {
-    jobs_due(q, t) * q.charge + interrupts_of(q, t)
+    work_of(q, t) + interrupts_of(q, t)
 }
 
 // What q asks of a busy length l.
@@ -81,6 +90,7 @@ pub fn term_of(sum: Sum, q: Charged, t: u64) -> u64
     match sum {
         Sum::Load => load_of(q, t),
         Sum::Interrupts => interrupts_of(q, t),
+        Sum::Jobs => work_of(q, t),
         Sum::Busy => busy_load_of(q, t),
     }
 }
@@ -117,8 +127,8 @@ pub fn largest_window(core: &[u64; RUN_NUMBERS], n: usize) -> u64
 
 // t0, where there is a piece.
 pub fn least_live(core: &[u64; RUN_NUMBERS], n: usize) -> u64
-    requires { ⌜ (1 ≤ n) × (n ≤ runMost) × Each Ranged (chargedIn (now core) n) ⌝ }
-    ensures { λ r. ⌜ (r ≡ leastLive (chargedIn (now (core .entry)) n)) × (r ≤ timeMost) ⌝ }
+    requires { ⌜ (1 ≤ n) × (n ≤ runMost) ⌝ }
+    ensures { λ r. ⌜ r ≡ leastLive (chargedIn (now (core .entry)) n) ⌝ }
 {
     let head = charged_at(core, 0);
     let mut soonest = less(head.window, head.jitter);

@@ -64,10 +64,11 @@ pub const CHARGE_MOST: u64 = 2 * TIME_MOST;
 /// What no base of a wait is above.
 pub const WAIT_MOST: u64 = 10 * TIME_MOST;
 
-/// Which figure of the pieces is summed: what they ask for within a length, the interrupts that they bring within it, or what they ask of it as a busy length.
+/// Which figure of the pieces is summed: what they ask for within a length, and of that the interrupts and the jobs due alone; or what they ask of it as a busy length.
 pub enum Sum {
     Load,
     Interrupts,
+    Jobs,
     Busy,
 }
 

@@ -1,4 +1,4 @@
-// What is asked of a core that is laid out. Each answer is refused where the array holds no core, or a number is past its bound, so that no sum wraps.
+// What is asked of a core that is laid out. Where a sum could wrap, since the array holds no core or a number is past its bound, the answer is refused.
 use crate::CHARGE_MOST;
 use crate::LENGTH_MOST;
 use crate::RELEASE_MOST;
@@ -27,8 +27,9 @@ ghost use mathlib.Core.Path.{_≡_};
 ghost use Prim.Native.Nat.{_≤_};
 ghost use Rattle.demand.specs.Sizes.{Each, Tells, runMost};
 ghost use Rattle.demand.specs.ways.Ranges.{Ranged};
-ghost use Rattle.verdicts.specs.ChargedArray.{chargedIn};
-ghost use Rattle.verdicts.specs.Laid.{laid, laidSum, laidLargestWindow, laidLeastLive, laidBusyLength, laidTightWindow, laidWait, laidSpan, laidVerdict, laidMostFitting};
+ghost use Rattle.demand.specs.Demand.{largestWindow, leastLive};
+ghost use Rattle.verdicts.specs.ChargedArray.{chargedIn, laidPieces};
+ghost use Rattle.verdicts.specs.Laid.{laid, laidSum, laidBusyLength, laidTightWindow, laidWait, laidSpan, laidVerdict, laidMostFitting};
 
 fn ranged_piece(q: Charged) -> bool
     ensures { λ r. ⌜ Tells (Ranged q) r ⌝ }
@@ -90,25 +91,25 @@ pub fn laid_sum(core: &[u64; RUN_NUMBERS], n: usize, sum: Sum, t: u64) -> u64
     sum_at(core, n, sum, t)
 }
 
-/// The largest window of a core that is laid out, or 0.
+/// The largest window of the first n pieces that are laid out, of at most 79.
 pub fn laid_largest_window(core: &[u64; RUN_NUMBERS], n: usize) -> u64
-    ensures exact { λ r. ⌜ r ≡ laidLargestWindow (laid (now (core .entry)) n) ⌝ }
+    ensures exact { λ r. ⌜ r ≡ largestWindow (laidPieces (now (core .entry)) n) ⌝ }
 {
-    if !holds_core(core, n) {
-        return 0;
+    if RUN_MOST < n {
+        return largest_window(core, RUN_MOST);
     }
     largest_window(core, n)
 }
 
-/// The least live length of a core that is laid out, or 0.
+/// Their least live length, or 0 where there is no piece.
 pub fn laid_least_live(core: &[u64; RUN_NUMBERS], n: usize) -> u64
-    ensures exact { λ r. ⌜ r ≡ laidLeastLive (laid (now (core .entry)) n) ⌝ }
+    ensures exact { λ r. ⌜ r ≡ leastLive (laidPieces (now (core .entry)) n) ⌝ }
 {
-    if !holds_core(core, n) {
-        return 0;
-    }
     if n == 0 {
         return 0;
+    }
+    if RUN_MOST < n {
+        return least_live(core, RUN_MOST);
     }
     least_live(core, n)
 }

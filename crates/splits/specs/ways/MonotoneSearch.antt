@@ -10,7 +10,7 @@ use mathlib.Core.Logic.{_⊎_}
 use mathlib.Core.Path.{_≡_}
 use Prim.Native.Nat.{ℕ, _+_, _≤_, _<_}
 use Rattle.demand.specs.declared.Charged.{Charged}
-use Rattle.verdicts.specs.declared.Sum.the-variants.{Load, Interrupts}
+use Rattle.verdicts.specs.declared.Sum.the-variants.{Interrupts, Jobs}
 use Rattle.splits.specs.declared.monotone_search.Probe.{Probe}
 use Rattle.splits.specs.declared.monotone_search.Probe.the-variants.{Window, Calls, Due}
 use Rattle.demand.specs.Busy.{Holds}
@@ -26,7 +26,7 @@ ShowsIf P false = Unit {0}
 abbrev pub Refuses : List Charged → Probe → ℕ → Type 0
 Refuses qs (Window base top) m = (t : ℕ) → t ≤ top → Holds (λ u. base + m + total (term Interrupts u) qs) t → ⊥
 Refuses qs (Calls come) m = come ≤ total (term Interrupts m) qs
-Refuses qs (Due most) m = most + total (term Interrupts m) qs < total (term Load m) qs
+Refuses qs (Due most) m = most < total (term Jobs m) qs
 
 abbrev pub Askable : Probe → Type 0
 Askable (Window base top) = (base ≤ 9000000) × (top ≤ busyMost)

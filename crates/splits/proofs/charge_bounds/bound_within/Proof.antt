@@ -52,31 +52,48 @@ returns c =
     (bound-squeezed (s .b) qs rs q laid (s .a) (s .l) (c .before .before .squeeze .result) (c .before .before .before .before .pre .1 .1 .0) (c .if1 .taken) (c .before .before .squeeze .ensures))
 
 largest-window-requires : tie.Need-largest-window-requires
-largest-window-requires c κs =
-    let s = c .before .before .before .before .args in
-    let q = c .before .before .before .charged-at .result in
-    let ranged : Ranged q = rw (c .before .before .before .charged-at .ensures) (charged-at-each Ranged (s .core .now) (s .n + 1) (c .before .before .before .before .pre .0 .1) (s .n) (omega arith)) in
-    let qs = chargedIn (s .core .now) (s .n) in
-    let front : Each Ranged qs = charged-in-front Ranged (s .core .now) (s .n) (c .before .before .before .before .pre .0 .1) in
-    (omega arith, front)
+largest-window-requires c κs = omega (arith, c .before .before .before .before .pre .0 .0)
 
 greater-requires : tie.Need-greater-requires
 greater-requires c κs = search needs
 
-add-descend : tie.Need-add-descend
-add-descend c = search needs
-
 less-requires : tie.Need-less-requires
 less-requires c κs = search needs
 
+returns-2 : tie.Need-returns-2
+returns-2 c =
+    let s = c .before .before .before .before .before .before .before .before .args in
+    let q = c .before .before .before .before .before .before .before .charged-at .result in
+    let ranged : Ranged q = rw (c .before .before .before .before .before .before .before .charged-at .ensures) (charged-at-each Ranged (s .core .now) (s .n + 1) (c .before .before .before .before .before .before .before .before .pre .0 .1) (s .n) (omega arith)) in
+    let qs = chargedIn (s .core .now) (s .n) in
+    let front : Each Ranged qs = charged-in-front Ranged (s .core .now) (s .n) (c .before .before .before .before .before .before .before .before .pre .0 .1) in
+    let rs = chargedIn (s .core .now) (s .n + 1) in
+    let laid = charged-in-is (s .core .now) (s .n) q (c .before .before .before .before .before .before .before .charged-at .ensures) in
+    let own = c .before .before .greater .result in
+    let some : 1 ≤ q .charge = rw (c .before .before .before .before .before .before .before .charged-at .ensures) (c .before .before .before .before .before .before .before .before .pre .1 .0 .3) in
+    let is : own ≡ max (s .a) (largestWindow qs) = c .before .before .greater .ensures ∙ ap (λ (w : ℕ). max (s .a) w) (c .before .before .before .largest-window .ensures) in
+    let mine : scan (s .b) rs own (q .window - own) ≡ Passes = (let none : q .window - own ≡ 0 = omega (arith, c .before .less .ensures, c .if2 .taken) in rw none) in
+    subst (λ (r : Charged). Bounds (s .b) qs r Stands) (c .before .before .before .before .before .before .before .charged-at .ensures)
+    (bound-stands (s .b) qs rs q laid (s .a) (s .l) own (c .before .before .before .before .before .before .squeeze .result) (c .before .before .before .before .before .before .before .before .pre .1 .1 .0) (c .before .before .before .before .before .before .before .before .pre .1 .1 .1) is some (omega (arith, c .before .before .before .before .if1 .left)) (c .before .before .before .before .before .before .squeeze .ensures) mine)
+
+add-descend : tie.Need-add-descend
+add-descend c = search needs
+
 descend-requires : tie.Need-descend-requires
 descend-requires c κs =
-    let s = c .before .before .before .before .before .before .before .args in
-    let q = c .before .before .before .before .before .before .charged-at .result in
-    let ranged : Ranged q = rw (c .before .before .before .before .before .before .charged-at .ensures) (charged-at-each Ranged (s .core .now) (s .n + 1) (c .before .before .before .before .before .before .before .pre .0 .1) (s .n) (omega arith)) in
+    let s = c .before .before .before .before .before .before .before .before .args in
+    let q = c .before .before .before .before .before .before .before .charged-at .result in
+    let ranged : Ranged q = rw (c .before .before .before .before .before .before .before .charged-at .ensures) (charged-at-each Ranged (s .core .now) (s .n + 1) (c .before .before .before .before .before .before .before .before .pre .0 .1) (s .n) (omega arith)) in
     let qs = chargedIn (s .core .now) (s .n) in
-    let front : Each Ranged qs = charged-in-front Ranged (s .core .now) (s .n) (c .before .before .before .before .before .before .before .pre .0 .1) in
-    ((omega arith, c .before .before .before .before .before .before .before .pre .0 .1), (c .before .before .before .before .before .before .before .pre .1 .0 .0, omega (arith, c .before .greater .ensures, c .before .before .largest-window .ensures, c .before .before .before .before .before .before .before .pre .1 .0 .1, largest-fits qs front), omega (arith, c .less .ensures, ranged .window-fits)))
+    let front : Each Ranged qs = charged-in-front Ranged (s .core .now) (s .n) (c .before .before .before .before .before .before .before .before .pre .0 .1) in
+    (
+      (omega arith, c .before .before .before .before .before .before .before .before .pre .0 .1),
+      (
+        c .before .before .before .before .before .before .before .before .pre .1 .0 .0,
+        omega (arith, c .before .before .greater .ensures, c .before .before .before .largest-window .ensures, c .before .before .before .before .before .before .before .before .pre .1 .0 .1, largest-fits qs front),
+        omega (arith, c .before .less .ensures, ranged .window-fits),
+      ),
+    )
 
 enum-told : tie.Need-enum-told
 enum-told c = search needs
@@ -87,22 +104,6 @@ enum-known-t c = search needs
 enum-told-2 : tie.Need-enum-told-2
 enum-told-2 c = search needs
 
-returns-2 : tie.Need-returns-2
-returns-2 c =
-    let s = c .before .before .before .before .before .before .before .before .before .before .args in
-    let q = c .before .before .before .before .before .before .before .before .before .charged-at .result in
-    let ranged : Ranged q = rw (c .before .before .before .before .before .before .before .before .before .charged-at .ensures) (charged-at-each Ranged (s .core .now) (s .n + 1) (c .before .before .before .before .before .before .before .before .before .before .pre .0 .1) (s .n) (omega arith)) in
-    let qs = chargedIn (s .core .now) (s .n) in
-    let front : Each Ranged qs = charged-in-front Ranged (s .core .now) (s .n) (c .before .before .before .before .before .before .before .before .before .before .pre .0 .1) in
-    let rs = chargedIn (s .core .now) (s .n + 1) in
-    let laid = charged-in-is (s .core .now) (s .n) q (c .before .before .before .before .before .before .before .before .before .charged-at .ensures) in
-    let own = c .before .before .before .before .greater .result in
-    let some : 1 ≤ q .charge = rw (c .before .before .before .before .before .before .before .before .before .charged-at .ensures) (c .before .before .before .before .before .before .before .before .before .before .pre .1 .0 .3) in
-    let mine : scan (s .b) rs own (q .window - own) ≡ Passes = ap (λ (k : ℕ). scan (s .b) rs own k) (sym (c .before .before .before .less .ensures)) ∙ (sym (c .before .before .descend .ensures) ∙ c .enum-told .given .1) in
-    let is : own ≡ max (s .a) (largestWindow qs) = c .before .before .before .before .greater .ensures ∙ ap (λ (w : ℕ). max (s .a) w) (c .before .before .before .before .before .largest-window .ensures) in
-    subst (λ (r : Charged). Bounds (s .b) qs r Stands) (c .before .before .before .before .before .before .before .before .before .charged-at .ensures)
-    (bound-stands (s .b) qs rs q laid (s .a) (s .l) own (c .before .before .before .before .before .before .before .before .squeeze .result) (c .before .before .before .before .before .before .before .before .before .before .pre .1 .1 .0) (c .before .before .before .before .before .before .before .before .before .before .pre .1 .1 .1) is some (omega (arith, c .before .before .before .before .before .before .if1 .left)) (c .before .before .before .before .before .before .before .before .squeeze .ensures) mine)
-
 returns-3 : tie.Need-returns-3
 returns-3 c =
     let s = c .before .before .before .before .before .before .before .before .before .before .before .args in
@@ -112,23 +113,39 @@ returns-3 c =
     let front : Each Ranged qs = charged-in-front Ranged (s .core .now) (s .n) (c .before .before .before .before .before .before .before .before .before .before .before .pre .0 .1) in
     let rs = chargedIn (s .core .now) (s .n + 1) in
     let laid = charged-in-is (s .core .now) (s .n) q (c .before .before .before .before .before .before .before .before .before .before .charged-at .ensures) in
-    let t = c .before .t .given .0 .0 in
-    let within : c .before .before .before .before .before .greater .result + c .before .before .before .before .less .result ≤ timeMost = omega (arith, c .before .before .before .before .before .greater .ensures, c .before .before .before .before .less .ensures, c .before .before .before .before .before .before .largest-window .ensures, largest-fits qs front, c .before .before .before .before .before .before .before .before .before .before .before .pre .1 .0 .1, ranged .window-fits) in
-    let over = sym (c .before .before .before .descend .ensures) ∙ c .before .t .given .1 in
-    subst (λ (r : Charged). Bounds (s .b) qs r (Falls t)) (c .before .before .before .before .before .before .before .before .before .before .charged-at .ensures)
-    (bound-own (s .b) qs rs q laid (all-recurs rs (c .before .before .before .before .before .before .before .before .before .before .before .pre .0 .1)) (c .before .before .before .before .before .greater .result) (c .before .before .before .before .less .result) t (omega (arith, c .before .before .before .before .before .before .before .before .before .before .before .pre .1 .1 .0, c .before .before .before .before .before .greater .ensures)) within over)
+    let own = c .before .before .before .before .before .greater .result in
+    let some : 1 ≤ q .charge = rw (c .before .before .before .before .before .before .before .before .before .before .charged-at .ensures) (c .before .before .before .before .before .before .before .before .before .before .before .pre .1 .0 .3) in
+    let is : own ≡ max (s .a) (largestWindow qs) = c .before .before .before .before .before .greater .ensures ∙ ap (λ (w : ℕ). max (s .a) w) (c .before .before .before .before .before .before .largest-window .ensures) in
+    let mine : scan (s .b) rs own (q .window - own) ≡ Passes = ap (λ (k : ℕ). scan (s .b) rs own k) (sym (c .before .before .before .before .less .ensures)) ∙ (sym (c .before .before .descend .ensures) ∙ c .enum-told .given .1) in
+    subst (λ (r : Charged). Bounds (s .b) qs r Stands) (c .before .before .before .before .before .before .before .before .before .before .charged-at .ensures)
+    (bound-stands (s .b) qs rs q laid (s .a) (s .l) own (c .before .before .before .before .before .before .before .before .before .squeeze .result) (c .before .before .before .before .before .before .before .before .before .before .before .pre .1 .1 .0) (c .before .before .before .before .before .before .before .before .before .before .before .pre .1 .1 .1) is some (omega (arith, c .before .before .before .before .before .before .before .if1 .left)) (c .before .before .before .before .before .before .before .before .before .squeeze .ensures) mine)
 
 returns-4 : tie.Need-returns-4
 returns-4 c =
-    let s = c .before .before .before .before .before .before .before .before .before .before .args in
-    let q = c .before .before .before .before .before .before .before .before .before .charged-at .result in
-    let ranged : Ranged q = rw (c .before .before .before .before .before .before .before .before .before .charged-at .ensures) (charged-at-each Ranged (s .core .now) (s .n + 1) (c .before .before .before .before .before .before .before .before .before .before .pre .0 .1) (s .n) (omega arith)) in
+    let s = c .before .before .before .before .before .before .before .before .before .before .before .before .args in
+    let q = c .before .before .before .before .before .before .before .before .before .before .before .charged-at .result in
+    let ranged : Ranged q = rw (c .before .before .before .before .before .before .before .before .before .before .before .charged-at .ensures) (charged-at-each Ranged (s .core .now) (s .n + 1) (c .before .before .before .before .before .before .before .before .before .before .before .before .pre .0 .1) (s .n) (omega arith)) in
     let qs = chargedIn (s .core .now) (s .n) in
-    let front : Each Ranged qs = charged-in-front Ranged (s .core .now) (s .n) (c .before .before .before .before .before .before .before .before .before .before .pre .0 .1) in
+    let front : Each Ranged qs = charged-in-front Ranged (s .core .now) (s .n) (c .before .before .before .before .before .before .before .before .before .before .before .before .pre .0 .1) in
     let rs = chargedIn (s .core .now) (s .n + 1) in
-    let laid = charged-in-is (s .core .now) (s .n) q (c .before .before .before .before .before .before .before .before .before .charged-at .ensures) in
-    subst (λ (r : Charged). Bounds (s .b) qs r (Falls (c .before .before .before .before .greater .result))) (c .before .before .before .before .before .before .before .before .before .charged-at .ensures)
-    (bound-never (s .b) qs rs q laid (c .before .before .before .before .greater .result) (c .before .before .before .less .result) (c .before .before .before .before .greater .result) (sym (c .before .before .descend .ensures) ∙ c .enum-told2 .given .1))
+    let laid = charged-in-is (s .core .now) (s .n) q (c .before .before .before .before .before .before .before .before .before .before .before .charged-at .ensures) in
+    let t = c .before .t .given .0 .0 in
+    let within : c .before .before .before .before .before .before .greater .result + c .before .before .before .before .before .less .result ≤ timeMost = omega (arith, c .before .before .before .before .before .before .greater .ensures, c .before .before .before .before .before .less .ensures, c .before .before .before .before .before .before .before .largest-window .ensures, largest-fits qs front, c .before .before .before .before .before .before .before .before .before .before .before .before .pre .1 .0 .1, ranged .window-fits) in
+    let over = sym (c .before .before .before .descend .ensures) ∙ c .before .t .given .1 in
+    subst (λ (r : Charged). Bounds (s .b) qs r (Falls t)) (c .before .before .before .before .before .before .before .before .before .before .before .charged-at .ensures)
+    (bound-own (s .b) qs rs q laid (all-recurs rs (c .before .before .before .before .before .before .before .before .before .before .before .before .pre .0 .1)) (c .before .before .before .before .before .before .greater .result) (c .before .before .before .before .before .less .result) t (omega (arith, c .before .before .before .before .before .before .before .before .before .before .before .before .pre .1 .1 .0, c .before .before .before .before .before .before .greater .ensures)) within over)
+
+returns-5 : tie.Need-returns-5
+returns-5 c =
+    let s = c .before .before .before .before .before .before .before .before .before .before .before .args in
+    let q = c .before .before .before .before .before .before .before .before .before .before .charged-at .result in
+    let ranged : Ranged q = rw (c .before .before .before .before .before .before .before .before .before .before .charged-at .ensures) (charged-at-each Ranged (s .core .now) (s .n + 1) (c .before .before .before .before .before .before .before .before .before .before .before .pre .0 .1) (s .n) (omega arith)) in
+    let qs = chargedIn (s .core .now) (s .n) in
+    let front : Each Ranged qs = charged-in-front Ranged (s .core .now) (s .n) (c .before .before .before .before .before .before .before .before .before .before .before .pre .0 .1) in
+    let rs = chargedIn (s .core .now) (s .n + 1) in
+    let laid = charged-in-is (s .core .now) (s .n) q (c .before .before .before .before .before .before .before .before .before .before .charged-at .ensures) in
+    subst (λ (r : Charged). Bounds (s .b) qs r (Falls (c .before .before .before .before .before .greater .result))) (c .before .before .before .before .before .before .before .before .before .before .charged-at .ensures)
+    (bound-never (s .b) qs rs q laid (c .before .before .before .before .before .greater .result) (c .before .before .before .before .less .result) (c .before .before .before .before .before .greater .result) (sym (c .before .before .descend .ensures) ∙ c .enum-told2 .given .1))
 
 pub bound-within-spec : {M : Type 1} → statement M
 bound-within-spec =
@@ -139,12 +156,13 @@ bound-within-spec =
     returns
     largest-window-requires
     greater-requires
-    add-descend
     less-requires
+    returns-2
+    add-descend
     descend-requires
     enum-told
     enum-known-t
     enum-told-2
-    returns-2
     returns-3
-    returns-4)
+    returns-4
+    returns-5)

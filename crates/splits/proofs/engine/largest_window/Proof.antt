@@ -1,6 +1,9 @@
--- `engine::largest_window` meets its contract: there is a core.
-use mathlib.Core.Path.{_∙_}
-use Rattle.verdicts.proofs.LaidLaws.{largest-window-held}
+-- `engine::largest_window` meets its contract: the count is within the array.
+use mathlib.Core.Path.{ap, _∙_}
+use mathlib.Core.List.{List}
+use Rattle.demand.specs.declared.Charged.{Charged}
+use Rattle.demand.specs.Demand.{largestWindow}
+use Rattle.verdicts.proofs.LaidLaws.{laid-pieces-is}
 use borrow.Author.Needs.{needs}
 use Rattle.splits.proofs.engine.largest_window.Statement.{statement}
 use Rattle.splits.proofs.engine.largest_window.Tie as tie
@@ -12,7 +15,7 @@ laid-largest-window-requires : tie.Need-laid-largest-window-requires
 laid-largest-window-requires c κs = search needs
 
 returns : tie.Need-returns
-returns c = c .laid-largest-window .ensures ∙ largest-window-held (c .before .args .core .now) (c .before .args .n) (c .before .pre)
+returns c = c .laid-largest-window .ensures ∙ ap (λ (qs : List Charged). largestWindow qs) (laid-pieces-is (c .before .args .core .now) (c .before .args .n) (c .before .pre))
 
 pub largest-window-spec : {M : Type 1} → statement M
 largest-window-spec = tie.close (tie.spec laid-largest-window-requires returns)

@@ -1,8 +1,10 @@
--- `engine::least_live` meets its contract: there is a core.
-use mathlib.Core.Path.{_∙_}
+-- `engine::least_live` meets its contract: the count is within the array, and the windows within their range.
+use mathlib.Core.Path.{ap, _∙_}
+use mathlib.Core.List.{List}
+use Rattle.demand.specs.declared.Charged.{Charged}
+use Rattle.demand.specs.Demand.{leastLive}
 use Rattle.verdicts.specs.ChargedArray.{chargedIn}
-use Rattle.splits.proofs.ChargeBoundLaws.{least-live-fits}
-use Rattle.verdicts.proofs.LaidLaws.{least-live-held}
+use Rattle.verdicts.proofs.LaidLaws.{laid-pieces-is, least-live-fits}
 use borrow.Author.Needs.{needs}
 use Rattle.splits.proofs.engine.least_live.Statement.{statement}
 use Rattle.splits.proofs.engine.least_live.Tie as tie
@@ -15,7 +17,7 @@ laid-least-live-requires c κs = search needs
 
 returns : tie.Need-returns
 returns c =
-    let is = c .laid-least-live .ensures ∙ least-live-held (c .before .args .core .now) (c .before .args .n) (c .before .pre .1, c .before .pre .2) in
+    let is = c .laid-least-live .ensures ∙ ap (λ (qs : List Charged). leastLive qs) (laid-pieces-is (c .before .args .core .now) (c .before .args .n) (c .before .pre .1)) in
     (is, rw is (least-live-fits (chargedIn (c .before .args .core .now) (c .before .args .n)) (c .before .pre .2)))
 
 pub least-live-spec : {M : Type 1} → statement M

@@ -46,14 +46,6 @@ enum-known-probe-3 c = search needs
 sum-at-requires-2 : tie.Need-sum-at-requires-2
 sum-at-requires-2 c κs = search needs
 
-add-result : tie.Need-add-result
-add-result c =
-    let fits = subst (λ (k : Probe). Askable k) (c .before .before .probe3 .given .1) (c .before .before .before .before .pre .1 .0) in
-    omega (arith, fits, c .sum-at2 .ensures .1)
-
-sum-at-requires-3 : tie.Need-sum-at-requires-3
-sum-at-requires-3 c κs = search needs
-
 returns : tie.Need-returns
 returns c =
     let s = c .before .before .before .before .before .before .args in
@@ -72,9 +64,10 @@ returns-3 c =
 
 returns-4 : tie.Need-returns-4
 returns-4 c =
-    let s = c .before .before .before .before .before .args in
+    let s = c .before .before .before .before .args in
     let qs = chargedIn (s .core .now) (s .n) in
-    shows-lt (Refuses qs (s .probe) (s .m)) (c .before .before .before .probe3 .given .0 .0 + c .before .sum-at2 .result) (c .sum-at3 .result) (λ more. subst (λ (k : Probe). Refuses qs k (s .m)) (sym (c .before .before .before .probe3 .given .1)) (omega (arith, more, c .before .sum-at2 .ensures .0, c .sum-at3 .ensures .0)))
+    shows-lt (Refuses qs (s .probe) (s .m)) (c .before .before .probe3 .given .0 .0) (c .sum-at2 .result)
+    (λ more. subst (λ (k : Probe). Refuses qs k (s .m)) (sym (c .before .before .probe3 .given .1)) (omega (arith, more, c .sum-at2 .ensures .0)))
 
 pub refused-spec : {M : Type 1} → statement M
 refused-spec =
@@ -89,8 +82,6 @@ refused-spec =
     sum-at-requires
     enum-known-probe-3
     sum-at-requires-2
-    add-result
-    sum-at-requires-3
     returns
     returns-2
     returns-3

@@ -5,9 +5,7 @@ use mathlib.Core.Path.{_≡_}
 use native.Mathlib.Omega.{arith}
 use Rattle.demand.specs.Demand.{earliest}
 use Rattle.verdicts.specs.ChargedArray.{chargedIn, chargedAt}
-use Rattle.demand.specs.ways.Ranges.{Ranged}
-use Rattle.verdicts.proofs.ChargedArrayLaws.{earliest-more, least-live-charged, charged-at-each}
-use Rattle.demand.proofs.DemandLaws.{earliest-le}
+use Rattle.verdicts.proofs.ChargedArrayLaws.{earliest-more, least-live-charged}
 use Rattle.verdicts.proofs.demands.least_live.Statement.{statement}
 use Rattle.verdicts.proofs.demands.least_live.Tie as tie
 use Rattle.verdicts.proofs.demands.least_live.Reads as reads
@@ -55,8 +53,7 @@ returns c =
     let w = c .before .before .less .result in
     let e : c .before .loop .i ≡ s .n = omega arith in
     let head : w ≡ chargedAt (s .core .now) 0 .window - chargedAt (s .core .now) 0 .jitter = cc (c .before .before .less .ensures, c .before .before .before .charged-at .ensures) in
-    let first : Ranged (chargedAt (s .core .now) 0) = charged-at-each Ranged (s .core .now) (s .n) (c .before .before .before .before .pre .2) 0 (c .before .before .before .before .pre .0) in
-    (cc (e, head, c .before .loop .inv .1, least-live-charged (s .core .now) (s .n) (c .before .before .before .before .pre .0)), omega (arith, earliest-le w (chargedIn (s .core .now) (c .before .loop .i))))
+    cc (e, head, c .before .loop .inv .1, least-live-charged (s .core .now) (s .n) (c .before .before .before .before .pre .0))
 
 pub least-live-spec : {M : Type 1} → statement M
 least-live-spec =

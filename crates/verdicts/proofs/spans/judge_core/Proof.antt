@@ -17,6 +17,7 @@ use Rattle.verdicts.proofs.spans.judge_core.Statement.{statement}
 use Rattle.verdicts.proofs.spans.judge_core.Tie as tie
 use Rattle.verdicts.proofs.spans.judge_core.Reads as reads
 use Rattle.verdicts.proofs.spans.judge_core.Lts as lts
+use Rattle.verdicts.proofs.LaidLaws.{least-live-fits}
 use Rattle.verdicts.proofs.demands.least_live.Reads as least-live-reads
 use Rattle.verdicts.proofs.busy_climb.climb_busy.Reads as climb-busy-reads
 use Rattle.verdicts.proofs.spans.descend.Reads as descend-reads
@@ -40,7 +41,7 @@ descend-requires : tie.Need-descend-requires
 descend-requires c κs =
     let s = c .before .before .before .before .before .before .args in
     let qs = chargedIn (s .core .now) (s .n) in
-    (c .before .before .before .before .before .before .pre .0, (c .before .before .before .before .before .before .pre .1, c .least-live .ensures .1, busy-length-within qs (all-recurs qs (c .before .before .before .before .before .before .pre .0 .1)) (c .before .before .l .given .0 .0) (sym (c .before .before .before .before .climb-busy .ensures) ∙ c .before .before .l .given .1)))
+    (c .before .before .before .before .before .before .pre .0, (c .before .before .before .before .before .before .pre .1, omega (arith, c .least-live .ensures, least-live-fits qs (c .before .before .before .before .before .before .pre .0 .1)), busy-length-within qs (all-recurs qs (c .before .before .before .before .before .before .pre .0 .1)) (c .before .before .l .given .0 .0) (sym (c .before .before .before .before .climb-busy .ensures) ∙ c .before .before .l .given .1)))
 
 returns-2 : tie.Need-returns-2
 returns-2 c =
@@ -54,7 +55,7 @@ returns-3 c =
     let s = c .before .before .before .before .before .before .before .args in
     let qs = chargedIn (s .core .now) (s .n) in
     let some : 1 ≤ length qs = omega (arith, charged-in-length (s .core .now) (s .n), c .before .before .before .before .before .before .if1 .left) in
-    c .descend .ensures ∙ (ap (λ (a : ℕ). scan (s .b) qs a (c .before .before .before .l .given .0 .0)) (c .before .least-live .ensures .0) ∙ sym (verdict-span (s .b) qs some ∙ ap (λ (r : Found). overSpan (s .b) qs (leastLive qs) r) (sym (c .before .before .before .before .before .climb-busy .ensures) ∙ c .before .before .before .l .given .1)))
+    c .descend .ensures ∙ (ap (λ (a : ℕ). scan (s .b) qs a (c .before .before .before .l .given .0 .0)) (c .before .least-live .ensures) ∙ sym (verdict-span (s .b) qs some ∙ ap (λ (r : Found). overSpan (s .b) qs (leastLive qs) r) (sym (c .before .before .before .before .before .climb-busy .ensures) ∙ c .before .before .before .l .given .1)))
 
 pub judge-core-spec : {M : Type 1} → statement M
 judge-core-spec =
