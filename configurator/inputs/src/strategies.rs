@@ -43,18 +43,19 @@ impl fmt::Debug for Damaged {
 
 /// Sheets, most of them within the rules, some with names that differ in little and some with about
 /// as many parts and tasks as there may be; and up to two damages to each.
-pub fn damaged_sheets(draw: SheetDraw) -> impl Strategy<Value = Damaged> {
+pub fn damaged_sheets(draw: SheetDraw) -> BoxedStrategy<Damaged> {
     let sheets = prop_oneof![
         8 => whole_sheets(draw),
         1 => near_names(draw),
         1 => crowds(draw),
     ];
     let damaged = (vec(damage(), 0..=2), sheets);
-    damaged.prop_map(|(damages, sheet)| Damaged { sheet, damages })
+    let damaged = damaged.prop_map(|(damages, sheet)| Damaged { sheet, damages });
+    damaged.boxed()
 }
 
 /// Sheets that break no rule, but may be refused with 7.
-pub fn whole_sheets(draw: SheetDraw) -> impl Strategy<Value = Sheet> {
+fn whole_sheets(draw: SheetDraw) -> impl Strategy<Value = Sheet> {
     let tasks = 3 * usize::try_from(draw.cores).unwrap_or(usize::MAX);
     sheets(draw, vec(entry(draw, [6, 1, 3]), 0..=tasks), 90, numbered)
 }
@@ -250,47 +251,5 @@ pub fn smallest_failure<S: Strategy>(
         Ok(()) => None,
         Err(TestError::Fail(why, smallest)) => Some((why.to_string(), smallest)),
         Err(TestError::Abort(why)) => panic!("no values to try: {why}"),
-    }
-}
-
-#[cfg(test)]
-mod tests {
-    use super::*;
-    use crate::random::SEED;
-    use plain::listing;
-    use plain::refusal::Refusal;
-    use plain::verdict::Way;
-
-    const DRAW: SheetDraw = SheetDraw::new(4, 120, 2, 6);
-
-    /// The smallest sheet found that the oracle answers so, as text.
-    fn smallest(so: impl Fn(Result<Vec<u8>, Refusal>) -> bool) -> String {
-        let random = &mut Random::new(SEED);
-        let found = smallest_failure(&damaged_sheets(DRAW), 8_000, random, |damaged| {
-            let answer = listing::of_sheet(&damaged.bytes(), Way::EveryLength);
-            if so(answer) {
-                Err("it is answered so".to_owned())
-            } else {
-                Ok(())
-            }
-        });
-        let (_, damaged) = found.expect("some sheet is answered so");
-        String::from_utf8_lossy(&damaged.bytes()).into_owned()
-    }
-
-    /// What fails is told by a sheet of a few lines.
-    #[test]
-    fn failures_shrink() {
-        let split = |listing: Vec<u8>| String::from_utf8_lossy(&listing).contains("\tlast\t");
-        let mut found = vec![smallest(|answer| answer.map_or(false, split))];
-        for number in [1, 2, 3, 5, 7, 8] {
-            found.push(smallest(|answer| {
-                answer.map_err(|why| why.number) == Err(number)
-            }));
-        }
-        for sheet in found {
-            println!("{sheet:?}");
-            assert!(sheet.lines().count() <= 6);
-        }
     }
 }
