@@ -125,12 +125,22 @@ pub countable-is : (p : Piece) (b : Bool) → Tells (Countable p) b → b ≡ co
 countable-is p b tells = tells-unique (Countable p) b (countable p) tells (tells-countable p)
 
 ranged-bounds : Charged → List (ℕ × ℕ)
-ranged-bounds q = (q .ipij, costMost) ∷ (q .ipi, costMost) ∷ (q .release, releaseMost) ∷ (q .charge, chargeMost) ∷ (q .jitter, timeMost) ∷ (q .window, timeMost) ∷ (q .period, timeMost) ∷ (1, q .period) ∷ []
+ranged-bounds q = (q .ipij, costMost) ∷ (q .ipi, costMost) ∷ (q .release, releaseMost) ∷ (q .charge, chargeMost) ∷ (q .jitter, timeMost)
+    ∷ (q .window, timeMost) ∷ (q .period, timeMost) ∷ (1, q .period) ∷ []
 
 pub tells-ranged : (q : Charged) → Tells (Ranged q) (ranged q)
 unfolding ranged ranged-bounds
 tells-ranged q =
-    tells-as (Bounds (ranged-bounds q)) (Ranged q) (λ b. record { period-some = omega arith; period-fits = omega arith; window-fits = omega arith; jitter-fits = omega arith; charge-fits = omega arith; release-fits = omega arith; ipi-fits = omega arith; ipij-fits = omega arith })
+    tells-as (Bounds (ranged-bounds q)) (Ranged q) (λ b. record {
+      period-some = omega arith;
+      period-fits = omega arith;
+      window-fits = omega arith;
+      jitter-fits = omega arith;
+      charge-fits = omega arith;
+      release-fits = omega arith;
+      ipi-fits = omega arith;
+      ipij-fits = omega arith;
+    })
     (λ s. search needs) (ranged q) (tells-bounds (ranged-bounds q))
 
 pub ranged-is : (q : Charged) (b : Bool) → Tells (Ranged q) b → b ≡ ranged q

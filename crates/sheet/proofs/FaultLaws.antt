@@ -23,7 +23,8 @@ use Rattle.task.specs.declared.Part.{Part}
 use Rattle.task.specs.Tasks.{tasksMost, sizedMachine, wholePiece, placeOf, partPlace, rule}
 use Rattle.lines.specs.declared.Word.{Word}
 use Rattle.lines.specs.declared.Line.{Line}
-use Rattle.sheet.specs.Sheet.{Above, atTop, belowMachine, amongParts, room, machineFault, costFault, partFault, fitFault, wordFault, lineFault, partNamed, taskFree, partFree}
+use Rattle.sheet.specs.Sheet.{Above, atTop, belowMachine, amongParts, room, machineFault, costFault, partFault}
+use Rattle.sheet.specs.Sheet.{fitFault, wordFault, lineFault, partNamed, taskFree, partFree}
 
 -- ---- good lines
 

@@ -13,7 +13,8 @@ use lib.Dec.{leb}
 use lib.ListN.{length}
 use Rattle.lines.specs.Lines.{newline, upTo, beyond}
 use Rattle.lines.specs.Forms.{lineOf}
-use Rattle.sheet.specs.Sheet.{Above, amongParts, top, lineFault, after, Outcome, refused, whole, ending, next, readFrom, sheetMost, outcomeOf, shown, readOf}
+use Rattle.sheet.specs.Sheet.{Above, amongParts, top, lineFault, after, Outcome, refused, whole, ending}
+use Rattle.sheet.specs.Sheet.{next, readFrom, sheetMost, outcomeOf, shown, readOf}
 use Rattle.sheet.specs.Fitted.{ended, linesOf}
 use Rattle.sheet.specs.Refusing.{lastRun, tailOf, Refusing, bad, good, cut, missing}
 

@@ -16,7 +16,8 @@ use Rattle.lines.specs.declared.Word.{Word}
 use Rattle.lines.specs.declared.Line.{Line}
 use Rattle.lines.specs.Lines.{newline, upTo, beyond}
 use Rattle.lines.specs.Forms.{lineOf}
-use Rattle.sheet.specs.Sheet.{Above, top, amongParts, lineFault, wordAfter, after, Outcome, refused, whole, ending, next, readFrom, sheetMost, outcomeOf, shown, readOf}
+use Rattle.sheet.specs.Sheet.{Above, top, amongParts, lineFault, wordAfter, after, Outcome, refused, whole}
+use Rattle.sheet.specs.Sheet.{ending, next, readFrom, sheetMost, outcomeOf, shown, readOf}
 use Rattle.lines.proofs.LineLaws.{rest, rest-drop, rest-length, rest-rest, run-le, run-take, run-whole, run-last, run-more}
 use Rattle.sheet.proofs.FaultLaws.{line-part, line-fit}
 

@@ -24,7 +24,9 @@ use Rattle.lines.specs.declared.Word.{Word}
 use Rattle.lines.specs.declared.Line.{Line}
 use Rattle.lines.specs.Lines.{newline, upTo, beyond}
 use Rattle.lines.specs.Forms.{lineOf}
-use Rattle.sheet.specs.Sheet.{Above, atTop, belowMachine, amongParts, top, taskFree, partFree, room, machineFault, costFault, partFault, fitFault, wordFault, lineFault, after, Outcome, refused, whole, ending, next, readFrom, sheetMost, outcomeOf, shown, readOf}
+use Rattle.sheet.specs.Sheet.{Above, atTop, belowMachine, amongParts, top, taskFree, partFree, room, machineFault}
+use Rattle.sheet.specs.Sheet.{costFault, partFault, fitFault, wordFault, lineFault, after, Outcome, refused, whole}
+use Rattle.sheet.specs.Sheet.{ending, next, readFrom, sheetMost, outcomeOf, shown, readOf}
 
 -- ---- one line
 

@@ -30,7 +30,8 @@ use Rattle.sheet.specs.declared.Head.{Head}
 use Rattle.sheet.specs.Sheet.{Above, top, amongParts, sheetMost, lineFault, wordAfter, after, partNamed, refused, shown, readOf}
 use Rattle.sheet.specs.ways.ReaderHolds.{partsOf, headOf, Carries, Found}
 use Rattle.sheet.proofs.FaultLaws.{line-part, line-fit, part-inside, part-there}
-use Rattle.sheet.proofs.DraftLaws.{tasks-count, tasks-are, tasks-array, parts-count, parts-are, parts-array, holds-same, holds-part, holds-task, Seeking, seek-end, partName, taskName}
+use Rattle.sheet.proofs.DraftLaws.{tasks-count, tasks-are, tasks-array, parts-count, parts-are, parts-array, holds-same}
+use Rattle.sheet.proofs.DraftLaws.{holds-part, holds-task, Seeking, seek-end, partName, taskName}
 use Rattle.sheet.proofs.ReadLaws.{Reached, reached-top, reached-bad, reached-line, reached-missing, reached-whole}
 
 pub record Standing (bytes : List ℕ) (h : Head) (ps : Parts) (ts : Tasks) (at n : ℕ) : Type 0 where

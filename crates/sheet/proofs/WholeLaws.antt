@@ -24,7 +24,8 @@ use Rattle.task.proofs.NameLaws.{same-name-exact}
 use Rattle.lines.specs.Lines.{newline, upTo, beyond}
 use Rattle.lines.specs.Forms.{lineOf}
 use Rattle.demand.proofs.PaddedLaws.{padded-take}
-use Rattle.sheet.specs.Sheet.{Above, top, amongParts, lineFault, partNamed, after, Outcome, refused, whole, ending, next, readFrom, sheetMost, outcomeOf, shown, readOf}
+use Rattle.sheet.specs.Sheet.{Above, top, amongParts, lineFault, partNamed, after, Outcome, refused, whole}
+use Rattle.sheet.specs.Sheet.{ending, next, readFrom, sheetMost, outcomeOf, shown, readOf}
 use Rattle.sheet.specs.Fitted.{ended, linesOf}
 use Rattle.sheet.proofs.ReadLaws.{Fits, after-fits}
 

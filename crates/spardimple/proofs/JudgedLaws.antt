@@ -49,4 +49,5 @@ module _ (rs cs : List ℕ) (v : Verdict) (is : replyOf rs cs ≡ said (Judged v
   judged-sized = subst (Each Sized) (take-length (piecesOf rs)) (answered-sized (costsSpelt cs) (length (piecesOf rs)) (piecesOf rs) v answered)
 
   pub judged-verdict : verdictOf (costsSpelt cs) (piecesOf rs) ≡ v
-  judged-verdict = ap (verdictOf (costsSpelt cs)) (sym (take-length (piecesOf rs))) ∙ answered-verdict (costsSpelt cs) (length (piecesOf rs)) (piecesOf rs) v answered
+  judged-verdict = ap (verdictOf (costsSpelt cs)) (sym (take-length (piecesOf rs)))
+      ∙ answered-verdict (costsSpelt cs) (length (piecesOf rs)) (piecesOf rs) v answered

@@ -41,7 +41,8 @@ use Rattle.listing.specs.Listing.{spelling, listingOf}
 use Rattle.listing.proofs.TextLaws.{over-short, over-fits}
 use Rattle.listing.proofs.PlainLaws.{listing-few}
 use Rattle.spardimple.specs.Numbers.{number}
-use Rattle.spardimple.specs.Sheets.{Paper, refused, written, unless, planSheet, listed, planned, paperOf, machineIn, costsIn, tasksIn, planIn, refusal, toldPaper, listingNumber, left, listingLeft}
+use Rattle.spardimple.specs.Sheets.{Paper, refused, written, unless, planSheet, listed, planned, paperOf, machineIn, costsIn}
+use Rattle.spardimple.specs.Sheets.{tasksIn, planIn, refusal, toldPaper, listingNumber, left, listingLeft}
 use Rattle.spardimple.proofs.NumberLaws.{told-one}
 use Rattle.spardimple.proofs.SheetLaws.{paper-unread, paper-stuck, paper-written, reply-small, told-long, told-short}
 

@@ -70,7 +70,8 @@ use Rattle.spardimple.specs.Bytes.{piecesOf, costsSpelt}
 use Rattle.spardimple.specs.Numbers.{said, replyOf, verdictNumber}
 use Rattle.spardimple.specs.Sheets.{refused, written, machineIn, costsIn, tasksIn, planIn, paperOf, refusal, toldPaper, listingNumber, listingLeft}
 use Rattle.spardimple.proofs.NumberLaws.{verdict-number-one}
-use Rattle.spardimple.proofs.PaperLaws.{listing-number-one, paper-nine, paper-seven, paper-ten, paper-read, paper-comes, paper-alike, buffer-refused, buffer-written}
+use Rattle.spardimple.proofs.PaperLaws.{listing-number-one, paper-nine, paper-seven, paper-ten, paper-read}
+use Rattle.spardimple.proofs.PaperLaws.{paper-comes, paper-alike, buffer-refused, buffer-written}
 use Rattle.spardimple.proofs.SheetLaws.{paper-unread}
 use Rattle.spardimple.proofs.JudgedLaws.{judged-sized, judged-verdict}
 
@@ -93,7 +94,8 @@ by-line sheet few k j = first-bad sheet few k j
 pub by-line-then : (sheet : List ℕ) → (readOf sheet .number ≡ 0 → ⊥) → paperOf sheet ≡ refused (readOf sheet .number) (readOf sheet .carries)
 by-line-then sheet = paper-unread sheet (readOf sheet) refl
 
-pub seven : (sheet : List ℕ) → readOf sheet .number ≡ 0 → (k : ℕ) → (paperOf sheet ≡ refused 7 (suc k)) ↔ (walked (machineIn sheet) (costsIn sheet) (tasksIn sheet) ≡ stuck k 7)
+pub seven : (sheet : List ℕ) → readOf sheet .number ≡ 0 → (k : ℕ)
+    → (paperOf sheet ≡ refused 7 (suc k)) ↔ (walked (machineIn sheet) (costsIn sheet) (tasksIn sheet) ≡ stuck k 7)
 seven sheet whole k = paper-seven sheet whole k
 
 pub ten : (sheet text : List ℕ) → paperOf sheet ≡ written text → (room : ℕ) → (toldPaper (paperOf sheet) room ≡ refusal 10 (length text)) ↔ (room < length text)
@@ -206,13 +208,15 @@ begun-held sheet text is =
     plan-held (machineIn sheet) (costsIn sheet) (readOf sheet .sheet .tasks .count) (readOf sheet .sheet .tasks .list)
     (paper-read sheet text is .1)
 
-pub afresh : (es : List TaskEdit) (s : Plan) → Held s → planOf (s .machine) (s .costs) (played es s .tasks .count) (played es s .tasks .list) ≡ accepted (played es s)
+pub afresh : (es : List TaskEdit) (s : Plan) → Held s
+    → planOf (s .machine) (s .costs) (played es s .tasks .count) (played es s .tasks .list) ≡ accepted (played es s)
 afresh es s = after-edits-afresh es s
 
 pub edit-made : (e : TaskEdit) (s : Plan) → editOf e s .number ≡ 0 → tasksHeld (editOf e s .plan) ≡ edited byName e (tasksHeld s)
 edit-made e s = edit-does e s
 
-pub same-state : (m : Machine) (c : Costs) (p p′ : List Task) (s s′ : Stand) (l l′ : List (Placed Task)) → walkOver (taskWay m c) p ≡ fine s l → walkOver (taskWay m c) p′ ≡ fine s′ l′
+pub same-state : (m : Machine) (c : Costs) (p p′ : List Task) (s s′ : Stand) (l l′ : List (Placed Task))
+    → walkOver (taskWay m c) p ≡ fine s l → walkOver (taskWay m c) p′ ≡ fine s′ l′
     → s .core ≡ s′ .core → s .row ≡ s′ .row → Meet (taskWay m c) p p′
 same-state = same-stand
 
@@ -220,6 +224,7 @@ module _ (e : TaskEdit) (s : Plan) (held : Held s) (taken : editOf e s .number �
   pub kept-before : (b : Name) → Ahead (editedName e) b (tasksHeld s) → Ahead (editedName e) b (tasksHeld (editOf e s .plan)) → Keeps s (editOf e s .plan) b
   kept-before = edit-before e s held taken
 
-  pub kept-after : {p r p′ r′ : List Task} {b b′ : Task} → Behind byName (editedName e) (inOrder (tasksHeld s)) p b r → Behind byName (editedName e) (inOrder (tasksHeld (editOf e s .plan))) p′ b′ r′ → b .name ≡ b′ .name
+  pub kept-after : {p r p′ r′ : List Task} {b b′ : Task} → Behind byName (editedName e) (inOrder (tasksHeld s)) p b r
+      → Behind byName (editedName e) (inOrder (tasksHeld (editOf e s .plan))) p′ b′ r′ → b .name ≡ b′ .name
       → Meet (taskWay (s .machine) (s .costs)) p p′ → (d : Name) → Among byName d (b ∷ r) → Keeps s (editOf e s .plan) d
   kept-after = edit-after e s held taken

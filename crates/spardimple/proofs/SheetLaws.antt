@@ -36,7 +36,8 @@ use Rattle.sheet.proofs.RuleLaws.{breaks-no-rule}
 use Rattle.listing.specs.Text.{over}
 use Rattle.listing.specs.Listing.{listingOf}
 use Rattle.spardimple.specs.Numbers.{number}
-use Rattle.spardimple.specs.Sheets.{Paper, refused, written, unless, planSheet, listed, planned, paperOf, refusal, toldPaper, listingNumber, left, listingLeft}
+use Rattle.spardimple.specs.Sheets.{Paper, refused, written, unless, planSheet, listed, planned, paperOf}
+use Rattle.spardimple.specs.Sheets.{refusal, toldPaper, listingNumber, left, listingLeft}
 
 unless-some : (n k : ℕ) (rest : Paper) → (n ≡ 0 → ⊥) → unless n k rest ≡ refused n k
 unless-some zero k rest some = absurd (some refl)
@@ -46,7 +47,8 @@ unless-some (suc n) k rest some = refl
 plan-small : (m : Machine) (c : Costs) (n : ℕ) (ts : List Task) → stateFault m c n ts ≡ 0 → (planOf m c n ts .number ≤ 7) × (planOf m c n ts .carries ≤ 64)
 plan-small m c n ts good = by (plan-or-stuck m c n ts good)
   where
-    by : ((s : Stand) × (l : List (Placed ℕ)) × (walked m c (take n ts) ≡ fine s l) × (planOf m c n ts ≡ finished m c (take n ts) (fine s l))) ⊎ ((k : ℕ) × (walked m c (take n ts) ≡ stuck k 7) × (planOf m c n ts ≡ refusedPlan 7 (suc k)))
+    by : ((s : Stand) × (l : List (Placed ℕ)) × (walked m c (take n ts) ≡ fine s l) × (planOf m c n ts ≡ finished m c (take n ts) (fine s l)))
+        ⊎ ((k : ℕ) × (walked m c (take n ts) ≡ stuck k 7) × (planOf m c n ts ≡ refusedPlan 7 (suc k)))
         → (planOf m c n ts .number ≤ 7) × (planOf m c n ts .carries ≤ 64)
     by (inl h) = rw (h .3) (omega arith, omega arith)
     by (inr h) = rw (h .2) (omega arith, omega (arith, no-room-place m c n ts good (h .0) (h .1), length-take n ts, state-sane m c n ts good .few))

@@ -59,7 +59,8 @@ bounds-as b d qs rs q s r stall row piece bound =
 
 pub caps-as : (b d : ℕ) (qs rs : List Charged) (q s : Charged) (f a e r : ℕ) → b ≡ d → qs ≡ rs → q ≡ s → a ≡ e → Caps b qs q f a r → Caps d rs s f e r
 caps-as b d qs rs q s f a e r stall row piece start caps =
-    subst (λ (m : ℕ). Caps d rs s f m r) start (subst (λ (m : ℕ). Caps m rs s f a r) stall (subst (λ (ps : List Charged). Caps b ps s f a r) row (subst (λ (p : Charged). Caps b qs p f a r) piece caps)))
+    subst (λ (m : ℕ). Caps d rs s f m r) start (subst (λ (m : ℕ). Caps m rs s f a r) stall
+    (subst (λ (ps : List Charged). Caps b ps s f a r) row (subst (λ (p : Charged). Caps b qs p f a r) piece caps)))
 
 -- ---- with the piece behind
 
@@ -92,7 +93,8 @@ module _ (b : ℕ) (qs : List Charged) (q : Charged) where
       (λ h. omega (arith, demand-snoc u, blocking-above b qs u (omega arith), blocking-above b (qs ++ (q ∷ [])) u (omega (arith, largest-snoc qs q)))) side
 
   -- what is calm beside the core, and with the piece's own blocking, is calm
-  calm-whole : (a e : ℕ) → ((u : ℕ) → a ≤ u → u < e → beside b qs q (q .charge) u ≤ u) → Calm b (qs ++ (q ∷ [])) (max a (largestWindow qs)) (q .window) → Calm b (qs ++ (q ∷ [])) a e
+  calm-whole : (a e : ℕ) → ((u : ℕ) → a ≤ u → u < e → beside b qs q (q .charge) u ≤ u)
+      → Calm b (qs ++ (q ∷ [])) (max a (largestWindow qs)) (q .window) → Calm b (qs ++ (q ∷ [])) a e
   calm-whole a e calm own u low high = elim (decLt u (largestWindow qs)) [
     | yes h ↦ omega (arith, calm u low high, demand-same u (_⊎_.inl h))
     | no h ↦ elim (decLt u (q .window)) [
@@ -108,7 +110,8 @@ largest-fits (q ∷ qs) ok = omega (arith, ok .0 .window-fits, largest-fits qs (
 -- ---- the busy length
 
 -- r is q but for the charge and the window
-module _ (qs : List Charged) (q r : Charged) (period : r .period ≡ q .period) (release : r .release ≡ q .release) (ipi : r .ipi ≡ q .ipi) (rs : List Charged) (laid : rs ≡ qs ++ (r ∷ [])) (recurs : Each Recurs rs) where
+module _ (qs : List Charged) (q r : Charged) (period : r .period ≡ q .period) (release : r .release ≡ q .release) (ipi : r .ipi ≡ q .ipi)
+    (rs : List Charged) (laid : rs ≡ qs ++ (r ∷ [])) (recurs : Each Recurs rs) where
   busy-last : (l : ℕ) → busySum rs l ≡ busySum qs l + ceil l (q .period) * (r .charge + q .release + q .ipi)
   unfolding busySum busyLoad
   busy-last l = rw (laid, sym period, sym release, sym ipi) (total-snoc (busyLoad l) qs r)
@@ -160,7 +163,8 @@ module _ (qs : List Charged) (q : Charged) (t : ℕ) where
   pub stalled-rest : (rs : List Charged) (rest : ℕ) → rs ≡ qs ++ (withCharge q 0 ∷ []) → rest ≡ total (load t) rs → rest ≡ total (load t) qs + interrupts q t
   stalled-rest rs rest laid is = omega (arith, load-behind rs 0 laid)
 
-  pub stalled-jobs : (rs : List Charged) (sum rest jobs : ℕ) → rs ≡ qs ++ (withCharge q 1 ∷ []) → sum ≡ total (load t) rs → rest ≡ total (load t) qs + interrupts q t → jobs ≡ sum - rest → jobs ≡ jobsDue q t
+  pub stalled-jobs : (rs : List Charged) (sum rest jobs : ℕ) → rs ≡ qs ++ (withCharge q 1 ∷ []) → sum ≡ total (load t) rs
+      → rest ≡ total (load t) qs + interrupts q t → jobs ≡ sum - rest → jobs ≡ jobsDue q t
   stalled-jobs rs sum rest jobs laid is asked less = omega (arith, load-behind rs 1 laid)
 
   module _ (b rest jobs : ℕ) (asked : rest ≡ total (load t) qs + interrupts q t) (due : jobs ≡ jobsDue q t) (some : 1 ≤ q .charge) where
@@ -223,12 +227,14 @@ module _ (b : ℕ) (qs rs : List Charged) (q : Charged) (laid : rs ≡ qs ++ (q 
   pub bound-never : (a k t : ℕ) → scan b rs a k ≡ Undecided → Bounds b qs q (Falls t)
   bound-never a k t never = absurd (subst (λ (w : Verdict). Says b rs a k w) never (scan-says b rs a k))
 
-  pub bound-stands : (a l own r : ℕ) → a ≡ leastLive rs → busyLength rs ≡ At l → own ≡ max a (largestWindow qs) → 1 ≤ q .charge → q .charge ≤ r → r ≡ mostFitting b qs q a l (q .charge) → scan b rs own (q .window - own) ≡ Passes → Bounds b qs q Stands
+  pub bound-stands : (a l own r : ℕ) → a ≡ leastLive rs → busyLength rs ≡ At l → own ≡ max a (largestWindow qs) → 1 ≤ q .charge
+      → q .charge ≤ r → r ≡ mostFitting b qs q a l (q .charge) → scan b rs own (q .window - own) ≡ Passes → Bounds b qs q Stands
   bound-stands a l own r start busy is some kept left mine =
       let near = squeezed-is b qs q a l (q .charge) r left in
       let whole-charge : r ≡ q .charge = omega (arith, near .most) in
       let fits : FitsIn b qs q (q .charge) a (a + l) = subst (λ (y : ℕ). FitsIn b qs q y a (a + l)) whole-charge (near .fits (omega arith)) in
-      let over : Calm b rs own (own + (q .window - own)) = subst (λ (w : Verdict). Says b rs own (q .window - own) w) mine (scan-says b rs own (q .window - own)) in
+      let over : Calm b rs own (own + (q .window - own)) =
+      subst (λ (w : Verdict). Says b rs own (q .window - own) w) mine (scan-says b rs own (q .window - own)) in
       let beyond : Calm b (qs ++ (q ∷ [])) (max a (largestWindow qs)) (q .window) = λ u low high. rw laid at (over u (omega arith) (omega arith)) in
       let calm : Calm b (qs ++ (q ∷ [])) a (a + l) = calm-whole b qs q a (a + l) fits beyond in
       let whole : Calm b rs a (a + l) = rw laid calm in

@@ -42,8 +42,10 @@ shows-lt P a b step = by (ltb a b) refl
 pub lowered-start : (P : ℕ → Type 0) (top : ℕ) → Lowered P top top
 lowered-start P top = record { most = omega arith; some = λ h. h; told = _⊎_.inl refl }
 
-pub lowered-next : (P : ℕ → Type 0) (b : Bool) (top low m high r : ℕ) → low < m → m < high → r ≡ cond b m high → ShowsIf (P m) b → Lowered P top high → Lowered P top r
-lowered-next P true top low m high r above below is shown old = rw is (record { most = omega (arith, old .most); some = λ h. omega arith; told = _⊎_.inr shown })
+pub lowered-next : (P : ℕ → Type 0) (b : Bool) (top low m high r : ℕ) → low < m → m < high → r ≡ cond b m high → ShowsIf (P m) b
+    → Lowered P top high → Lowered P top r
+lowered-next P true top low m high r above below is shown old =
+    rw is (record { most = omega (arith, old .most); some = λ h. omega arith; told = _⊎_.inr shown })
 lowered-next P false top low m high r above below is shown old = rw is old
 
 pub low-next : (b : Bool) (low m high r : ℕ) → low < m → m < high → r ≡ cond b low m → (low ≤ r) × (r < high)
@@ -56,7 +58,9 @@ nearer false low m high l h above below low-is high-is = (omega arith, omega ari
 
 module _ (qs : List Charged) (base top : ℕ) where
   pub climbed-none : Each Recurs qs → (m : ℕ) → Nothing ≡ leastHolding (asked Interrupts (base + m) qs) top → Refuses qs (Window base top) m
-  climbed-none recurs m none = subst (λ (r : Found). Finds (asked Interrupts (base + m) qs) top r) (sym none) (least-holding-finds (asked Interrupts (base + m) qs) (asked-mono Interrupts (base + m) qs recurs) top)
+  climbed-none recurs m none =
+      subst (λ (r : Found). Finds (asked Interrupts (base + m) qs) top r) (sym none)
+      (least-holding-finds (asked Interrupts (base + m) qs) (asked-mono Interrupts (base + m) qs recurs) top)
 
   pub late-more : (m z : ℕ) → m ≤ z → Refuses qs (Window base top) m → Refuses qs (Window base top) z
   late-more m z more late t within holds = late t within (record { some = holds .some; fits = omega (arith, holds .fits) })

@@ -51,7 +51,8 @@ use Rattle.splits.proofs.MonotoneSearchLaws.{late-more}
 use Rattle.demand.proofs.VerdictLaws.{verdict-means, passes-forever}
 use Rattle.verdicts.proofs.MostFittingLaws.{beside-at}
 use Rattle.splits.proofs.ChargeBoundLaws.{beside-snoc, blocking-below, blocking-above, least-live-some, passes-settles}
-use Rattle.demand.proofs.ChargedSplitLaws.{fails-here, fails-there, tight-same, extra, first-charge, last-charge, with-each, calls, calls-mono, tight-parts, first-interrupts, first-recurs, last-recurs}
+use Rattle.demand.proofs.ChargedSplitLaws.{fails-here, fails-there, tight-same, extra, first-charge, last-charge, with-each, calls}
+use Rattle.demand.proofs.ChargedSplitLaws.{calls-mono, tight-parts, first-interrupts, first-recurs, last-recurs}
 use Rattle.splits.proofs.SplitSearchLaws.{step-skips, step-done, calls-with}
 
 -- a verdict that passes covers every live length
@@ -70,7 +71,9 @@ module _ (c : Costs) (qs : List Charged) (p : Piece) where
     tight-shorter x y {t} {u} some less long short =
         let holds = least-le short (t - (x - y)) (record {
           some = omega (arith, tight-fits x long);
-          fits = rw (tight-parts c qs p y (t - (x - y))) (omega (arith, tight-fits x long, calls-mono c qs p recurs ok {t = t - (x - y)} {u = t} (omega arith)));
+          fits =
+              rw (tight-parts c qs p y (t - (x - y)))
+              (omega (arith, tight-fits x long, calls-mono c qs p recurs ok {t = t - (x - y)} {u = t} (omega arith)));
         }) in
         omega (arith, holds, tight-fits x long)
 
@@ -106,7 +109,8 @@ live-shorter : (qs : List Charged) (q r : Charged) (u : ℕ) → jobsDue q u ≤
 unfolding Live
 live-shorter qs q r u more live = some-last (λ p. 1 ≤ jobsDue p u) qs q r (λ one. omega arith) live
 
-beside-le : (b : ℕ) (qs : List Charged) (q r : Charged) (f u : ℕ) → interrupts q u ≡ interrupts r u → jobsDue q u ≤ jobsDue r u → beside b qs q f u ≤ beside b qs r f u
+beside-le : (b : ℕ) (qs : List Charged) (q r : Charged) (f u : ℕ) → interrupts q u ≡ interrupts r u → jobsDue q u ≤ jobsDue r u
+    → beside b qs q f u ≤ beside b qs r f u
 beside-le b qs q r f u same more = omega (arith, beside-at b qs q f u, beside-at b qs r f u, mul-le-mul-right f more)
 
 first-due : (c : Costs) (p : Piece) → Sized p → (x y v w u : ℕ) → v ≤ w → jobsDue (charged c (firstPiece p x w)) u ≤ jobsDue (charged c (firstPiece p y v)) u
@@ -122,21 +126,26 @@ with-some c qs p x w = rw length-append (omega arith)
 
 with-shorter : (c : Costs) (qs : List Charged) (p : Piece) → Sized p → (x y v w u : ℕ) → v ≤ w → Live (withFirst c qs p x w) u → Live (withFirst c qs p y v) u
 unfolding withFirst
-with-shorter c qs p ok x y v w u shorter live = live-shorter qs (charged c (firstPiece p x w)) (charged c (firstPiece p y v)) u (first-due c p ok x y v w u shorter) live
+with-shorter c qs p ok x y v w u shorter live =
+    live-shorter qs (charged c (firstPiece p x w)) (charged c (firstPiece p y v)) u (first-due c p ok x y v w u shorter) live
 
-with-beside : (c : Costs) (qs : List Charged) (p : Piece) (x w u : ℕ) → beside (stall c) qs (charged c (firstPiece p x w)) (x + extra c p) u ≤ demand (stall c) (withFirst c qs p x w) u
+with-beside : (c : Costs) (qs : List Charged) (p : Piece) (x w u : ℕ)
+    → beside (stall c) qs (charged c (firstPiece p x w)) (x + extra c p) u ≤ demand (stall c) (withFirst c qs p x w) u
 unfolding withFirst
 with-beside c qs p x w u =
     let q = charged c (firstPiece p x w) in
     subst (λ (f : ℕ). beside (stall c) qs q f u ≤ demand (stall c) (qs ++ (q ∷ [])) u) (first-charge c p x w) (beside-snoc (stall c) qs q u)
 
 module _ (c : Costs) (qs : List Charged) (p : Piece) (recurs : Each Recurs qs) (ok : Sized p) where
-  pub holding-below : (x y s v : ℕ) → Fits c qs p y s → p .jitter + s ≤ v → FitsFrom (stall c) qs (charged c (firstPiece p x v)) (y + extra c p) (leastLive (withFirst c qs p x v))
+  pub holding-below : (x y s v : ℕ) → Fits c qs p y s → p .jitter + s ≤ v
+      → FitsFrom (stall c) qs (charged c (firstPiece p x v)) (y + extra c p) (leastLive (withFirst c qs p x v))
   holding-below x y s v fits wider u from =
       let q = charged c (firstPiece p x v) in
       let w = p .jitter + s in
       let r = charged c (firstPiece p y (p .jitter + s)) in
-      let long = live-mono (withFirst c qs p x v) (with-recurs c qs p x v recurs ok) {t = leastLive (withFirst c qs p x v)} {u = u} from (least-live-some (withFirst c qs p x v) (with-some c qs p x v) .here) in
+      let long =
+      live-mono (withFirst c qs p x v) (with-recurs c qs p x v recurs ok) {t = leastLive (withFirst c qs p x v)} {u = u} from
+      (least-live-some (withFirst c qs p x v) (with-some c qs p x v) .here) in
       let live : Live (withFirst c qs p y w) u = with-shorter c qs p ok x y w v u wider long in
       let same : interrupts q u ≡ interrupts r u = first-interrupts c p x v u ∙ sym (first-interrupts c p y w u) in
       omega (
@@ -150,7 +159,9 @@ module _ (c : Costs) (qs : List Charged) (p : Piece) (recurs : Each Recurs qs) (
   unfolding withFirst
   with-least x w = refl
 
-  alike : (x w z v : ℕ) → (charged c (firstPiece p z v) .period ≡ charged c (firstPiece p x w) .period) × (charged c (firstPiece p z v) .release ≡ charged c (firstPiece p x w) .release) × (charged c (firstPiece p z v) .ipi ≡ charged c (firstPiece p x w) .ipi)
+  alike : (x w z v : ℕ) → (charged c (firstPiece p z v) .period ≡ charged c (firstPiece p x w) .period)
+      × (charged c (firstPiece p z v) .release ≡ charged c (firstPiece p x w) .release)
+      × (charged c (firstPiece p z v) .ipi ≡ charged c (firstPiece p x w) .ipi)
   unfolding charged ipiCost firstPiece pieceOf
   alike x w z v = (refl, refl, refl)
 
@@ -162,10 +173,13 @@ module _ (c : Costs) (qs : List Charged) (p : Piece) (recurs : Each Recurs qs) (
   settles-below x w z u fits =
       let v = p .jitter + u in
       let same = alike x w z v in
-      let settles = passes-settles qs (charged c (firstPiece p x w)) (charged c (firstPiece p z v)) (same .0) (same .1) (same .2) (withFirst c qs p z v) (with-laid z v) (with-recurs c qs p z v recurs ok) (stall c) (fits .here) in
+      let settles =
+      passes-settles qs (charged c (firstPiece p x w)) (charged c (firstPiece p z v)) (same .0) (same .1) (same .2) (withFirst c qs p z v)
+      (with-laid z v) (with-recurs c qs p z v recurs ok) (stall c) (fits .here) in
       subst (λ (f : ℕ). Settles qs (charged c (firstPiece p x w)) f) (first-charge c p z v) settles
 
-  pub step-capped : (x t w f k : ℕ) → 1 ≤ x → Tight c qs p x t → w ≡ p .jitter + t → k ≡ charged c (firstPiece p x w) .charge → Bounds (stall c) qs (charged c (firstPiece p x w)) (AtMost f) → Steps c qs p x (Below (f - (k - x)))
+  pub step-capped : (x t w f k : ℕ) → 1 ≤ x → Tight c qs p x t → w ≡ p .jitter + t → k ≡ charged c (firstPiece p x w) .charge
+      → Bounds (stall c) qs (charged c (firstPiece p x w)) (AtMost f) → Steps c qs p x (Below (f - (k - x)))
   step-capped x t w f k some tight at charge bound =
       let e : k ≡ x + extra c p = charge ∙ first-charge c p x w in (
         omega (arith, bound .0),
@@ -188,7 +202,9 @@ module _ (c : Costs) (qs : List Charged) (p : Piece) (x w : ℕ) (found : TightI
   falls-here f bound = fails-here c qs p x (found .0) w (found .1) (found .3) (verdict (stall c) (qs ++ (charged c (firstPiece p x w) ∷ []))) refl (bound .0)
 
   pub falls-there : (s : ℕ) → Hopeless c p x w s → (u : ℕ) → Fits c qs p x u → ⊥
-  falls-there s hopeless = fails-there c qs p x (found .0) w (found .1) (found .3) (verdict (stall c) (lastAlone c p x w)) refl (hopeless x w (omega arith) (omega arith) (omega arith))
+  falls-there s hopeless =
+      fails-there c qs p x (found .0) w (found .1) (found .3) (verdict (stall c) (lastAlone c p x w)) refl
+      (hopeless x w (omega arith) (omega arith) (omega arith))
 
 -- ---- the last piece alone
 
@@ -221,18 +237,28 @@ module _ (q r : Charged) (k : ℕ) (window : r .window ≡ q .window + k) where
   ]
 
   -- a piece that is overloaded by more than the slack, and a longer one whose window gains no more than its charge and the slack
-  moved-over : Recurs r → r .period ≡ q .period → r .jitter ≡ q .jitter → (b u d s : ℕ) → interrupts q u ≡ interrupts r u → r .charge ≡ q .charge + d → k ≤ d + s → Live (q ∷ []) u → u + s < demand b (q ∷ []) u → demand b (r ∷ []) (u + k) ≤ u + k → ⊥
+  moved-over : Recurs r → r .period ≡ q .period → r .jitter ≡ q .jitter → (b u d s : ℕ) → interrupts q u ≡ interrupts r u
+      → r .charge ≡ q .charge + d → k ≤ d + s → Live (q ∷ []) u → u + s < demand b (q ∷ []) u → demand b (r ∷ []) (u + k) ≤ u + k → ⊥
   moved-over pos period jitter b u d s same more gain live over pass =
       let due : 1 ≤ jobsDue q u = alone-due q u live in
       let jobs : jobsDue r (u + k) * r .charge ≡ jobsDue q u * q .charge + jobsDue q u * d = rw (due-moved period jitter u, more) (omega arith) in
-      omega (arith, alone-demand b q u, alone-demand b r (u + k), blocking-moved b u, jobs, mul-le-mul-right d due, interrupts-mono pos {t = u} {u = u + k} (omega arith))
+      omega (
+        arith,
+        alone-demand b q u,
+        alone-demand b r (u + k),
+        blocking-moved b u,
+        jobs,
+        mul-le-mul-right d due,
+        interrupts-mono pos {t = u} {u = u + k} (omega arith),
+      )
 
 last-interrupts : (c : Costs) (p : Piece) (x y v w u : ℕ) → interrupts (charged c (lastPiece c p x v)) u ≡ interrupts (charged c (lastPiece c p y w)) u
 unfolding interrupts charged ipiCost lastPiece lateJitter pieceOf
 last-interrupts c p x y v w u = refl
 
 -- a longer last piece whose window gains too little is overloaded as far past a live length
-last-hopeless : (c : Costs) (p : Piece) → Sized p → (x w u : ℕ) → Live (lastAlone c p x w) u → x ≤ p .budget → w ≤ p .window → (s : ℕ) → u + s < demand (stall c) (lastAlone c p x w) u → Hopeless c p x w s
+last-hopeless : (c : Costs) (p : Piece) → Sized p → (x w u : ℕ) → Live (lastAlone c p x w) u → x ≤ p .budget → w ≤ p .window → (s : ℕ)
+    → u + s < demand (stall c) (lastAlone c p x w) u → Hopeless c p x w s
 unfolding lastAlone charged lastPiece pieceOf
 last-hopeless c p ok x w u live fits inside s more y v less shorter gain pass =
     let q = charged c (lastPiece c p x w) in
@@ -262,7 +288,9 @@ module _ (c : Costs) (p : Piece) (ok : Sized p) (x w u : ℕ) (over : verdict (s
 
   -- by one less than it is overloaded there
   pub last-falls : x ≤ p .budget → w ≤ p .window → (s : ℕ) → s ≡ demand (stall c) (lastAlone c p x w) u - (u + 1) → Hopeless c p x w s
-  last-falls fits inside s late = last-hopeless c p ok x w u (live-mono (lastAlone c p x w) (last-recurs c p x w ok) (over-means .3 .from) (over-means .2 .start .here)) fits inside s (omega (arith, over-means .3 .over))
+  last-falls fits inside s late =
+      last-hopeless c p ok x w u (live-mono (lastAlone c p x w) (last-recurs c p x w ok) (over-means .3 .from) (over-means .2 .start .here))
+      fits inside s (omega (arith, over-means .3 .over))
 
 -- ---- how far down the next may stand
 
@@ -271,7 +299,8 @@ module _ (c : Costs) (qs : List Charged) (p : Piece) where
   step-last x f w none = (none .0, λ z u low high fits. none .1 z (p .jitter + u) high (fits .there))
 
   -- the high end of the budgets, one less
-  pub misses-lowered : (base b k : ℕ) → base ≡ b + k → b ≡ stall c → k ≡ charged c (firstPiece p 0 0) .charge → (rs : List Charged) → rs ≡ withFirst c qs p 0 0 → (top x h : ℕ) → 1 ≤ x → Lowered (Refuses rs (Window base top)) x h → Misses c qs p top (h - 1) x
+  pub misses-lowered : (base b k : ℕ) → base ≡ b + k → b ≡ stall c → k ≡ charged c (firstPiece p 0 0) .charge → (rs : List Charged)
+      → rs ≡ withFirst c qs p 0 0 → (top x h : ℕ) → 1 ≤ x → Lowered (Refuses rs (Window base top)) x h → Misses c qs p top (h - 1) x
   misses-lowered base b k parts stalled charge rs laid top x h some low = (
     omega (arith, low .most, low .some some),
     λ z u above below tight. elim (decLt top u) [
@@ -292,7 +321,9 @@ module _ (c : Costs) (qs : List Charged) (p : Piece) where
 
   module _ (recurs : Each Recurs qs) (ok : Sized p) where
     -- the last pieces of all are overloaded whose tight window is past the end
-    pub skips-last : (x t w s : ℕ) → Tight c qs p x t → w ≡ p .jitter + t → Hopeless c p x w s → (rs : List Charged) → rs ≡ withFirst c qs p 0 0 → (i k end r : ℕ) → i ≡ total (term Interrupts t) rs → k ≡ i - s → Lowered (Refuses rs (Calls k)) t end → Misses c qs p (end - 1) r x → Skips c qs p r x
+    pub skips-last : (x t w s : ℕ) → Tight c qs p x t → w ≡ p .jitter + t → Hopeless c p x w s → (rs : List Charged)
+        → rs ≡ withFirst c qs p 0 0 → (i k end r : ℕ) → i ≡ total (term Interrupts t) rs → k ≡ i - s → Lowered (Refuses rs (Calls k)) t end
+        → Misses c qs p (end - 1) r x → Skips c qs p r x
     skips-last x t w s tight at hopeless rs laid i k end r calls-are few low misses = (
       misses .0,
       λ z u above below fits.
@@ -300,9 +331,21 @@ module _ (c : Costs) (qs : List Charged) (p : Piece) where
           let shorter = tight-shorter c qs p recurs ok x z (omega arith) (omega arith) tight (fits .tight) in
           let more : calls c qs p t ≤ calls c qs p u + s =
           ⊎-elim (λ same. omega (arith, calls-mono c qs p recurs ok {t = t} {u = u} (omega (arith, low .some (tight .here .some)))))
-          (λ come. omega (arith, come, calls-with c qs p 0 0 rs laid t, calls-with c qs p 0 0 rs laid end, calls-mono c qs p recurs ok {t = end} {u = u} (omega arith))) (low .told) in
+          (λ come. omega (
+            arith,
+            come,
+            calls-with c qs p 0 0 rs laid t,
+            calls-with c qs p 0 0 rs laid end,
+            calls-mono c qs p recurs ok {t = end} {u = u} (omega arith),
+          )) (low .told) in
           hopeless z (p .jitter + u) (omega arith) (omega arith)
-          (omega (arith, shorter, more, tight-full c qs p recurs ok x (omega arith) tight, tight-full c qs p recurs ok z (omega arith) (fits .tight))) (fits .there),
+          (omega (
+            arith,
+            shorter,
+            more,
+            tight-full c qs p recurs ok x (omega arith) tight,
+            tight-full c qs p recurs ok z (omega arith) (fits .tight),
+          )) (fits .there),
     )
 
 -- ---- where tight windows end
@@ -336,7 +379,8 @@ first-live c qs p x t = last-some (λ q. 1 ≤ jobsDue q t) qs (charged c (first
     last-some P [] q h = _⊎_.inl h
     last-some P (r ∷ rs) q h = _⊎_.inr (last-some P rs q h)
 
-first-demand : (c : Costs) (qs : List Charged) (p : Piece) (x t : ℕ) → demand (stall c) (withFirst c qs p x (p .jitter + t)) t ≡ blocking (stall c) (withFirst c qs p x (p .jitter + t)) t + total (term Jobs t) qs + (x + extra c p) + calls c qs p t
+first-demand : (c : Costs) (qs : List Charged) (p : Piece) (x t : ℕ) → demand (stall c) (withFirst c qs p x (p .jitter + t)) t
+    ≡ blocking (stall c) (withFirst c qs p x (p .jitter + t)) t + total (term Jobs t) qs + (x + extra c p) + calls c qs p t
 unfolding demand withFirst load calls
 first-demand c qs p x t =
     let q = charged c (firstPiece p x (p .jitter + t)) in
@@ -348,7 +392,8 @@ unfolding withFirst charged firstPiece pieceOf
 first-largest c qs p x w = largest-snoc qs (charged c (firstPiece p x w))
 
 -- before the end of the first piece's window the stall counts
-first-stalled : (c : Costs) (qs : List Charged) (p : Piece) (z v t : ℕ) → t < v → demand (stall c) (withFirst c qs p z v) t ≡ stall c + total (load t) qs + interrupts (charged c (firstPiece p z v)) t + jobsDue (charged c (firstPiece p z v)) t * (z + extra c p)
+first-stalled : (c : Costs) (qs : List Charged) (p : Piece) (z v t : ℕ) → t < v → demand (stall c) (withFirst c qs p z v) t
+    ≡ stall c + total (load t) qs + interrupts (charged c (firstPiece p z v)) t + jobsDue (charged c (firstPiece p z v)) t * (z + extra c p)
 unfolding withFirst load
 first-stalled c qs p z v t before =
     let q = charged c (firstPiece p z v) in
@@ -363,16 +408,23 @@ module _ (c : Costs) (qs : List Charged) (p : Piece) where
     left-over : (x t : ℕ) → 1 ≤ x → Fits c qs p x t → blocking (stall c) (withFirst c qs p x (p .jitter + t)) t + total (term Jobs t) qs ≤ stall c
     left-over x t some fits =
         let rs = withFirst c qs p x (p .jitter + t) in
-        omega (arith, forever (stall c) rs (with-recurs c qs p x (p .jitter + t) recurs ok) (fits .here) t (first-live c qs p x t), first-demand c qs p x t, tight-full c qs p recurs ok x some (fits .tight))
+        omega (
+          arith,
+          forever (stall c) rs (with-recurs c qs p x (p .jitter + t) recurs ok) (fits .here) t (first-live c qs p x t),
+          first-demand c qs p x t,
+          tight-full c qs p recurs ok x some (fits .tight),
+        )
 
     -- while the stall counts at the end of a tight window, no job of the core may be due by then
-    module _ (weighs : Each Weighs qs) (many : 1 ≤ length qs) (x t w : ℕ) (tight : Tight c qs p x t) (at : w ≡ p .jitter + t) (early : t < max (largestWindow qs) w) where
+    module _ (weighs : Each Weighs qs) (many : 1 ≤ length qs) (x t w : ℕ) (tight : Tight c qs p x t) (at : w ≡ p .jitter + t)
+        (early : t < max (largestWindow qs) w) where
       due-fails : (z u : ℕ) → 1 ≤ z → z ≤ x → leastLive qs ≤ u → Fits c qs p z u → ⊥
       due-fails z u some less due fits =
           let rs = withFirst c qs p z (p .jitter + u) in
           let shorter = tight-shorter c qs p recurs ok x z some less tight (fits .tight) in
           let counts = blocking-below (stall c) rs u (omega (arith, first-largest c qs p z (p .jitter + u))) in
-          jobs-idle u qs weighs (omega (arith, left-over z u some fits, counts)) (live-mono qs recurs {t = leastLive qs} {u = u} due (least-live-some qs many .here))
+          jobs-idle u qs weighs (omega (arith, left-over z u some fits, counts))
+          (live-mono qs recurs {t = leastLive qs} {u = u} due (least-live-some qs many .here))
 
       pub step-due : (m r : ℕ) → 1 ≤ x → leastLive qs ≤ t → m ≡ leastLive qs - 1 → Misses c qs p m r x → Steps c qs p x (Below r)
       step-due m r some due is misses =
@@ -380,7 +432,8 @@ module _ (c : Costs) (qs : List Charged) (p : Piece) where
           (misses .0, λ z u low high fits. due-fails z u (omega arith) (omega arith) (omega (arith, misses .1 z u low high (fits .tight))) fits)
 
     -- what is due within a tight window is charged no more than the stall, or than nothing where the task has jitter
-    pub ends-lowered : (most end r : ℕ) → (most ≡ stall c) ⊎ ((1 ≤ p .jitter) × (most ≡ 0)) → end ≡ p .window - p .jitter → Lowered (Refuses qs (Due most)) end r → Ends c qs p r
+    pub ends-lowered : (most end r : ℕ) → (most ≡ stall c) ⊎ ((1 ≤ p .jitter) × (most ≡ 0)) → end ≡ p .window - p .jitter
+        → Lowered (Refuses qs (Due most)) end r → Ends c qs p r
     ends-lowered most end r side is low x t some fits = elim (decLt t r) [
       | yes before ↦ before
       | no after ↦
@@ -389,11 +442,17 @@ module _ (c : Costs) (qs : List Charged) (p : Piece) where
           ⊎-elim (λ same. omega (arith, ends-room x t some fits))
           (λ over.
           let heavy : most < total (term Jobs t) qs = omega (arith, over, sum-mono qs recurs Jobs {t = r} {u = t} (omega arith)) in
-          ⊎-elim (λ stalled. absurd (omega (arith, left))) (λ jitter. absurd (omega (arith, left, blocking-below (stall c) rs t (omega (arith, first-largest c qs p x (p .jitter + t)))))) side) (low .told)
+          ⊎-elim (λ stalled. absurd (omega (arith, left))) (λ jitter. absurd (omega (
+            arith,
+            left,
+            blocking-below (stall c) rs t (omega (arith, first-largest c qs p x (p .jitter + t))),
+          ))) side) (low .told)
     ]
 
     -- a smaller budget that fits has its tight window by t, or fits at t with the stall
-    pub skips-own : (x t w u k most m r : ℕ) → Tight c qs p x t → w ≡ p .jitter + t → leastLive (withFirst c qs p x w) ≤ u → k ≡ charged c (firstPiece p x w) .charge → Stalled (stall c) qs (charged c (firstPiece p x w)) u most → Misses c qs p (u - p .jitter) m x → r ≡ max m (most - (k - x)) → Skips c qs p r x
+    pub skips-own : (x t w u k most m r : ℕ) → Tight c qs p x t → w ≡ p .jitter + t → leastLive (withFirst c qs p x w) ≤ u
+        → k ≡ charged c (firstPiece p x w) .charge → Stalled (stall c) qs (charged c (firstPiece p x w)) u most
+        → Misses c qs p (u - p .jitter) m x → r ≡ max m (most - (k - x)) → Skips c qs p r x
     skips-own x t w u k most m r tight at live charge stalled misses is =
         let e : k ≡ x + extra c p = charge ∙ first-charge c p x w in (
           omega (arith, misses .0, stalled .less),
@@ -401,23 +460,37 @@ module _ (c : Costs) (qs : List Charged) (p : Piece) where
               let v = p .jitter + s in
               let late : u < v = omega (arith, misses .1 z s (omega arith) below (fits .tight)) in
               let shorter = tight-shorter c qs p recurs ok x z (omega arith) (omega arith) tight (fits .tight) in
-              let there = with-shorter c qs p ok x z v w u (omega arith) (live-mono (withFirst c qs p x w) (with-recurs c qs p x w recurs ok) {t = leastLive (withFirst c qs p x w)} {u = u} live (least-live-some (withFirst c qs p x w) (with-some c qs p x w) .here)) in
+              let there =
+              with-shorter c qs p ok x z v w u (omega arith)
+              (live-mono (withFirst c qs p x w) (with-recurs c qs p x w recurs ok) {t = leastLive (withFirst c qs p x w)} {u = u} live
+              (least-live-some (withFirst c qs p x w) (with-some c qs p x w) .here)) in
               let fits-there = forever (stall c) (withFirst c qs p z v) (with-recurs c qs p z v recurs ok) (fits .here) u there in
               let jobs = mul-le-mul-right (z + extra c p) (first-due c p ok x z v w u (omega arith)) in
-              omega (arith, stalled .caps (z + extra c p) (omega arith) (omega (arith, fits-there, first-stalled c qs p z v u late, jobs, first-interrupts c p x w u, first-interrupts c p z v u))),
+              omega (
+                arith,
+                stalled .caps (z + extra c p) (omega arith)
+                    (omega (arith, fits-there, first-stalled c qs p z v u late, jobs, first-interrupts c p x w u, first-interrupts c p z v u)),
+              ),
         )
 
     -- ---- where the search starts
 
     pub starts-none : (e x : ℕ) → Ends c qs p e → x ≡ min (p .budget - 1) (e - (tightBeside c qs p 0 1 + 1)) → Starts c qs p x
-    starts-none e x ends is = (omega (arith, ok .budget-some), λ z u low high fits. omega (arith, ends z u (omega arith) fits, tight-least c qs p recurs ok z (fits .tight)))
+    starts-none e x ends is = (
+      omega (arith, ok .budget-some),
+      λ z u low high fits. omega (arith, ends z u (omega arith) fits, tight-least c qs p recurs ok z (fits .tight)),
+    )
 
-    pub starts-capped : (e x w k r : ℕ) → Ends c qs p e → Starts c qs p x → w ≡ p .jitter + (e - 1) → k ≡ charged c (firstPiece p x w) .charge → Caps (stall c) qs (charged c (firstPiece p x w)) k (leastLive (withFirst c qs p x w)) r → Starts c qs p (r - (k - x))
+    pub starts-capped : (e x w k r : ℕ) → Ends c qs p e → Starts c qs p x → w ≡ p .jitter + (e - 1) → k ≡ charged c (firstPiece p x w) .charge
+        → Caps (stall c) qs (charged c (firstPiece p x w)) k (leastLive (withFirst c qs p x w)) r → Starts c qs p (r - (k - x))
     starts-capped e x w k r ends starts at charge caps =
         let is : k ≡ x + extra c p = charge ∙ first-charge c p x w in (
           omega (arith, caps .most, starts .0),
           λ z u low high fits. elim (decLt x z) [
             | yes above ↦ starts .1 z u above high fits
-            | no below ↦ omega (arith, caps .caps (z + extra c p) (omega arith) (holding-below c qs p recurs ok x z u w fits (omega (arith, ends z u (omega arith) fits))))
+            | no below ↦ omega (
+              arith,
+              caps .caps (z + extra c p) (omega arith) (holding-below c qs p recurs ok x z u w fits (omega (arith, ends z u (omega arith) fits))),
+            )
           ],
         )

@@ -47,7 +47,8 @@ core-weighs c ps each = each-map Sized Weighs (charged c) (charged-weighs c) ps 
 
 -- ---- in the array
 
-pub ready-laid : (c : Costs) (n : ℕ) (ps : List Piece) → SizedCosts c → n < runMost → Each Sized ps → (a : List ℕ) → chargedIn a n ≡ coreOf c ps → length a ≡ 7 * runMost → Ready a n
+pub ready-laid : (c : Costs) (n : ℕ) (ps : List Piece) → SizedCosts c → n < runMost → Each Sized ps → (a : List ℕ)
+    → chargedIn a n ≡ coreOf c ps → length a ≡ 7 * runMost → Ready a n
 ready-laid c n ps costs room each a laid long = record {
   room = room;
   ranged = rw laid (core-ranged c costs ps (all-countable ps each));
@@ -56,7 +57,12 @@ ready-laid c n ps costs room each a laid long = record {
 }
 
 pub ready-kept : (a b : List ℕ) (n : ℕ) → Ready a n → SameCore a b n → Ready b n
-ready-kept a b n ready kept = record { room = ready .room; ranged = rw (kept .same) (ready .ranged); weighs = rw (kept .same) (ready .weighs); long = kept .long }
+ready-kept a b n ready kept = record {
+  room = ready .room;
+  ranged = rw (kept .same) (ready .ranged);
+  weighs = rw (kept .same) (ready .weighs);
+  long = kept .long;
+}
 
 pub kept-same : (a : List ℕ) (n : ℕ) → Ready a n → SameCore a a n
 kept-same a n ready = record { same = refl; long = ready .long }
@@ -74,30 +80,35 @@ module _ (a b : List ℕ) (n : ℕ) (q : Charged) (written : chargedIn b (n + 1)
   laid-first c p x w is = written ∙ ap (λ (r : Charged). chargedIn a n ++ (r ∷ [])) is
 
 -- and then it lies there
-pub laid-charged : (c : Costs) (p : Piece) (x w : ℕ) (a b : List ℕ) (n : ℕ) → chargedIn b (n + 1) ≡ withFirst c (chargedIn a n) p x w → chargedAt b n ≡ charged c (firstPiece p x w)
+pub laid-charged : (c : Costs) (p : Piece) (x w : ℕ) (a b : List ℕ) (n : ℕ) → chargedIn b (n + 1) ≡ withFirst c (chargedIn a n) p x w
+    → chargedAt b n ≡ charged c (firstPiece p x w)
 unfolding withFirst
 laid-charged c p x w a b n row = charged-at-put a b n (charged c (firstPiece p x w)) row
 
 -- the last piece written alone
-pub laid-alone : (c : Costs) (p : Piece) (x w : ℕ) (a b : List ℕ) (q : Charged) → chargedIn b 1 ≡ chargedIn a 0 ++ (q ∷ []) → q ≡ charged c (lastPiece c p x w) → chargedIn b 1 ≡ lastAlone c p x w
+pub laid-alone : (c : Costs) (p : Piece) (x w : ℕ) (a b : List ℕ) (q : Charged) → chargedIn b 1 ≡ chargedIn a 0 ++ (q ∷ [])
+    → q ≡ charged c (lastPiece c p x w) → chargedIn b 1 ≡ lastAlone c p x w
 unfolding lastAlone
 laid-alone c p x w a b q written is = written ∙ ap (λ (r : Charged). r ∷ []) is
 
 -- ---- sums
 
-pub calls-with : (c : Costs) (qs : List Charged) (p : Piece) (x w : ℕ) (rs : List Charged) → rs ≡ withFirst c qs p x w → (t : ℕ) → total (term Interrupts t) rs ≡ calls c qs p t
+pub calls-with : (c : Costs) (qs : List Charged) (p : Piece) (x w : ℕ) (rs : List Charged) → rs ≡ withFirst c qs p x w → (t : ℕ)
+    → total (term Interrupts t) rs ≡ calls c qs p t
 unfolding withFirst calls
 calls-with c qs p x w rs laid t = rw laid (omega (arith, first-interrupts c p x w t, total-snoc (λ q. interrupts q t) qs (charged c (firstPiece p x w))))
 
 -- as the code sums it, for a first piece without a budget
-pub least-is : (c : Costs) (qs : List Charged) (p : Piece) (b k i : ℕ) → b ≡ stall c → k ≡ charged c (firstPiece p 0 0) .charge → i ≡ total (term Interrupts 1) (withFirst c qs p 0 0) → b + k + i ≡ tightBeside c qs p 0 1
+pub least-is : (c : Costs) (qs : List Charged) (p : Piece) (b k i : ℕ) → b ≡ stall c → k ≡ charged c (firstPiece p 0 0) .charge
+    → i ≡ total (term Interrupts 1) (withFirst c qs p 0 0) → b + k + i ≡ tightBeside c qs p 0 1
 unfolding tightBeside tightSum
 least-is c qs p b k i stalled charge calls = omega arith
 
 -- ---- the last piece alone
 
 -- a verdict on it as the code has it
-pub judged-last : (c : Costs) (p : Piece) (x w b : ℕ) (rs : List Charged) → b ≡ stall c → rs ≡ lastAlone c p x w → (v : Verdict) → v ≡ verdict b rs → v ≡ verdict (stall c) (lastAlone c p x w)
+pub judged-last : (c : Costs) (p : Piece) (x w b : ℕ) (rs : List Charged) → b ≡ stall c → rs ≡ lastAlone c p x w → (v : Verdict)
+    → v ≡ verdict b rs → v ≡ verdict (stall c) (lastAlone c p x w)
 judged-last c p x w b rs is row v judged = judged ∙ rw (is, row) refl
 
 -- ---- what one candidate told
@@ -112,7 +123,8 @@ module _ (c : Costs) (qs : List Charged) (p : Piece) (x : ℕ) (some : 1 ≤ x) 
     ],
   )
 
-  pub step-done : (t w : ℕ) → Tight c qs p x t → p .jitter + t + 1 ≤ p .window → w ≡ p .jitter + t → verdict (stall c) (withFirst c qs p x w) ≡ Passes → verdict (stall c) (lastAlone c p x w) ≡ Passes → Steps c qs p x (Done w)
+  pub step-done : (t w : ℕ) → Tight c qs p x t → p .jitter + t + 1 ≤ p .window → w ≡ p .jitter + t
+      → verdict (stall c) (withFirst c qs p x w) ≡ Passes → verdict (stall c) (lastAlone c p x w) ≡ Passes → Steps c qs p x (Done w)
   step-done t w tight room at here there = (t, record { tight = tight; room = room; here = rw at at here; there = rw at at there }, at)
 
 -- ---- the multiples of the grain

@@ -28,7 +28,8 @@ use Rattle.demand.specs.declared.Costs.{Costs}
 use Rattle.demand.specs.Sizes.{sized, sizedCosts, Sized, SizedCosts, Each, timeMost}
 use Rattle.demand.proofs.SizeLaws.{sized-true, sized-costs-true}
 use Rattle.task.specs.Names.{formed, sameName}
-use Rattle.task.specs.Tasks.{wholePiece, placeBy, placeOf, faultOf, firstFault, orElse, past, taskAt, noTask, tasksOf, listOf, rule, stateFault, sizedMachine, coresMost, tasksMost}
+use Rattle.task.specs.Tasks.{wholePiece, placeBy, placeOf, faultOf, firstFault, orElse, past, taskAt, noTask}
+use Rattle.task.specs.Tasks.{tasksOf, listOf, rule, stateFault, sizedMachine, coresMost, tasksMost}
 
 -- ---- the place of a name, among things that have one
 

@@ -31,7 +31,8 @@ share-below m c {k} pos =
     let same : ceil m k * k * (c / k) ≡ ceil m k * (c / k * k) = simp (mul-assoc, mul-comm, mul-left-comm) in
     omega (arith, whole, part, same)
 
-pub flow-share : (q : Charged) → Recurs q → (l : ℕ) (v : Flow) → v .asked ≡ busyLoad l q → v .share ≡ (q .charge + q .release + q .ipi) * allTime / q .period → v .work ≡ 0 → Flows (λ m. busyLoad m q) l v
+pub flow-share : (q : Charged) → Recurs q → (l : ℕ) (v : Flow) → v .asked ≡ busyLoad l q
+    → v .share ≡ (q .charge + q .release + q .ipi) * allTime / q .period → v .work ≡ 0 → Flows (λ m. busyLoad m q) l v
 unfolding busyLoad
 flow-share q pos l v asked share work =
     let c = q .charge + q .release + q .ipi in
@@ -56,7 +57,8 @@ pub flow-none : (v : Flow) (l : ℕ) → v .asked ≡ 0 → v .share ≡ 0 → v
 unfolding busySum
 flow-none v l asked share work = record { exact = asked; below = λ m h. omega (arith, ap (λ (s : ℕ). m * s) share, work) }
 
-pub flow-more : (a : List ℕ) (i l : ℕ) (u v w : Flow) → Flows (busySum (chargedIn a i)) l u → Flows (λ m. busyLoad m (chargedAt a i)) l v → w .asked ≡ u .asked + v .asked → w .share ≡ u .share + v .share → w .work ≡ u .work + v .work → Flows (busySum (chargedIn a (i + 1))) l w
+pub flow-more : (a : List ℕ) (i l : ℕ) (u v w : Flow) → Flows (busySum (chargedIn a i)) l u → Flows (λ m. busyLoad m (chargedAt a i)) l v
+    → w .asked ≡ u .asked + v .asked → w .share ≡ u .share + v .share → w .work ≡ u .work + v .work → Flows (busySum (chargedIn a (i + 1))) l w
 unfolding busySum
 flow-more a i l u v w before here asked share work =
     record {
@@ -83,7 +85,8 @@ module _ (v : Flow) where
 
 -- ---- the climb
 
-pub clear-leap : (f : ℕ → ℕ) → ((m n : ℕ) → m ≤ n → f m ≤ f n) → (l : ℕ) (v : Flow) (r : ℕ) → 1 ≤ l → Clear f l → Flows f l v → Reaches v r → Clear f (max (v .asked) r)
+pub clear-leap : (f : ℕ → ℕ) → ((m n : ℕ) → m ≤ n → f m ≤ f n) → (l : ℕ) (v : Flow) (r : ℕ) → 1 ≤ l → Clear f l → Flows f l v → Reaches v r
+    → Clear f (max (v .asked) r)
 clear-leap f mono l v r some clear flows reaches k h p = elim (decLt k l) [
   | yes b ↦ clear k b p
   | no b ↦ omega (arith, flows .exact, mono l k (omega arith), p .fits, reaches k (omega arith) (omega (arith, flows .below k (omega arith), p .fits)))

@@ -59,7 +59,8 @@ asked s base qs t = base + total (term s t) qs
 pub asked-mono : (s : Sum) (base : ℕ) (qs : List Charged) → Each Recurs qs → (m n : ℕ) → m ≤ n → asked s base qs m ≤ asked s base qs n
 asked-mono s base qs recurs m n h = omega (arith, sum-mono qs recurs s h)
 
-pub tight-window-asked : (b : ℕ) (qs : List Charged) (q : Charged) (top : ℕ) → tightWindow b qs q top ≡ later (q .jitter) (leastHolding (asked Interrupts (b + q .charge) qs) (top - q .jitter))
+pub tight-window-asked : (b : ℕ) (qs : List Charged) (q : Charged) (top : ℕ)
+    → tightWindow b qs q top ≡ later (q .jitter) (leastHolding (asked Interrupts (b + q .charge) qs) (top - q .jitter))
 unfolding tightWindow tightSum
 tight-window-asked b qs q top = refl
 
@@ -80,7 +81,8 @@ total-more f a i = rw add-one (total-snoc f (chargedIn a i) (chargedAt a i))
 pub largest-more : (a : List ℕ) (i : ℕ) → largestWindow (chargedIn a (i + 1)) ≡ max (largestWindow (chargedIn a i)) (chargedAt a i .window)
 largest-more a i = rw add-one (largest-snoc (chargedIn a i) (chargedAt a i))
 
-pub earliest-more : (w : ℕ) (a : List ℕ) (i : ℕ) → earliest w (chargedIn a (i + 1)) ≡ min (earliest w (chargedIn a i)) (chargedAt a i .window - chargedAt a i .jitter)
+pub earliest-more : (w : ℕ) (a : List ℕ) (i : ℕ)
+    → earliest w (chargedIn a (i + 1)) ≡ min (earliest w (chargedIn a i)) (chargedAt a i .window - chargedAt a i .jitter)
 earliest-more w a i = rw add-one (earliest-snoc w (chargedIn a i) (chargedAt a i))
 
 pub charged-in-front : (P : Charged → Type 0) (a : List ℕ) (n : ℕ) → Each P (chargedIn a (n + 1)) → Each P (chargedIn a n)
@@ -95,7 +97,8 @@ charged-at-each P a (suc n) ok i h = elim (decLt i n) [
 
 charged-in-head : (a : List ℕ) (n : ℕ) → (qs : List Charged) × (chargedIn a (suc n) ≡ chargedAt a 0 ∷ qs)
 charged-in-head a zero = ([], refl)
-charged-in-head a (suc n) = let more = charged-in-head a n in (more .0 ++ (chargedAt a (suc n) ∷ []), ap (λ (qs : List Charged). qs ++ (chargedAt a (suc n) ∷ [])) (more .1))
+charged-in-head a (suc n) = let more = charged-in-head a n in
+    (more .0 ++ (chargedAt a (suc n) ∷ []), ap (λ (qs : List Charged). qs ++ (chargedAt a (suc n) ∷ [])) (more .1))
 
 least-live-head : (q : Charged) (qs rs : List Charged) → rs ≡ q ∷ qs → leastLive rs ≡ earliest (q .window - q .jitter) rs
 unfolding leastLive
@@ -109,7 +112,15 @@ least-live-charged a (suc n) h = let more = charged-in-head a n in least-live-he
 charged-at-same : (a b : List ℕ) (i : ℕ) → ((k : ℕ) → k < 7 * i + 7 → getD a k 0 ≡ getD b k 0) → chargedAt a i ≡ chargedAt b i
 unfolding chargedAt
 charged-at-same a b i same =
-    cc (same (7 * i) (omega arith), same (7 * i + 1) (omega arith), same (7 * i + 2) (omega arith), same (7 * i + 3) (omega arith), same (7 * i + 4) (omega arith), same (7 * i + 5) (omega arith), same (7 * i + 6) (omega arith))
+    cc (
+      same (7 * i) (omega arith),
+      same (7 * i + 1) (omega arith),
+      same (7 * i + 2) (omega arith),
+      same (7 * i + 3) (omega arith),
+      same (7 * i + 4) (omega arith),
+      same (7 * i + 5) (omega arith),
+      same (7 * i + 6) (omega arith),
+    )
 
 charged-in-same : (a b : List ℕ) (n : ℕ) → ((k : ℕ) → k < 7 * n → getD a k 0 ≡ getD b k 0) → chargedIn a n ≡ chargedIn b n
 charged-in-same a b n same = firsts-same (chargedAt a) (chargedAt b) n (λ i h. charged-at-same a b i (λ k low. same k (omega arith)))
@@ -119,13 +130,26 @@ unfolding chargedAt
 put-charged a i q room =
     let at : (k : ℕ) → k < 7 → getD (sets a (7 * i) (numbers q)) (7 * i + k) 0 ≡ getD (numbers q) k 0 = sets-there a (7 * i) (numbers q) room in
     let head : getD (sets a (7 * i) (numbers q)) (7 * i) 0 ≡ q .charge = rw add-zero at (at 0 (omega arith)) in
-    let e : chargedAt (sets a (7 * i) (numbers q)) i ≡ record { charge = q .charge; window = q .window; period = q .period; jitter = q .jitter; release = q .release; ipi = q .ipi; ipij = q .ipij } =
+    let e : chargedAt (sets a (7 * i) (numbers q)) i
+    ≡ record {
+      charge = q .charge;
+      window = q .window;
+      period = q .period;
+      jitter = q .jitter;
+      release = q .release;
+      ipi = q .ipi;
+      ipij = q .ipij;
+    } =
     cc (head, at 1 (omega arith), at 2 (omega arith), at 3 (omega arith), at 4 (omega arith), at 5 (omega arith), at 6 (omega arith)) in
     e
 
 pub charged-in-put : (a : List ℕ) (i : ℕ) (q : Charged) → 7 * i + 7 ≤ length a → chargedIn (sets a (7 * i) (numbers q)) (i + 1) ≡ chargedIn a i ++ (q ∷ [])
 charged-in-put a i q room =
-    cc (charged-in-more (sets a (7 * i) (numbers q)) i, charged-in-same (sets a (7 * i) (numbers q)) a i (sets-before a (7 * i) (numbers q) room), put-charged a i q room)
+    cc (
+      charged-in-more (sets a (7 * i) (numbers q)) i,
+      charged-in-same (sets a (7 * i) (numbers q)) a i (sets-before a (7 * i) (numbers q) room),
+      put-charged a i q room,
+    )
 
 -- ---- a piece laid out, and several
 
@@ -161,12 +185,14 @@ lay-all-length : (a : List ℕ) (i : ℕ) (qs : List Charged) → i + length qs 
 lay-all-length a i [] few = refl
 lay-all-length a i (q ∷ qs) few = lay-all-length (layPiece a i q) (i + 1) qs (omega arith) ∙ lay-length a i q (omega arith)
 
-lay-all-in : (a : List ℕ) (i : ℕ) (qs : List Charged) → i + length qs ≤ runMost → length a ≡ 7 * runMost → chargedIn (layAll a i qs) (i + length qs) ≡ chargedIn a i ++ qs
+lay-all-in : (a : List ℕ) (i : ℕ) (qs : List Charged) → i + length qs ≤ runMost → length a ≡ 7 * runMost
+    → chargedIn (layAll a i qs) (i + length qs) ≡ chargedIn a i ++ qs
 lay-all-in a i [] few long = rw (add-zero, append-nil)
 lay-all-in a i (q ∷ qs) few long =
     let e : i + length (q ∷ qs) ≡ i + 1 + length qs = omega arith in
     let more = lay-all-in (layPiece a i q) (i + 1) qs (omega arith) (lay-length a i q (omega arith) ∙ long) in
-    ap (λ (n : ℕ). chargedIn (layAll (layPiece a i q) (i + 1) qs) n) e ∙ (more ∙ (ap (λ (l : List Charged). l ++ qs) (charged-in-lay a i q (omega arith) long) ∙ append-assoc (chargedIn a i) (q ∷ []) qs))
+    ap (λ (n : ℕ). chargedIn (layAll (layPiece a i q) (i + 1) qs) n) e
+    ∙ (more ∙ (ap (λ (l : List Charged). l ++ qs) (charged-in-lay a i q (omega arith) long) ∙ append-assoc (chargedIn a i) (q ∷ []) qs))
 
 -- ---- records laid out
 
@@ -174,19 +200,23 @@ pub lay-records-none : (a : List ℕ) (c : Costs) → a ≡ layRecords a c []
 unfolding layRecords
 lay-records-none a c = refl
 
-pub lay-records-more : (a : List ℕ) (c : Costs) (ps : List Piece) (i : ℕ) (d : Piece) → i < length ps → layRecords a c (take (i + 1) ps) ≡ layPiece (layRecords a c (take i ps)) i (chargedWithin c (getD ps i d))
+pub lay-records-more : (a : List ℕ) (c : Costs) (ps : List Piece) (i : ℕ) (d : Piece) → i < length ps
+    → layRecords a c (take (i + 1) ps) ≡ layPiece (layRecords a c (take i ps)) i (chargedWithin c (getD ps i d))
 unfolding layRecords
 lay-records-more a c ps i d h =
     let long : length (map (chargedWithin c) (take i ps)) ≡ i = length-map (take i ps) (chargedWithin c) ∙ length-take-le i ps (omega arith) in
     let at : 0 + length (map (chargedWithin c) (take i ps)) ≡ i = omega (arith, long) in
-    rw (add-one, take-suc ps i d h) (ap (λ (qs : List Charged). layAll a 0 qs) (map-snoc (chargedWithin c) (take i ps) (getD ps i d)) ∙ (lay-all-snoc a 0 (map (chargedWithin c) (take i ps)) (chargedWithin c (getD ps i d)) ∙ ap (λ (n : ℕ). layPiece (layAll a 0 (map (chargedWithin c) (take i ps))) n (chargedWithin c (getD ps i d))) at))
+    rw (add-one, take-suc ps i d h) (ap (λ (qs : List Charged). layAll a 0 qs) (map-snoc (chargedWithin c) (take i ps) (getD ps i d))
+    ∙ (lay-all-snoc a 0 (map (chargedWithin c) (take i ps)) (chargedWithin c (getD ps i d))
+    ∙ ap (λ (n : ℕ). layPiece (layAll a 0 (map (chargedWithin c) (take i ps))) n (chargedWithin c (getD ps i d))) at))
 
 charged-all : (c : Costs) → SizedCosts c → (ps : List Piece) → Each Countable ps → map (chargedWithin c) ps ≡ coreOf c ps
 unfolding coreOf
 charged-all c costs [] ok = refl
 charged-all c costs (p ∷ ps) ok = rw (charged-within c p costs (ok .0), charged-all c costs ps (ok .1))
 
-module _ (a : List ℕ) (c : Costs) (costs : SizedCosts c) (ps : List Piece) (ok : Each Countable ps) (few : length ps ≤ runMost) (long : length a ≡ 7 * runMost) where
+module _ (a : List ℕ) (c : Costs) (costs : SizedCosts c) (ps : List Piece) (ok : Each Countable ps) (few : length ps ≤ runMost)
+    (long : length a ≡ 7 * runMost) where
   laid-long : length (map (chargedWithin c) ps) ≡ length ps
   laid-long = length-map ps (chargedWithin c)
 
@@ -206,15 +236,20 @@ charged-at-put a b n q e = firsts-last (chargedAt b) n (chargedIn a n) q (charge
 pub charged-in-kept : (a b : List ℕ) (n : ℕ) (q : Charged) → chargedIn b (n + 1) ≡ chargedIn a n ++ (q ∷ []) → chargedIn b n ≡ chargedIn a n
 charged-in-kept a b n q e = firsts-front (chargedAt b) n (chargedIn a n) q (charged-in-length a n) e
 
-pub tight-of-charged : (b : ℕ) (all : List Charged) (a : List ℕ) (n : ℕ) → 1 ≤ n → tightOfLast b all (chargedIn a n) ≡ tightWindow b all (chargedAt a (n - 1)) (chargedAt a (n - 1) .window)
+pub tight-of-charged : (b : ℕ) (all : List Charged) (a : List ℕ) (n : ℕ) → 1 ≤ n
+    → tightOfLast b all (chargedIn a n) ≡ tightWindow b all (chargedAt a (n - 1)) (chargedAt a (n - 1) .window)
 tight-of-charged b all a zero h = absurd (not-suc-le-zero h)
 tight-of-charged b all a (suc n) h =
     let e : suc n - 1 ≡ n = omega arith in
     rw e (tight-of-last b all (chargedIn a n) (chargedAt a n))
 
 -- the tight window by what a climb finds
-pub tight-found : (b : ℕ) (a : List ℕ) (n : ℕ) → 1 ≤ n → (q : Charged) → q ≡ chargedAt a (n - 1) → (top : ℕ) → top ≡ q .window - q .jitter → (r : Found) → r ≡ leastHolding (asked Interrupts (b + q .charge) (chargedIn a n)) top → later (q .jitter) r ≡ tightOfLast b (chargedIn a n) (chargedIn a n)
+pub tight-found : (b : ℕ) (a : List ℕ) (n : ℕ) → 1 ≤ n → (q : Charged) → q ≡ chargedAt a (n - 1) → (top : ℕ) → top ≡ q .window - q .jitter
+    → (r : Found) → r ≡ leastHolding (asked Interrupts (b + q .charge) (chargedIn a n)) top
+    → later (q .jitter) r ≡ tightOfLast b (chargedIn a n) (chargedIn a n)
 tight-found b a n some q last top room r found =
-    let climbed : later (q .jitter) r ≡ tightWindow b (chargedIn a n) q (q .window) = rw (found, room) (sym (tight-window-asked b (chargedIn a n) q (q .window))) in
-    let of-last : tightWindow b (chargedIn a n) q (q .window) ≡ tightOfLast b (chargedIn a n) (chargedIn a n) = rw last (sym (tight-of-charged b (chargedIn a n) a n some)) in
+    let climbed : later (q .jitter) r ≡ tightWindow b (chargedIn a n) q (q .window) =
+    rw (found, room) (sym (tight-window-asked b (chargedIn a n) q (q .window))) in
+    let of-last : tightWindow b (chargedIn a n) q (q .window) ≡ tightOfLast b (chargedIn a n) (chargedIn a n) =
+    rw last (sym (tight-of-charged b (chargedIn a n) a n some)) in
     climbed ∙ of-last

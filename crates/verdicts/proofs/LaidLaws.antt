@@ -28,7 +28,8 @@ use Rattle.demand.specs.Verdict.{scan, verdict}
 use Rattle.demand.specs.Answer.{tightOfLast}
 use Rattle.verdicts.specs.ChargedArray.{chargedIn, laidPieces}
 use Rattle.verdicts.specs.MostFitting.{mostFitting}
-use Rattle.verdicts.specs.Laid.{held, unlaid, allRanged, laid, term, laidSum, laidBusyLength, laidTightWindow, laidWait, waitMost, laidSpan, laidVerdict, laidMostFitting}
+use Rattle.verdicts.specs.Laid.{held, unlaid, allRanged, laid, term, laidSum, laidBusyLength, laidTightWindow}
+use Rattle.verdicts.specs.Laid.{laidWait, waitMost, laidSpan, laidVerdict, laidMostFitting}
 use Rattle.demand.proofs.SizeLaws.{tells-unique, tells-both, tells-leb, tells-ranged, ranged-is}
 use Rattle.demand.proofs.Division.{prod-le}
 use Rattle.verdicts.proofs.ChargedArrayLaws.{charged-in-length}
@@ -46,7 +47,8 @@ module _ (a : List ℕ) (n : ℕ) where
 
   test-is : (b : Bool) → Tells Core b → b ≡ (leb n runMost && allRanged (chargedIn a n))
   test-is b tells =
-      tells-unique Core b (leb n runMost && allRanged (chargedIn a n)) tells (tells-both (n ≤ runMost) (Each Ranged (chargedIn a n)) (leb n runMost) (allRanged (chargedIn a n)) (tells-leb n runMost) (tells-all (chargedIn a n)))
+      tells-unique Core b (leb n runMost && allRanged (chargedIn a n)) tells (tells-both (n ≤ runMost) (Each Ranged (chargedIn a n))
+      (leb n runMost) (allRanged (chargedIn a n)) (tells-leb n runMost) (tells-all (chargedIn a n)))
 
   pub laid-held : Core → laid a n ≡ held (chargedIn a n)
   unfolding laid
@@ -89,9 +91,11 @@ module _ (a : List ℕ) (n : ℕ) where
     unfolding laidVerdict
     verdict-held b h = rw (le-leb b stallMost h, laid-held core)
 
-    pub most-fitting-held : (b : ℕ) (q : Charged) (from l f : ℕ) → b ≤ stallMost → Ranged q → f ≤ chargeMost → from + l ≤ lengthMost → laidMostFitting b q from l f (laid a n) ≡ mostFitting b (chargedIn a n) q from l f
+    pub most-fitting-held : (b : ℕ) (q : Charged) (from l f : ℕ) → b ≤ stallMost → Ranged q → f ≤ chargeMost → from + l ≤ lengthMost
+        → laidMostFitting b q from l f (laid a n) ≡ mostFitting b (chargedIn a n) q from l f
     unfolding laidMostFitting
-    most-fitting-held b q from l f h i j k = rw (le-leb b stallMost h, sym (ranged-is q true i), le-leb f chargeMost j, le-leb (from + l) lengthMost k, laid-held core)
+    most-fitting-held b q from l f h i j k =
+        rw (le-leb b stallMost h, sym (ranged-is q true i), le-leb f chargeMost j, le-leb (from + l) lengthMost k, laid-held core)
 
 -- ---- the windows
 
@@ -127,15 +131,26 @@ calls-most q ok m k e cost h some few low = prod-le (e + timeMost) 2300000 {a = 
 interrupts-most : (q : Charged) → Ranged q → (t : ℕ) → t ≤ lengthMost → interrupts q t ≤ 500000000000000
 unfolding interrupts
 interrupts-most q ok t h =
-    omega (arith, calls-most q ok (t + q .jitter) (q .period) 102000000 (q .release) (omega (arith, ok .jitter-fits)) (ok .period-some) (ok .period-fits) (omega (arith, ok .release-fits)), calls-most q ok (t + q .ipij) (q .period) 102000000 (q .ipi) (omega (arith, ok .ipij-fits)) (ok .period-some) (ok .period-fits) (omega (arith, ok .ipi-fits)))
+    omega (
+      arith,
+      calls-most q ok (t + q .jitter) (q .period) 102000000 (q .release) (omega (arith, ok .jitter-fits)) (ok .period-some)
+          (ok .period-fits) (omega (arith, ok .release-fits)),
+      calls-most q ok (t + q .ipij) (q .period) 102000000 (q .ipi)
+          (omega (arith, ok .ipij-fits)) (ok .period-some) (ok .period-fits) (omega (arith, ok .ipi-fits)),
+    )
 
 term-most : (s : Sum) (q : Charged) → Ranged q → (t : ℕ) → t ≤ lengthMost → term s t q ≤ 1000000000000000
 unfolding load busyLoad
-term-most Load q ok t h = omega (arith, prod-le 102000001 2000000 {a = jobsDue q t} {b = q .charge} (jobs-most q ok t h) (ok .charge-fits), interrupts-most q ok t h)
+term-most Load q ok t h =
+    omega (arith, prod-le 102000001 2000000 {a = jobsDue q t} {b = q .charge} (jobs-most q ok t h) (ok .charge-fits), interrupts-most q ok t h)
 term-most Interrupts q ok t h = omega (arith, interrupts-most q ok t h)
 term-most Jobs q ok t h = omega (arith, prod-le 102000001 2000000 {a = jobsDue q t} {b = q .charge} (jobs-most q ok t h) (ok .charge-fits))
 term-most Busy q ok t h =
-    omega (arith, calls-most q ok t (q .period) 101000000 (q .charge + q .release + q .ipi) h (ok .period-some) (ok .period-fits) (omega (arith, ok .charge-fits, ok .release-fits, ok .ipi-fits)))
+    omega (
+      arith,
+      calls-most q ok t (q .period) 101000000 (q .charge + q .release + q .ipi) h (ok .period-some) (ok .period-fits)
+          (omega (arith, ok .charge-fits, ok .release-fits, ok .ipi-fits)),
+    )
 
 total-most : (s : Sum) (t : ℕ) → t ≤ lengthMost → (qs : List Charged) → Each Ranged qs → total (term s t) qs ≤ length qs * 1000000000000000
 total-most s t h [] ok = zero-le

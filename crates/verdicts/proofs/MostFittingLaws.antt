@@ -48,7 +48,8 @@ module _ (b : ℕ) (qs : List Charged) (q : Charged) where
       ]
       wider fine false fails = λ fits. fails (λ u low high. fits u low (omega arith))
 
-      look : (o : Bool) → ltb (a + k) (beside b qs q f (a + k)) ≡ o → Tells (FitsIn b qs q f a (a + k)) (allFit b qs q f a k) → Tells (FitsIn b qs q f a (a + suc k)) (elim o [ true ↦ false | false ↦ allFit b qs q f a k ])
+      look : (o : Bool) → ltb (a + k) (beside b qs q f (a + k)) ≡ o → Tells (FitsIn b qs q f a (a + k)) (allFit b qs q f a k)
+          → Tells (FitsIn b qs q f a (a + suc k)) (elim o [ true ↦ false | false ↦ allFit b qs q f a k ])
       look true e below = λ fits. omega (arith, ltb-true (a + k) (beside b qs q f (a + k)) e, fits (a + k) (omega arith) (omega arith))
       look false e below = wider (ltb-false (a + k) (beside b qs q f (a + k)) e) (allFit b qs q f a k) below
 
@@ -57,7 +58,8 @@ module _ (b : ℕ) (qs : List Charged) (q : Charged) where
   most-fitting-squeezed a l zero = record { most = zero-le; fits = λ some. absurd (omega arith); greatest = λ y le fits. le }
   most-fitting-squeezed a l (suc f) = look (allFit b qs q (suc f) a l) (all-fit-tells (suc f) a l) (most-fitting-squeezed a l f)
     where
-      look : (o : Bool) → Tells (FitsIn b qs q (suc f) a (a + l)) o → Squeezed b qs q f a (a + l) (mostFitting b qs q a l f) → Squeezed b qs q (suc f) a (a + l) (elim o [ true ↦ suc f | false ↦ mostFitting b qs q a l f ])
+      look : (o : Bool) → Tells (FitsIn b qs q (suc f) a (a + l)) o → Squeezed b qs q f a (a + l) (mostFitting b qs q a l f)
+          → Squeezed b qs q (suc f) a (a + l) (elim o [ true ↦ suc f | false ↦ mostFitting b qs q a l f ])
       look true fits below = record { most = omega arith; fits = λ some. fits; greatest = λ y le k. le }
       look false fails below = record {
         most = omega (arith, below .most);
@@ -149,7 +151,8 @@ module _ (b : ℕ) (qs : List Charged) (q : Charged) where
 
   module _ (f a t w y end : ℕ) (v : Look) (widest : w ≡ largestWindow qs) (next : (v .rest + v .jobs * y ≤ end) × (end ≤ t) × (w ≤ t → w ≤ end)) where
     -- y is no less than what fits from a to t
-    pub lowers-to : a ≤ t → Levels b qs q f t v → y ≤ v .charge → ((z : ℕ) → z ≤ v .charge → FitsIn b qs q z a (t + 1) → z ≤ y) → Lowers b qs q f a t (record { charge = y; end = end })
+    pub lowers-to : a ≤ t → Levels b qs q f t v → y ≤ v .charge → ((z : ℕ) → z ≤ v .charge → FitsIn b qs q z a (t + 1) → z ≤ y)
+        → Lowers b qs q f a t (record { charge = y; end = end })
     lowers-to from level less left = record {
       most = omega (arith, level .most);
       caps = λ z le fits. left z (level .caps z le (fits t from (omega arith))) fits;

@@ -116,7 +116,8 @@ pub marks-none : (d : List ℕ) (l : ℕ) → Under 0 d → Marks (busySum []) l
 unfolding busySum
 marks-none d l none j h = omega (arith, none j)
 
-pub marks-more : (a : List ℕ) (i l : ℕ) (d e : List ℕ) → Marks (busySum (chargedIn a i)) l d → Marked (chargedAt a i) l d e → Marks (busySum (chargedIn a (i + 1))) l e
+pub marks-more : (a : List ℕ) (i l : ℕ) (d e : List ℕ) → Marks (busySum (chargedIn a i)) l d → Marked (chargedAt a i) l d e
+    → Marks (busySum (chargedIn a (i + 1))) l e
 unfolding busySum
 marks-more a i l d e before here j h =
     omega (arith, total-more (busyLoad (l + j)) a i, total-more (busyLoad (l + j + 1)) a i, before j h, here .grows j h)

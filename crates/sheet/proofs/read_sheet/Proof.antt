@@ -13,7 +13,9 @@ use Rattle.lines.specs.Lines.{newline}
 use Rattle.lines.proofs.LineLaws.{rest, rest-length, run-le}
 use Rattle.sheet.proofs.DraftLaws.{Seeking, seek-start, seek-other, seek-here, partName, taskName}
 use Rattle.sheet.proofs.ReadLaws.{read-long, reached-cut}
-use Rattle.sheet.proofs.StandLaws.{Standing, stand-top, parts-few, parts-long, tasks-few, tasks-long, stand-missing, stand-whole, LineRead, line-read, line-bad, part-space, task-space, source-some, source-low, stand-same, stand-part, stand-fit}
+use Rattle.sheet.proofs.StandLaws.{Standing, stand-top, parts-few, parts-long, tasks-few, tasks-long, stand-missing}
+use Rattle.sheet.proofs.StandLaws.{stand-whole, LineRead, line-read, line-bad, part-space, task-space, source-some}
+use Rattle.sheet.proofs.StandLaws.{source-low, stand-same, stand-part, stand-fit}
 use Rattle.sheet.proofs.read_sheet.Statement.{statement}
 use Rattle.sheet.proofs.read_sheet.Tie as tie
 use Rattle.sheet.proofs.read_sheet.Lts as lts

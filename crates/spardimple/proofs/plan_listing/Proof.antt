@@ -7,7 +7,8 @@ use lib.ListN.{length}
 use Rattle.sheet.specs.declared.Read.{Read}
 use Rattle.listing.specs.Listing.{listingOf}
 use Rattle.sheet.proofs.SmallLaws.{read-small}
-use Rattle.spardimple.proofs.SheetLaws.{paper-unread, paper-stuck, paper-written, reply-small, given-refused, given-long, given-short, left-refused, left-written, over-length}
+use Rattle.spardimple.proofs.SheetLaws.{paper-unread, paper-stuck, paper-written, reply-small, given-refused}
+use Rattle.spardimple.proofs.SheetLaws.{given-long, given-short, left-refused, left-written, over-length}
 use borrow.Author.Needs.{needs}
 use Rattle.spardimple.proofs.plan_listing.Statement.{statement}
 use Rattle.spardimple.proofs.plan_listing.Tie as tie

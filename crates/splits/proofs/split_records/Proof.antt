@@ -30,7 +30,9 @@ enum-told c = search needs
 greatest-split-requires : tie.Need-greatest-split-requires
 greatest-split-requires c κs =
     let s = c .before .before .before .args in
-    let ok = check-task (s .costs) (s .count) (recordsOf (s .records .now)) (s .task) (records-length (s .records .now)) (sym (c .before .before .check-task .ensures) ∙ c .enum-told .given .1) in
+    let ok =
+    check-task (s .costs) (s .count) (recordsOf (s .records .now)) (s .task) (records-length (s .records .now))
+    (sym (c .before .before .check-task .ensures) ∙ c .enum-told .given .1) in
     (ok .costs, ((ok .few, ok .each), ok .own))
 
 returns : tie.Need-returns
@@ -38,14 +40,17 @@ unfolding splitOf
 returns c =
     let s = c .before .before .before .before .args in
     let ps = take (s .count) (recordsOf (s .records .now)) in
-    split-bad (checkRun (s .costs) (s .count + 1) (ps ++ (s .task ∷ []))) (greatestSplit (s .costs) (s .grain) ps (s .task)) (c .before .why .given .0 .0) (sym (c .before .before .before .check-task .ensures) ∙ c .before .why .given .1)
+    split-bad (checkRun (s .costs) (s .count + 1) (ps ++ (s .task ∷ []))) (greatestSplit (s .costs) (s .grain) ps (s .task))
+    (c .before .why .given .0 .0) (sym (c .before .before .before .check-task .ensures) ∙ c .before .why .given .1)
 
 returns-2 : tie.Need-returns-2
 unfolding splitOf
 returns-2 c =
     let s = c .before .before .before .before .args in
     let ps = take (s .count) (recordsOf (s .records .now)) in
-    ap (λ (r : Split). Best r) (c .greatest-split .ensures) ∙ split-fine (checkRun (s .costs) (s .count + 1) (ps ++ (s .task ∷ []))) (greatestSplit (s .costs) (s .grain) ps (s .task)) (sym (c .before .before .before .check-task .ensures) ∙ c .before .enum-told .given .1)
+    ap (λ (r : Split). Best r) (c .greatest-split .ensures)
+    ∙ split-fine (checkRun (s .costs) (s .count + 1) (ps ++ (s .task ∷ []))) (greatestSplit (s .costs) (s .grain) ps (s .task))
+    (sym (c .before .before .before .check-task .ensures) ∙ c .before .enum-told .given .1)
 
 pub split-records-spec : {M : Type 1} → statement M
 split-records-spec =

@@ -42,7 +42,8 @@ climb-busy-requires : tie.Need-climb-busy-requires
 climb-busy-requires c κs =
     let s = c .before .before .before .before .before .before .args in
     let ps = recordsOf (s .records .now) in
-    let ok = check-taken (s .costs) (s .count) ps (sym (c .before .before .before .before .before .check-records .ensures) ∙ c .before .before .before .enum-told .given .1) in
+    let check-records = c .before .before .before .before .before .check-records in
+    let ok = check-taken (s .costs) (s .count) ps (sym (check-records .ensures) ∙ c .before .before .before .enum-told .given .1) in
     let laid = chargedIn (c .before .lay-out .last .0) (s .count) in
     (ok .few, laid-ranged (s .costs) (s .count) ps ok laid (c .before .lay-out .ensures .0))
 
@@ -51,14 +52,17 @@ unfolding busyFigure
 returns c =
     let s = c .before .before .before .before .args in
     let ps = recordsOf (s .records .now) in
-    figure-bad (checkRun (s .costs) (s .count) ps) (busyLength (coreOf (s .costs) (take (s .count) ps))) (c .before .why .given .0 .0) (sym (c .before .before .before .check-records .ensures) ∙ c .before .why .given .1)
+    figure-bad (checkRun (s .costs) (s .count) ps) (busyLength (coreOf (s .costs) (take (s .count) ps))) (c .before .why .given .0 .0)
+    (sym (c .before .before .before .check-records .ensures) ∙ c .before .why .given .1)
 
 returns-2 : tie.Need-returns-2
 unfolding busyFigure
 returns-2 c =
     let s = c .before .before .before .before .before .before .before .args in
     let ps = recordsOf (s .records .now) in
-    let fine = sym (c .before .before .before .before .before .before .check-records .ensures) ∙ c .before .before .before .before .enum-told .given .1 in
+    let the-enum-told = c .before .before .before .before .enum-told in
+    let check-records = c .before .before .before .before .before .before .check-records in
+    let fine = sym (check-records .ensures) ∙ the-enum-told .given .1 in
     ap (λ (f : Found). Of f) (c .climb-busy .ensures ∙ ap (λ (qs : List Charged). busyLength qs) (c .before .before .lay-out .ensures .0))
     ∙ figure-fine (checkRun (s .costs) (s .count) ps) (busyLength (coreOf (s .costs) (take (s .count) ps))) fine
 

@@ -50,50 +50,69 @@ lay-out-requires : tie.Need-lay-out-requires
 lay-out-requires c κs =
     let s = c .before .before .before .before .before .args in
     let ps = recordsOf (s .records .now) in
-    let ok = check-taken (s .costs) (s .count) ps (sym (c .before .before .before .before .check-records .ensures) ∙ c .before .before .enum-told .given .1) in
+    let check-records = c .before .before .before .before .check-records in
+    let ok = check-taken (s .costs) (s .count) ps (sym (check-records .ensures) ∙ c .before .before .enum-told .given .1) in
     (ok .costs, (ok .few, taken-countable (s .costs) (s .count) ps ok, length-replicate {A = ℕ} (7 * runMost) 0))
 
 largest-window-requires : tie.Need-largest-window-requires
 largest-window-requires c κs =
     let s = c .before .before .before .before .before .before .before .args in
     let ps = recordsOf (s .records .now) in
-    let ok = check-taken (s .costs) (s .count) ps (sym (c .before .before .before .before .before .before .check-records .ensures) ∙ c .before .before .before .before .enum-told .given .1) in
+    let the-enum-told = c .before .before .before .before .enum-told in
+    let check-records = c .before .before .before .before .before .before .check-records in
+    let ok = check-taken (s .costs) (s .count) ps (sym (check-records .ensures) ∙ the-enum-told .given .1) in
     ok .few
 
 stall-of-requires : tie.Need-stall-of-requires
 stall-of-requires c κs =
     let s = c .before .before .before .before .before .before .before .before .before .args in
     let ps = recordsOf (s .records .now) in
-    let ok = check-taken (s .costs) (s .count) ps (sym (c .before .before .before .before .before .before .before .before .check-records .ensures) ∙ c .before .before .before .before .before .before .enum-told .given .1) in
+    let the-enum-told = c .before .before .before .before .before .before .enum-told in
+    let check-records = c .before .before .before .before .before .before .before .before .check-records in
+    let ok = check-taken (s .costs) (s .count) ps (sym (check-records .ensures) ∙ the-enum-told .given .1) in
     ok .costs
 
 demand-at-requires : tie.Need-demand-at-requires
 demand-at-requires c κs =
     let s = c .before .before .before .before .before .before .before .before .before .before .args in
     let ps = recordsOf (s .records .now) in
-    let ok = check-taken (s .costs) (s .count) ps (sym (c .before .before .before .before .before .before .before .before .before .check-records .ensures) ∙ c .before .before .before .before .before .before .before .enum-told .given .1) in
-    let laid = chargedIn (c .before .before .before .before .lay-out .last .0) (s .count) in
-    ((ok .few, laid-ranged (s .costs) (s .count) ps ok laid (c .before .before .before .before .lay-out .ensures .0)), (c .stall-of .ensures .1, c .before .before .largest-window .ensures, c .before .before .before .before .before .before .if1 .left))
+    let the-enum-told = c .before .before .before .before .before .before .before .enum-told in
+    let check-records = c .before .before .before .before .before .before .before .before .before .check-records in
+    let ok = check-taken (s .costs) (s .count) ps (sym (check-records .ensures) ∙ the-enum-told .given .1) in
+    let lay-out = c .before .before .before .before .lay-out in
+    let laid = chargedIn (lay-out .last .0) (s .count) in
+    let if1 = c .before .before .before .before .before .before .if1 in (
+      (ok .few, laid-ranged (s .costs) (s .count) ps ok laid (lay-out .ensures .0)),
+      (c .stall-of .ensures .1, c .before .before .largest-window .ensures, if1 .left),
+    )
 
 returns-2 : tie.Need-returns-2
 unfolding demandFigure
 returns-2 c =
     let s = c .before .before .before .before .args in
     let ps = recordsOf (s .records .now) in
-    figure-bad (checkRun (s .costs) (s .count) ps) (cond (leb (s .t) lengthMost) (At (demand (stall (s .costs)) (coreOf (s .costs) (take (s .count) ps)) (s .t))) Nothing) (c .before .why .given .0 .0) (sym (c .before .before .before .check-records .ensures) ∙ c .before .why .given .1)
+    figure-bad (checkRun (s .costs) (s .count) ps)
+    (cond (leb (s .t) lengthMost) (At (demand (stall (s .costs)) (coreOf (s .costs) (take (s .count) ps)) (s .t))) Nothing)
+    (c .before .why .given .0 .0) (sym (c .before .before .before .check-records .ensures) ∙ c .before .why .given .1)
 
 returns-3 : tie.Need-returns-3
 unfolding demandFigure
 returns-3 c =
-    let s = c .before .before .before .before .before .before .before .before .before .before .before .args in
+    let at-check-records = c .before .before .before .before .before .before .before .before .before .before in
+    let s = at-check-records .before .args in
     let ps = recordsOf (s .records .now) in
-    let fine = sym (c .before .before .before .before .before .before .before .before .before .before .check-records .ensures) ∙ c .before .before .before .before .before .before .before .before .enum-told .given .1 in
-    let laid = chargedIn (c .before .before .before .before .before .lay-out .last .0) (s .count) in
+    let the-enum-told = c .before .before .before .before .before .before .before .before .enum-told in
+    let fine = sym (at-check-records .check-records .ensures) ∙ the-enum-told .given .1 in
+    let lay-out = c .before .before .before .before .before .lay-out in
+    let laid = chargedIn (lay-out .last .0) (s .count) in
     let found = cond (leb (s .t) lengthMost) (At (demand (stall (s .costs)) (coreOf (s .costs) (take (s .count) ps)) (s .t))) Nothing in
     let core = coreOf (s .costs) (take (s .count) ps) in
     let g : c .demand-at .result ≡ demand (stall (s .costs)) core (s .t) =
-    c .demand-at .ensures ∙ (ap (λ (b : ℕ). demand b laid (s .t)) (c .before .stall-of .ensures .0) ∙ ap (λ (qs : List Charged). demand (stall (s .costs)) qs (s .t)) (c .before .before .before .before .before .lay-out .ensures .0)) in
-    ap (λ (f : Found). Of f) (simp (le-leb (s .t) lengthMost (c .before .before .before .before .before .before .before .if1 .left), g)) ∙ figure-fine (checkRun (s .costs) (s .count) ps) found fine
+    c .demand-at .ensures
+    ∙ (ap (λ (b : ℕ). demand b laid (s .t)) (c .before .stall-of .ensures .0)
+    ∙ ap (λ (qs : List Charged). demand (stall (s .costs)) qs (s .t)) (lay-out .ensures .0)) in
+    let if1 = c .before .before .before .before .before .before .before .if1 in
+    ap (λ (f : Found). Of f) (simp (le-leb (s .t) lengthMost (if1 .left), g)) ∙ figure-fine (checkRun (s .costs) (s .count) ps) found fine
 
 pub demand-of-spec : {M : Type 1} → statement M
 demand-of-spec =

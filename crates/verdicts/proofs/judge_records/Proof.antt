@@ -40,27 +40,36 @@ lay-out-requires c κs =
 stall-of-requires : tie.Need-stall-of-requires
 stall-of-requires c κs =
     let s = c .before .before .before .before .before .before .args in
-    check-taken (s .costs) (s .count) (recordsOf (s .records .now)) (sym (c .before .before .before .before .before .check-records .ensures) ∙ c .before .before .before .enum-told .given .1) .costs
+    let check-records = c .before .before .before .before .before .check-records in
+    check-taken (s .costs) (s .count) (recordsOf (s .records .now)) (sym (check-records .ensures) ∙ c .before .before .before .enum-told .given .1) .costs
 
 judge-core-requires : tie.Need-judge-core-requires
 judge-core-requires c κs =
     let s = c .before .before .before .before .before .before .before .args in
     let ps = recordsOf (s .records .now) in
-    let ok = check-taken (s .costs) (s .count) ps (sym (c .before .before .before .before .before .before .check-records .ensures) ∙ c .before .before .before .before .enum-told .given .1) in
-    ((ok .few, laid-ranged (s .costs) (s .count) ps ok (chargedIn (c .before .before .lay-out .last .0) (s .count)) (c .before .before .lay-out .ensures .0)), c .stall-of .ensures .1)
+    let the-enum-told = c .before .before .before .before .enum-told in
+    let check-records = c .before .before .before .before .before .before .check-records in
+    let ok = check-taken (s .costs) (s .count) ps (sym (check-records .ensures) ∙ the-enum-told .given .1) in
+    let lay-out = c .before .before .lay-out in
+    ((ok .few, laid-ranged (s .costs) (s .count) ps ok (chargedIn (lay-out .last .0) (s .count)) (lay-out .ensures .0)), c .stall-of .ensures .1)
 
 returns : tie.Need-returns
 returns c =
     let s = c .before .before .before .before .args in
-    sym (answer-bad (s .costs) (s .count) (recordsOf (s .records .now)) (c .before .why .given .0 .0) (sym (c .before .before .before .check-records .ensures) ∙ c .before .why .given .1))
+    sym (answer-bad (s .costs) (s .count) (recordsOf (s .records .now)) (c .before .why .given .0 .0)
+    (sym (c .before .before .before .check-records .ensures) ∙ c .before .why .given .1))
 
 returns-2 : tie.Need-returns-2
 unfolding verdictOf
 returns-2 c =
     let s = c .before .before .before .before .before .before .before .before .args in
-    let laid = chargedIn (c .before .before .before .lay-out .last .0) (s .count) in
-    ap (λ (v : Verdict). Judged v) (c .judge-core .ensures ∙ (ap (λ (b : ℕ). verdict b laid) (c .before .stall-of .ensures .0) ∙ ap (λ (qs : List Charged). verdict (stall (s .costs)) qs) (c .before .before .before .lay-out .ensures .0)))
-    ∙ sym (answer-fine (s .costs) (s .count) (recordsOf (s .records .now)) (sym (c .before .before .before .before .before .before .before .check-records .ensures) ∙ c .before .before .before .before .before .enum-told .given .1))
+    let lay-out = c .before .before .before .lay-out in
+    let laid = chargedIn (lay-out .last .0) (s .count) in
+    let the-enum-told = c .before .before .before .before .before .enum-told in
+    let check-records = c .before .before .before .before .before .before .before .check-records in
+    ap (λ (v : Verdict). Judged v) (c .judge-core .ensures ∙ (ap (λ (b : ℕ). verdict b laid) (c .before .stall-of .ensures .0)
+    ∙ ap (λ (qs : List Charged). verdict (stall (s .costs)) qs) (lay-out .ensures .0)))
+    ∙ sym (answer-fine (s .costs) (s .count) (recordsOf (s .records .now)) (sym (check-records .ensures) ∙ the-enum-told .given .1))
 
 pub judge-records-spec : {M : Type 1} → statement M
 judge-records-spec =

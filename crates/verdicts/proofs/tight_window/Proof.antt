@@ -45,23 +45,30 @@ lay-out-requires : tie.Need-lay-out-requires
 lay-out-requires c κs =
     let s = c .before .before .before .before .before .args in
     let ps = recordsOf (s .records .now) in
-    let ok = check-taken (s .costs) (s .count) ps (sym (c .before .before .before .before .check-records .ensures) ∙ c .before .before .enum-told .given .1) in
+    let check-records = c .before .before .before .before .check-records in
+    let ok = check-taken (s .costs) (s .count) ps (sym (check-records .ensures) ∙ c .before .before .enum-told .given .1) in
     (ok .costs, (ok .few, taken-countable (s .costs) (s .count) ps ok, length-replicate {A = ℕ} (7 * runMost) 0))
 
 stall-of-requires : tie.Need-stall-of-requires
 stall-of-requires c κs =
     let s = c .before .before .before .before .before .before .before .args in
     let ps = recordsOf (s .records .now) in
-    let ok = check-taken (s .costs) (s .count) ps (sym (c .before .before .before .before .before .before .check-records .ensures) ∙ c .before .before .before .before .enum-told .given .1) in
+    let the-enum-told = c .before .before .before .before .enum-told in
+    let check-records = c .before .before .before .before .before .before .check-records in
+    let ok = check-taken (s .costs) (s .count) ps (sym (check-records .ensures) ∙ the-enum-told .given .1) in
     ok .costs
 
 tight-of-requires : tie.Need-tight-of-requires
 tight-of-requires c κs =
     let s = c .before .before .before .before .before .before .before .before .args in
     let ps = recordsOf (s .records .now) in
-    let ok = check-taken (s .costs) (s .count) ps (sym (c .before .before .before .before .before .before .before .check-records .ensures) ∙ c .before .before .before .before .before .enum-told .given .1) in
-    let laid = chargedIn (c .before .before .lay-out .last .0) (s .count) in
-    ((omega (arith, c .before .before .before .before .if1 .left), ok .few, laid-ranged (s .costs) (s .count) ps ok laid (c .before .before .lay-out .ensures .0)), c .stall-of .ensures .1)
+    let the-enum-told = c .before .before .before .before .before .enum-told in
+    let check-records = c .before .before .before .before .before .before .before .check-records in
+    let ok = check-taken (s .costs) (s .count) ps (sym (check-records .ensures) ∙ the-enum-told .given .1) in
+    let lay-out = c .before .before .lay-out in
+    let laid = chargedIn (lay-out .last .0) (s .count) in
+    let if1 = c .before .before .before .before .if1 in
+    ((omega (arith, if1 .left), ok .few, laid-ranged (s .costs) (s .count) ps ok laid (lay-out .ensures .0)), c .stall-of .ensures .1)
 
 returns-2 : tie.Need-returns-2
 unfolding tightFigure
@@ -69,17 +76,22 @@ returns-2 c =
     let s = c .before .before .before .before .args in
     let ps = recordsOf (s .records .now) in
     let qs = coreOf (s .costs) (take (s .count) ps) in
-    figure-bad (checkRun (s .costs) (s .count) ps) (tightOfLast (stall (s .costs)) qs qs) (c .before .why .given .0 .0) (sym (c .before .before .before .check-records .ensures) ∙ c .before .why .given .1)
+    figure-bad (checkRun (s .costs) (s .count) ps) (tightOfLast (stall (s .costs)) qs qs) (c .before .why .given .0 .0)
+    (sym (c .before .before .before .check-records .ensures) ∙ c .before .why .given .1)
 
 returns-3 : tie.Need-returns-3
 unfolding tightFigure
 returns-3 c =
     let s = c .before .before .before .before .before .before .before .before .before .args in
     let ps = recordsOf (s .records .now) in
-    let fine = sym (c .before .before .before .before .before .before .before .before .check-records .ensures) ∙ c .before .before .before .before .before .before .enum-told .given .1 in
+    let the-enum-told = c .before .before .before .before .before .before .enum-told in
+    let check-records = c .before .before .before .before .before .before .before .before .check-records in
+    let fine = sym (check-records .ensures) ∙ the-enum-told .given .1 in
     let qs = coreOf (s .costs) (take (s .count) ps) in
-    let laid = chargedIn (c .before .before .before .lay-out .last .0) (s .count) in
-    ap (λ (f : Found). Of f) (c .tight-of .ensures ∙ (ap (λ (b : ℕ). tightOfLast b laid laid) (c .before .stall-of .ensures .0) ∙ ap (λ (ps : List Charged). tightOfLast (stall (s .costs)) ps ps) (c .before .before .before .lay-out .ensures .0)))
+    let lay-out = c .before .before .before .lay-out in
+    let laid = chargedIn (lay-out .last .0) (s .count) in
+    ap (λ (f : Found). Of f) (c .tight-of .ensures ∙ (ap (λ (b : ℕ). tightOfLast b laid laid) (c .before .stall-of .ensures .0)
+    ∙ ap (λ (ps : List Charged). tightOfLast (stall (s .costs)) ps ps) (lay-out .ensures .0)))
     ∙ figure-fine (checkRun (s .costs) (s .count) ps) (tightOfLast (stall (s .costs)) qs qs) fine
 
 pub tight-window-spec : {M : Type 1} → statement M

@@ -1,4 +1,5 @@
--- `charge_bounds::bound_of` meets its contract: the cap of the far length and the short walk, the probes where there is no busy length, or what the busy length tells.
+-- `charge_bounds::bound_of` meets its contract: the cap of the far length and the short walk, the probes where there is no busy length, or
+-- what the busy length tells.
 use mathlib.Core.Path.{refl, sym, subst, _∙_}
 use Prim.Native.Nat.{_+_}
 use native.Mathlib.Omega.{arith}
@@ -36,17 +37,26 @@ least-live-requires c κs = search needs
 cap-of-requires : tie.Need-cap-of-requires
 cap-of-requires c κs =
     let s = c .before .before .before .before .before .args in
-    let ranged : Ranged (c .before .before .before .charged-at .result) = rw (c .before .before .before .charged-at .ensures) (charged-at-each Ranged (s .core .now) (s .n + 1) (c .before .before .before .before .before .pre .0 .2) (s .n) (omega arith)) in
-    ((omega (arith, c .before .before .before .before .before .pre .0 .0), charged-in-front Ranged (s .core .now) (s .n) (c .before .before .before .before .before .pre .0 .2)), (ranged, (c .before .before .before .before .before .pre .1 .0, ranged .charge-fits, c .before .least-live .ensures .1)))
+    let charged-at = c .before .before .before .charged-at in
+    let pre = c .before .before .before .before .before .pre in
+    let ranged : Ranged (charged-at .result) = rw (charged-at .ensures) (charged-at-each Ranged (s .core .now) (s .n + 1) (pre .0 .2) (s .n) (omega arith)) in (
+      (omega (arith, pre .0 .0), charged-in-front Ranged (s .core .now) (s .n) (pre .0 .2)),
+      (ranged, (pre .1 .0, ranged .charge-fits, c .before .least-live .ensures .1)),
+    )
 
 returns : tie.Need-returns
 returns c =
     let s = c .before .before .before .before .before .before .before .before .args in
     let qs = chargedIn (s .core .now) (s .n) in
-    let q = c .before .before .before .before .before .before .charged-at .result in (
-      subst (λ (r : Charged). Bounds (s .b) qs r (AtMost (c .before .before .cap-of .result))) (c .before .before .before .before .before .before .charged-at .ensures)
-          (bound-most (s .b) qs (chargedIn (s .core .now) (s .n + 1)) q (charged-in-is (s .core .now) (s .n) q (c .before .before .before .before .before .before .charged-at .ensures)) (c .before .before .before .before .least-live .result) (c .before .before .cap-of .result) (c .before .before .before .before .least-live .ensures .0) (c .if1 .taken) (c .before .before .cap-of .ensures)),
-      record { same = refl; long = c .before .before .before .before .before .before .before .before .pre .0 .1 },
+    let charged-at = c .before .before .before .before .before .before .charged-at in
+    let q = charged-at .result in
+    let cap-of = c .before .before .cap-of in
+    let least-live = c .before .before .before .before .least-live in
+    let pre = c .before .before .before .before .before .before .before .before .pre in (
+      subst (λ (r : Charged). Bounds (s .b) qs r (AtMost (cap-of .result))) (charged-at .ensures)
+          (bound-most (s .b) qs (chargedIn (s .core .now) (s .n + 1)) q (charged-in-is (s .core .now) (s .n) q (charged-at .ensures))
+          (least-live .result) (cap-of .result) (least-live .ensures .0) (c .if1 .taken) (cap-of .ensures)),
+      record { same = refl; long = pre .0 .1 },
     )
 
 add-climb-busy : tie.Need-add-climb-busy
@@ -60,36 +70,69 @@ enum-told c = search needs
 
 guess-requires : tie.Need-guess-requires
 guess-requires c κs =
-    let s = c .before .before .before .before .before .before .before .before .before .before .before .before .before .args in
-    let ranged : Ranged (c .before .before .before .before .before .before .before .before .before .before .before .charged-at .result) = rw (c .before .before .before .before .before .before .before .before .before .before .before .charged-at .ensures) (charged-at-each Ranged (s .core .now) (s .n + 1) (c .before .before .before .before .before .before .before .before .before .before .before .before .before .pre .0 .2) (s .n) (omega arith)) in
-    ((c .before .before .before .before .before .before .before .before .before .before .before .before .before .pre .0 .0, c .before .before .before .before .before .before .before .before .before .before .before .before .before .pre .0 .2), (ranged, rw (c .before .before .before .before .before .before .before .before .before .before .before .charged-at .ensures) (c .before .before .before .before .before .before .before .before .before .before .before .before .before .pre .1 .1)))
+    let earlier = c .before .before .before .before .before .before in
+    let s = earlier .before .before .before .before .before .before .before .args in
+    let charged-at = earlier .before .before .before .before .before .charged-at in
+    let pre = earlier .before .before .before .before .before .before .before .pre in
+    let ranged : Ranged (charged-at .result) = rw (charged-at .ensures) (charged-at-each Ranged (s .core .now) (s .n + 1) (pre .0 .2) (s .n) (omega arith)) in
+    ((pre .0 .0, pre .0 .2), (ranged, rw (charged-at .ensures) (pre .1 .1)))
 
 busy-cap-requires : tie.Need-busy-cap-requires
 busy-cap-requires c κs =
-    let s = c .before .before .before .before .before .before .before .before .before .before .before .before .before .before .before .args in
+    let at-climb-busy = c .before .before .before .before .before in
+    let s = at-climb-busy .before .before .before .before .before .before .before .before .before .before .args in
     let qs = chargedIn (s .core .now) (s .n) in
     let rs = chargedIn (s .core .now) (s .n + 1) in
-    let q = c .before .before .before .before .before .before .before .before .before .before .before .before .before .charged-at .result in
-    let ranged : Ranged q = rw (c .before .before .before .before .before .before .before .before .before .before .before .before .before .charged-at .ensures) (charged-at-each Ranged (s .core .now) (s .n + 1) (c .before .before .before .before .before .before .before .before .before .before .before .before .before .before .before .pre .0 .2) (s .n) (omega arith)) in
-    ((c .before .before .before .before .before .before .before .before .before .before .before .before .before .before .before .pre .0 .0, c .before .before .before .before .before .before .before .before .before .before .before .before .before .before .before .pre .0 .1, charged-in-front Ranged (s .core .now) (s .n) (c .before .before .before .before .before .before .before .before .before .before .before .before .before .before .before .pre .0 .2)), (ranged, (c .before .guess .ensures, unsettled-from qs q q refl refl refl rs (charged-in-is (s .core .now) (s .n) q (c .before .before .before .before .before .before .before .before .before .before .before .before .before .charged-at .ensures)) (all-recurs rs (c .before .before .before .before .before .before .before .before .before .before .before .before .before .before .before .pre .0 .2)) (sym (c .before .before .before .before .before .climb-busy .ensures) ∙ c .before .before .before .enum-told .given .1))))
+    let charged-at = at-climb-busy .before .before .before .before .before .before .before .before .charged-at in
+    let q = charged-at .result in
+    let pre = at-climb-busy .before .before .before .before .before .before .before .before .before .before .pre in
+    let ranged : Ranged q = rw (charged-at .ensures) (charged-at-each Ranged (s .core .now) (s .n + 1) (pre .0 .2) (s .n) (omega arith)) in (
+      (pre .0 .0, pre .0 .1, charged-in-front Ranged (s .core .now) (s .n) (pre .0 .2)),
+      (
+        ranged,
+        (
+          c .before .guess .ensures,
+          unsettled-from qs q q refl refl refl rs (charged-in-is (s .core .now) (s .n) q (charged-at .ensures))
+              (all-recurs rs (pre .0 .2)) (sym (at-climb-busy .climb-busy .ensures) ∙ c .before .before .before .enum-told .given .1),
+        ),
+      ),
+    )
 
 enum-known-l : tie.Need-enum-known-l
 enum-known-l c = search needs
 
 bound-within-requires : tie.Need-bound-within-requires
 bound-within-requires c κs =
-    let s = c .before .before .before .before .before .before .before .before .before .before .before .before .before .before .args in
+    let at-least-live = c .before .before .before .before .before .before .before .before .before .before in
+    let s = at-least-live .before .before .before .before .args in
     let rs = chargedIn (s .core .now) (s .n + 1) in
-    let busy = sym (c .before .before .before .before .climb-busy .ensures) ∙ c .before .before .l .given .1 in
-    ((c .before .before .before .before .before .before .before .before .before .before .before .before .before .before .pre .0 .0, c .before .before .before .before .before .before .before .before .before .before .before .before .before .before .pre .0 .2), ((c .before .before .before .before .before .before .before .before .before .before .before .before .before .before .pre .1 .0, c .before .before .before .before .before .before .before .before .before .before .least-live .ensures .1, busy-length-within rs (all-recurs rs (c .before .before .before .before .before .before .before .before .before .before .before .before .before .before .pre .0 .2)) (c .before .before .l .given .0 .0) busy, c .before .before .before .before .before .before .before .before .before .before .before .before .before .before .pre .1 .1), (c .before .before .before .before .before .before .before .before .before .before .least-live .ensures .0, busy)))
+    let l = c .before .before .l in
+    let climb-busy = c .before .before .before .before .climb-busy in
+    let busy = sym (climb-busy .ensures) ∙ l .given .1 in
+    let least-live = at-least-live .least-live in
+    let pre = at-least-live .before .before .before .before .pre in (
+      (pre .0 .0, pre .0 .2),
+      (
+        (
+          pre .1 .0,
+          least-live .ensures .1,
+          busy-length-within rs (all-recurs rs (pre .0 .2)) (l .given .0 .0) busy,
+          pre .1 .1,
+        ),
+        (least-live .ensures .0, busy),
+      ),
+    )
 
 returns-2 : tie.Need-returns-2
 returns-2 c =
-    let s = c .before .before .before .before .before .before .before .before .before .before .before .before .before .before .before .before .args in
+    let earlier = c .before .before .before .before .before .before .before in
+    let s = earlier .before .before .before .before .before .before .before .before .before .args in
     let qs = chargedIn (s .core .now) (s .n) in
-    let q = c .before .before .before .before .before .before .before .before .before .before .before .before .before .before .charged-at .result in (
-      subst (λ (r : Charged). Bounds (s .b) qs r (AtMost (c .busy-cap .result))) (c .before .before .before .before .before .before .before .before .before .before .before .before .before .before .charged-at .ensures)
-          (bound-unsettled (s .b) qs (chargedIn (s .core .now) (s .n + 1)) q (charged-in-is (s .core .now) (s .n) q (c .before .before .before .before .before .before .before .before .before .before .before .before .before .before .charged-at .ensures)) (c .busy-cap .result) (c .busy-cap .ensures .0) (c .busy-cap .ensures .1)),
+    let charged-at = earlier .before .before .before .before .before .before .before .charged-at in
+    let q = charged-at .result in (
+      subst (λ (r : Charged). Bounds (s .b) qs r (AtMost (c .busy-cap .result))) (charged-at .ensures)
+          (bound-unsettled (s .b) qs (chargedIn (s .core .now) (s .n + 1)) q (charged-in-is (s .core .now) (s .n) q (charged-at .ensures))
+          (c .busy-cap .result) (c .busy-cap .ensures .0) (c .busy-cap .ensures .1)),
       c .busy-cap .ensures .2,
     )
 

@@ -39,7 +39,9 @@ add-f c = omega (arith, c .before .loop .inv .1, c .before .loop .inv .2 .most, 
 unsettled-requires : tie.Need-unsettled-requires Inv-loop μ-loop
 unsettled-requires c κs =
     let s = c .before .before .before .args in
-    ((c .before .before .before .pre .0 .0, c .before .before .loop .inv .0 .long, rw (c .before .before .loop .inv .0 .same) (c .before .before .before .pre .0 .2)), (c .before .before .before .pre .1 .0, omega (arith, c .before .before .loop .inv .1, c .before .before .loop .inv .2 .most, c .before .before .before .pre .1 .0 .charge-fits)))
+    let loop = c .before .before .loop in
+    let pre = c .before .before .before .pre in
+    ((pre .0 .0, loop .inv .0 .long, rw (loop .inv .0 .same) (pre .0 .2)), (pre .1 .0, omega (arith, loop .inv .1, loop .inv .2 .most, pre .1 .0 .charge-fits)))
 
 pick-requires : tie.Need-pick-requires Inv-loop μ-loop
 pick-requires c κs = search needs
@@ -49,18 +51,28 @@ pick-requires-2 c κs = search needs
 
 loop-less : tie.Need-loop-less Inv-loop μ-loop
 loop-less c =
-    let low = c .before .before .before .before .before .loop .low in
-    let f = (low + c .before .before .before .before .before .loop .high) / 2 in
-    nearer (c .before .before .unsettled .result) low f (c .before .before .before .before .before .loop .high) (c .before .pick .result) (c .pick2 .result) (omega arith) (omega arith) (c .before .pick .ensures) (c .pick2 .ensures) .0
+    let loop = c .before .before .before .before .before .loop in
+    let low = loop .low in
+    let f = (low + loop .high) / 2 in
+    nearer (c .before .before .unsettled .result) low f (loop .high) (c .before .pick .result) (c .pick2 .result) (omega arith)
+    (omega arith) (c .before .pick .ensures) (c .pick2 .ensures) .0
 
 loop-again : tie.Need-loop-again Inv-loop μ-loop
 loop-again c =
     let s = c .before .before .before .before .before .before .args in
     let qs = chargedIn (s .core .now) (s .n) in
-    let low = c .before .before .before .before .before .loop .low in
-    let f = (low + c .before .before .before .before .before .loop .high) / 2 in
-    let shown : ShowsIf (Unsettled qs (s .q) f) (c .before .before .unsettled .result) = subst (λ (rs : List Charged). ShowsIf (Unsettled rs (s .q) f) (c .before .before .unsettled .result)) (c .before .before .before .before .before .loop .inv .0 .same) (c .before .before .unsettled .ensures .0) in
-    (kept-again (s .core .now) (c .before .before .before .before .before .loop .core) (c .before .before .unsettled .last .0) (s .n) (c .before .before .before .before .before .loop .inv .0) (c .before .before .unsettled .ensures .1), nearer (c .before .before .unsettled .result) low f (c .before .before .before .before .before .loop .high) (c .before .pick .result) (c .pick2 .result) (omega arith) (omega arith) (c .before .pick .ensures) (c .pick2 .ensures) .1, lowered-next (Unsettled qs (s .q)) (c .before .before .unsettled .result) (s .q .charge) low f (c .before .before .before .before .before .loop .high) (c .pick2 .result) (omega arith) (omega arith) (c .pick2 .ensures) shown (c .before .before .before .before .before .loop .inv .2))
+    let loop = c .before .before .before .before .before .loop in
+    let low = loop .low in
+    let f = (low + loop .high) / 2 in
+    let unsettled = c .before .before .unsettled in
+    let shown : ShowsIf (Unsettled qs (s .q) f) (unsettled .result) =
+    subst (λ (rs : List Charged). ShowsIf (Unsettled rs (s .q) f) (unsettled .result)) (loop .inv .0 .same) (unsettled .ensures .0) in (
+      kept-again (s .core .now) (loop .core) (unsettled .last .0) (s .n) (loop .inv .0) (unsettled .ensures .1),
+      nearer (unsettled .result) low f (loop .high) (c .before .pick .result) (c .pick2 .result) (omega arith) (omega arith)
+          (c .before .pick .ensures) (c .pick2 .ensures) .1,
+      lowered-next (Unsettled qs (s .q)) (unsettled .result) (s .q .charge) low f
+          (loop .high) (c .pick2 .result) (omega arith) (omega arith) (c .pick2 .ensures) shown (loop .inv .2),
+    )
 
 sub-result : tie.Need-sub-result Inv-loop μ-loop
 sub-result c = omega (arith, c .before .loop .inv .1)

@@ -21,12 +21,15 @@ squeeze-requires-2 : tie.Need-squeeze-requires-2
 squeeze-requires-2 c κs =
     let s = c .before .before .args in
     let far = squeezed-is (s .b) (chargedIn (s .core .now) (s .n)) (s .q) 100000000 1 (s .f) (c .before .squeeze .result) (c .before .squeeze .ensures) in
-    (c .before .before .pre .0, (c .before .before .pre .1 .0, (c .before .before .pre .1 .1 .0, omega (arith, far .most), omega (arith, c .before .before .pre .1 .0 .period-fits))))
+    let pre = c .before .before .pre in
+    (pre .0, (pre .1 .0, (pre .1 .1 .0, omega (arith, far .most), omega (arith, pre .1 .0 .period-fits))))
 
 returns : tie.Need-returns
 returns c =
     let s = c .before .before .before .args in
-    caps-both (s .b) (chargedIn (s .core .now) (s .n)) (s .q) (s .f) (s .a) 100000000 1 (4 * s .q .period) (c .before .before .squeeze .result) (c .squeeze2 .result) (omega arith) (c .before .before .squeeze .ensures) (c .squeeze2 .ensures)
+    let squeeze = c .before .before .squeeze in
+    caps-both (s .b) (chargedIn (s .core .now) (s .n)) (s .q) (s .f) (s .a) 100000000 1 (4 * s .q .period) (squeeze .result)
+    (c .squeeze2 .result) (omega arith) (squeeze .ensures) (c .squeeze2 .ensures)
 
 pub cap-of-spec : {M : Type 1} → statement M
 cap-of-spec = tie.close (tie.spec squeeze-requires mul-squeeze squeeze-requires-2 returns)

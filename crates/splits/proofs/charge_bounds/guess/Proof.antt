@@ -27,13 +27,18 @@ charged-at-requires : tie.Need-charged-at-requires Inv-loop μ-loop
 charged-at-requires c κs = search needs
 
 div-guess-at : tie.Need-div-guess-at Inv-loop μ-loop
-div-guess-at c = rw (c .before .charged-at .ensures) (charged-at-each Ranged (c .before .before .before .before .args .core .now) (c .before .before .before .before .args .n + 1) (c .before .before .before .before .pre .0 .1) (c .before .before .before .loop .i) (omega arith) .period-some)
+div-guess-at c =
+    let at-start = c .before .before .before .before in
+    rw (c .before .charged-at .ensures) (charged-at-each Ranged (at-start .args .core .now) (at-start .args .n + 1) (at-start .pre .0 .1)
+    (c .before .before .before .loop .i) (omega arith) .period-some)
 
 mul-guess-at : tie.Need-mul-guess-at Inv-loop μ-loop
 mul-guess-at c = omega (arith, div-mul-le-self busyMost (c .before .before .charged-at .result .period))
 
 guess-at-requires : tie.Need-guess-at-requires Inv-loop μ-loop
-guess-at-requires c κs = (c .before .before .before .before .before .pre .0, (c .before .before .before .before .before .pre .1 .0, (c .before .before .before .before .before .pre .1 .1, omega (arith, div-mul-le-self busyMost (c .before .before .charged-at .result .period)))))
+guess-at-requires c κs =
+    let pre = c .before .before .before .before .before .pre in
+    (pre .0, (pre .1 .0, (pre .1 .1, omega (arith, div-mul-le-self busyMost (c .before .before .charged-at .result .period)))))
 
 greater-requires : tie.Need-greater-requires Inv-loop μ-loop
 greater-requires c κs = search needs
@@ -45,7 +50,9 @@ loop-less : tie.Need-loop-less Inv-loop μ-loop
 loop-less c = search needs
 
 loop-again : tie.Need-loop-again Inv-loop μ-loop
-loop-again c = (omega (arith, c .greater .ensures, c .before .guess-at .ensures, c .before .before .before .before .before .before .loop .inv .0), search needs)
+loop-again c =
+    let loop = c .before .before .before .before .before .before .loop in
+    (omega (arith, c .greater .ensures, c .before .guess-at .ensures, loop .inv .0), search needs)
 
 returns : tie.Need-returns Inv-loop μ-loop
 returns c = search needs

@@ -35,7 +35,9 @@ div-less : tie.Need-div-less
 div-less c = search needs
 
 add-less : tie.Need-add-less
-add-less c = omega (arith, div-le-self (c .less .result) (c .before .greater .result), c .less .ensures, c .before .before .before .before .sum-at .ensures .1)
+add-less c =
+    let sum-at = c .before .before .before .before .sum-at in
+    omega (arith, div-le-self (c .less .result) (c .before .greater .result), c .less .ensures, sum-at .ensures .1)
 
 less-requires-2 : tie.Need-less-requires-2
 less-requires-2 c κs = search needs

@@ -34,8 +34,10 @@ climb-busy-requires : tie.Need-climb-busy-requires
 climb-busy-requires c κs =
     let s = c .before .before .before .before .args in
     let r = withCharge (s .q) (s .f) in
-    let laid = c .before .put-charged .ensures .0 ∙ ap (λ (o : Charged). chargedIn (s .core .now) (s .n) ++ (o ∷ [])) (c .before .before .with-charge .ensures) in
-    (omega (arith, c .before .before .before .before .pre .0 .0), rw laid (each-snoc Ranged (chargedIn (s .core .now) (s .n)) r (c .before .before .before .before .pre .0 .2) (charge-ranged (s .q) (s .f) (c .before .before .before .before .pre .1 .0) (c .before .before .before .before .pre .1 .1))))
+    let laid = c .before .put-charged .ensures .0
+    ∙ ap (λ (o : Charged). chargedIn (s .core .now) (s .n) ++ (o ∷ [])) (c .before .before .with-charge .ensures) in
+    let pre = c .before .before .before .before .pre in
+    (omega (arith, pre .0 .0), rw laid (each-snoc Ranged (chargedIn (s .core .now) (s .n)) r (pre .0 .2) (charge-ranged (s .q) (s .f) (pre .1 .0) (pre .1 .1))))
 
 enum-told : tie.Need-enum-told
 enum-told c = search needs
@@ -49,15 +51,22 @@ returns c =
     let s = c .before .before .before .before .before .before .before .args in
     let qs = chargedIn (s .core .now) (s .n) in
     let r = withCharge (s .q) (s .f) in
-    let laid = c .before .before .before .before .put-charged .ensures .0 ∙ ap (λ (o : Charged). qs ++ (o ∷ [])) (c .before .before .before .before .before .with-charge .ensures) in
-    let rs = chargedIn (c .before .before .before .before .put-charged .last .0) (s .n + 1) in
-    let ranged : Each Ranged rs = rw laid (each-snoc Ranged qs r (c .before .before .before .before .before .before .before .pre .0 .2) (charge-ranged (s .q) (s .f) (c .before .before .before .before .before .before .before .pre .1 .0) (c .before .before .before .before .before .before .before .pre .1 .1))) in
-    (unsettled-from qs (s .q) r refl refl refl rs laid (all-recurs rs ranged) (sym (c .before .before .climb-busy .ensures) ∙ c .enum-told .given .1), laid-kept (s .core .now) (c .before .before .before .before .put-charged .last .0) (s .n) r laid (c .before .before .before .before .put-charged .ensures .1))
+    let put-charged = c .before .before .before .before .put-charged in
+    let with-charge = c .before .before .before .before .before .with-charge in
+    let laid = put-charged .ensures .0 ∙ ap (λ (o : Charged). qs ++ (o ∷ [])) (with-charge .ensures) in
+    let rs = chargedIn (put-charged .last .0) (s .n + 1) in
+    let pre = c .before .before .before .before .before .before .before .pre in
+    let ranged : Each Ranged rs = rw laid (each-snoc Ranged qs r (pre .0 .2) (charge-ranged (s .q) (s .f) (pre .1 .0) (pre .1 .1))) in (
+      unsettled-from qs (s .q) r refl refl refl rs laid (all-recurs rs ranged) (sym (c .before .before .climb-busy .ensures)
+          ∙ c .enum-told .given .1),
+      laid-kept (s .core .now) (put-charged .last .0) (s .n) r laid (put-charged .ensures .1),
+    )
 
 returns-2 : tie.Need-returns-2
 returns-2 c =
     let s = c .before .before .before .before .before .before .before .before .args in
-    (tt, laid-kept (s .core .now) (c .before .before .before .before .before .put-charged .last .0) (s .n) _ (c .before .before .before .before .before .put-charged .ensures .0) (c .before .before .before .before .before .put-charged .ensures .1))
+    let put-charged = c .before .before .before .before .before .put-charged in
+    (tt, laid-kept (s .core .now) (put-charged .last .0) (s .n) _ (put-charged .ensures .0) (put-charged .ensures .1))
 
 pub unsettled-spec : {M : Type 1} → statement M
 unsettled-spec =

@@ -12,7 +12,9 @@ laid-wait-requires : tie.Need-laid-wait-requires
 laid-wait-requires c κs = search needs
 
 returns : tie.Need-returns
-returns c = c .laid-wait .ensures ∙ wait-held (c .before .args .core .now) (c .before .args .n) (c .before .pre .0) (c .before .args .base) (c .before .args .top) (c .before .pre .1 .0) (c .before .pre .1 .1)
+returns c =
+    let start = c .before .args in
+    c .laid-wait .ensures ∙ wait-held (start .core .now) (start .n) (c .before .pre .0) (start .base) (start .top) (c .before .pre .1 .0) (c .before .pre .1 .1)
 
 pub climb-spec : {M : Type 1} → statement M
 climb-spec = tie.close (tie.spec laid-wait-requires returns)

@@ -12,7 +12,11 @@ laid-span-requires : tie.Need-laid-span-requires
 laid-span-requires c κs = search needs
 
 returns : tie.Need-returns
-returns c = c .laid-span .ensures ∙ span-held (c .before .args .core .now) (c .before .args .n) (c .before .pre .0) (c .before .args .b) (c .before .args .a) (c .before .args .l) (c .before .pre .1 .0) (c .before .pre .1 .1) (c .before .pre .1 .2)
+returns c =
+    let at-start = c .before in
+    let start = at-start .args in
+    let pre = at-start .pre in
+    c .laid-span .ensures ∙ span-held (start .core .now) (start .n) (pre .0) (start .b) (start .a) (start .l) (pre .1 .0) (pre .1 .1) (pre .1 .2)
 
 pub descend-spec : {M : Type 1} → statement M
 descend-spec = tie.close (tie.spec laid-span-requires returns)

@@ -12,7 +12,8 @@ laid-verdict-requires : tie.Need-laid-verdict-requires
 laid-verdict-requires c κs = search needs
 
 returns : tie.Need-returns
-returns c = c .laid-verdict .ensures ∙ verdict-held (c .before .args .core .now) (c .before .args .n) (c .before .pre .0) (c .before .args .b) (c .before .pre .1)
+returns c = c .laid-verdict .ensures
+    ∙ verdict-held (c .before .args .core .now) (c .before .args .n) (c .before .pre .0) (c .before .args .b) (c .before .pre .1)
 
 pub judge-core-spec : {M : Type 1} → statement M
 judge-core-spec = tie.close (tie.spec laid-verdict-requires returns)

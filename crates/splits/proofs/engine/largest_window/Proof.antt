@@ -15,7 +15,8 @@ laid-largest-window-requires : tie.Need-laid-largest-window-requires
 laid-largest-window-requires c κs = search needs
 
 returns : tie.Need-returns
-returns c = c .laid-largest-window .ensures ∙ ap (λ (qs : List Charged). largestWindow qs) (laid-pieces-is (c .before .args .core .now) (c .before .args .n) (c .before .pre))
+returns c = c .laid-largest-window .ensures
+    ∙ ap (λ (qs : List Charged). largestWindow qs) (laid-pieces-is (c .before .args .core .now) (c .before .args .n) (c .before .pre))
 
 pub largest-window-spec : {M : Type 1} → statement M
 largest-window-spec = tie.close (tie.spec laid-largest-window-requires returns)

@@ -17,8 +17,9 @@ laid-least-live-requires c κs = search needs
 
 returns : tie.Need-returns
 returns c =
-    let is = c .laid-least-live .ensures ∙ ap (λ (qs : List Charged). leastLive qs) (laid-pieces-is (c .before .args .core .now) (c .before .args .n) (c .before .pre .1)) in
-    (is, rw is (least-live-fits (chargedIn (c .before .args .core .now) (c .before .args .n)) (c .before .pre .2)))
+    let start = c .before .args in
+    let is = c .laid-least-live .ensures ∙ ap (λ (qs : List Charged). leastLive qs) (laid-pieces-is (start .core .now) (start .n) (c .before .pre .1)) in
+    (is, rw is (least-live-fits (chargedIn (start .core .now) (start .n)) (c .before .pre .2)))
 
 pub least-live-spec : {M : Type 1} → statement M
 least-live-spec = tie.close (tie.spec laid-least-live-requires returns)

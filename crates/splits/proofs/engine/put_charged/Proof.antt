@@ -14,7 +14,10 @@ lay-piece-requires c κs = search needs
 returns : tie.Need-returns
 returns c =
     let s = c .before .before .args in
-    (rw (c .lay-piece .ensures) (charged-in-lay (s .core .now) (s .i) (s .q) (c .before .before .pre .0) (c .before .before .pre .1)), rw (c .lay-piece .ensures) (lay-length (s .core .now) (s .i) (s .q) (c .before .before .pre .0) ∙ c .before .before .pre .1))
+    let pre = c .before .before .pre in (
+      rw (c .lay-piece .ensures) (charged-in-lay (s .core .now) (s .i) (s .q) (pre .0) (pre .1)),
+      rw (c .lay-piece .ensures) (lay-length (s .core .now) (s .i) (s .q) (pre .0) ∙ pre .1),
+    )
 
 pub put-charged-spec : {M : Type 1} → statement M
 put-charged-spec = tie.close (tie.spec lay-piece-requires returns)

@@ -12,7 +12,13 @@ laid-most-fitting-requires : tie.Need-laid-most-fitting-requires
 laid-most-fitting-requires c κs = search needs
 
 returns : tie.Need-returns
-returns c = c .laid-most-fitting .ensures ∙ most-fitting-held (c .before .args .core .now) (c .before .args .n) (c .before .pre .0) (c .before .args .b) (c .before .args .q) (c .before .args .a) (c .before .args .l) (c .before .args .f) (c .before .pre .1 .1 .0) (c .before .pre .1 .0) (c .before .pre .1 .1 .1) (c .before .pre .1 .1 .2)
+returns c =
+    let at-start = c .before in
+    let start = at-start .args in
+    let pre = at-start .pre in
+    c .laid-most-fitting .ensures
+    ∙ most-fitting-held (start .core .now) (start .n) (pre .0) (start .b) (start .q) (start .a) (start .l) (start .f) (pre .1 .1 .0)
+    (pre .1 .0) (pre .1 .1 .1) (pre .1 .1 .2)
 
 pub squeeze-spec : {M : Type 1} → statement M
 squeeze-spec = tie.close (tie.spec laid-most-fitting-requires returns)

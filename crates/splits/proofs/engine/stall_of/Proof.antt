@@ -13,7 +13,10 @@ stall-of-requires : tie.Need-stall-of-requires
 stall-of-requires c κs = search needs
 
 returns : tie.Need-returns
-returns c = (c .stall-of .ensures ∙ stall-within (c .before .args .costs) (c .before .pre), omega (arith, c .stall-of .ensures, stall-le (c .before .args .costs)))
+returns c = (
+  c .stall-of .ensures ∙ stall-within (c .before .args .costs) (c .before .pre),
+  omega (arith, c .stall-of .ensures, stall-le (c .before .args .costs)),
+)
 
 pub stall-of-spec : {M : Type 1} → statement M
 stall-of-spec = tie.close (tie.spec stall-of-requires returns)

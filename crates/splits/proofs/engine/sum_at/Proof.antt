@@ -13,8 +13,11 @@ laid-sum-requires c κs = search needs
 
 returns : tie.Need-returns
 returns c =
-    let is = c .laid-sum .ensures ∙ sum-held (c .before .args .core .now) (c .before .args .n) (c .before .pre .0) (c .before .args .sum) (c .before .args .t) (c .before .pre .1) in
-    (is, rw is (sum-most (c .before .args .sum) (c .before .args .t) (c .before .pre .1) (c .before .args .core .now) (c .before .args .n) (c .before .pre .0)))
+    let at-start = c .before in
+    let start = at-start .args in
+    let pre = at-start .pre in
+    let is = c .laid-sum .ensures ∙ sum-held (start .core .now) (start .n) (pre .0) (start .sum) (start .t) (pre .1) in
+    (is, rw is (sum-most (start .sum) (start .t) (pre .1) (start .core .now) (start .n) (pre .0)))
 
 pub sum-at-spec : {M : Type 1} → statement M
 sum-at-spec = tie.close (tie.spec laid-sum-requires returns)

@@ -12,7 +12,9 @@ laid-tight-window-requires : tie.Need-laid-tight-window-requires
 laid-tight-window-requires c κs = search needs
 
 returns : tie.Need-returns
-returns c = c .laid-tight-window .ensures ∙ tight-window-held (c .before .args .core .now) (c .before .args .n) (c .before .pre .0 .1, c .before .pre .0 .2) (c .before .args .b) (c .before .pre .1)
+returns c = c .laid-tight-window .ensures
+    ∙ tight-window-held (c .before .args .core .now) (c .before .args .n) (c .before .pre .0 .1, c .before .pre .0 .2) (c .before .args .b)
+    (c .before .pre .1)
 
 pub tight-of-spec : {M : Type 1} → statement M
 tight-of-spec = tie.close (tie.spec laid-tight-window-requires returns)

@@ -22,7 +22,8 @@ first-piece-requires c κs = search needs
 charged-of-requires : tie.Need-charged-of-requires
 charged-of-requires c κs =
     let s = c .before .before .args in
-    (c .before .before .pre .0, rw (c .first-piece .ensures) (first-countable (s .task) (s .x) (s .w) (c .before .before .pre .1 .0) (c .before .before .pre .1 .1 .1 .0) (c .before .before .pre .1 .1 .1 .1)))
+    let pre = c .before .before .pre in
+    (pre .0, rw (c .first-piece .ensures) (first-countable (s .task) (s .x) (s .w) (pre .1 .0) (pre .1 .1 .1 .0) (pre .1 .1 .1 .1)))
 
 put-charged-requires : tie.Need-put-charged-requires
 put-charged-requires c κs = search needs
@@ -33,8 +34,14 @@ returns c =
     let old = s .core .now in
     let new = c .put-charged .last .0 in
     let row : chargedIn new (s .n + 1) ≡ withFirst (s .costs) (chargedIn old (s .n)) (s .task) (s .x) (s .w) =
-    laid-first old new (s .n) (c .before .charged-of .result) (c .put-charged .ensures .0) (s .costs) (s .task) (s .x) (s .w) (c .before .charged-of .ensures ∙ ap (λ (q : Piece). charged (s .costs) q) (c .before .before .first-piece .ensures)) in
-    (row, laid-kept old new (s .n) (c .before .charged-of .result) (c .put-charged .ensures .0) (c .put-charged .ensures .1), rw row (with-ranged (s .costs) (chargedIn old (s .n)) (s .task) (s .x) (s .w) (c .before .before .before .before .pre .0) (c .before .before .before .before .pre .1 .0) (c .before .before .before .before .pre .1 .1 .1 .0) (c .before .before .before .before .pre .1 .1 .1 .1) (c .before .before .before .before .pre .1 .1 .0 .ranged)))
+    laid-first old new (s .n) (c .before .charged-of .result) (c .put-charged .ensures .0) (s .costs) (s .task) (s .x) (s .w)
+    (c .before .charged-of .ensures ∙ ap (λ (q : Piece). charged (s .costs) q) (c .before .before .first-piece .ensures)) in
+    let pre = c .before .before .before .before .pre in (
+      row,
+      laid-kept old new (s .n) (c .before .charged-of .result) (c .put-charged .ensures .0) (c .put-charged .ensures .1),
+      rw row (with-ranged (s .costs) (chargedIn old (s .n)) (s .task) (s .x) (s .w) (pre .0) (pre .1 .0) (pre .1 .1 .1 .0) (pre .1 .1 .1 .1)
+          (pre .1 .1 .0 .ranged)),
+    )
 
 pub lay-first-spec : {M : Type 1} → statement M
 lay-first-spec =

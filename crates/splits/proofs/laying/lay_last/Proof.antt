@@ -25,7 +25,8 @@ last-piece-requires c κs = search needs
 charged-of-requires : tie.Need-charged-of-requires
 charged-of-requires c κs =
     let s = c .before .before .args in
-    (c .before .before .pre .0, rw (c .last-piece .ensures) (last-countable (s .costs) (s .task) (s .x) (s .w) (c .before .before .pre .0) (c .before .before .pre .1 .0)))
+    let pre = c .before .before .pre in
+    (pre .0, rw (c .last-piece .ensures) (last-countable (s .costs) (s .task) (s .x) (s .w) (pre .0) (pre .1 .0)))
 
 put-charged-requires : tie.Need-put-charged-requires
 put-charged-requires c κs = search needs
@@ -34,8 +35,14 @@ returns : tie.Need-returns
 returns c =
     let s = c .before .before .before .before .args in
     let row : chargedIn (c .put-charged .last .0) 1 ≡ lastAlone (s .costs) (s .task) (s .x) (s .w) =
-    laid-alone (s .costs) (s .task) (s .x) (s .w) (s .alone .now) (c .put-charged .last .0) (c .before .charged-of .result) (c .put-charged .ensures .0) (c .before .charged-of .ensures ∙ ap (λ (q : Piece). charged (s .costs) q) (c .before .before .last-piece .ensures)) in
-    (row, subst (λ (qs : List Charged). Each Ranged qs) (sym row) (alone-ranged (s .costs) (s .task) (s .x) (s .w) (c .before .before .before .before .pre .0) (c .before .before .before .before .pre .1 .0)), c .put-charged .ensures .1)
+    laid-alone (s .costs) (s .task) (s .x) (s .w) (s .alone .now) (c .put-charged .last .0)
+    (c .before .charged-of .result) (c .put-charged .ensures .0)
+    (c .before .charged-of .ensures ∙ ap (λ (q : Piece). charged (s .costs) q) (c .before .before .last-piece .ensures)) in
+    let pre = c .before .before .before .before .pre in (
+      row,
+      subst (λ (qs : List Charged). Each Ranged qs) (sym row) (alone-ranged (s .costs) (s .task) (s .x) (s .w) (pre .0) (pre .1 .0)),
+      c .put-charged .ensures .1,
+    )
 
 pub lay-last-spec : {M : Type 1} → statement M
 lay-last-spec = tie.close (tie.spec last-piece-requires charged-of-requires put-charged-requires returns)

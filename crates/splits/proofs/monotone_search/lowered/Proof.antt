@@ -54,19 +54,30 @@ pick-requires-2 c κs = search needs
 
 loop-less : tie.Need-loop-less Inv-loop μ-loop
 loop-less c =
-    let low = c .before .before .before .before .before .loop .low in
-    let m = low + c .before .before .before .lesser .result in
-    nearer (c .before .before .refused .result) low m (c .before .before .before .before .before .loop .high) (c .before .pick .result) (c .pick2 .result) (omega (arith, c .before .before .before .lesser .ensures)) (omega (arith, c .before .before .before .lesser .ensures)) (c .before .pick .ensures) (c .pick2 .ensures) .0
+    let loop = c .before .before .before .before .before .loop in
+    let low = loop .low in
+    let lesser = c .before .before .before .lesser in
+    let m = low + lesser .result in
+    nearer (c .before .before .refused .result) low m (loop .high) (c .before .pick .result) (c .pick2 .result)
+    (omega (arith, lesser .ensures)) (omega (arith, lesser .ensures)) (c .before .pick .ensures) (c .pick2 .ensures) .0
 
 loop-again : tie.Need-loop-again Inv-loop μ-loop
 loop-again c =
     let s = c .before .before .before .before .before .before .args in
-    let low = c .before .before .before .before .before .loop .low in
-    let m = low + c .before .before .before .lesser .result in
-    let above : low < m = omega (arith, c .before .before .before .lesser .ensures) in
-    let below : m < c .before .before .before .before .before .loop .high = omega (arith, c .before .before .before .lesser .ensures) in
-    let next = low-next (c .before .before .refused .result) low m (c .before .before .before .before .before .loop .high) (c .before .pick .result) above below (c .before .pick .ensures) in
-    (omega (arith, next .0, c .before .before .before .before .before .loop .inv .0), omega (arith, next .1, c .before .before .before .before .before .loop .inv .2 .most, c .before .before .before .before .before .before .pre .1 .2), lowered-next (Refuses (chargedIn (s .core .now) (s .n)) (s .probe)) (c .before .before .refused .result) (s .top) low m (c .before .before .before .before .before .loop .high) (c .pick2 .result) above below (c .pick2 .ensures) (c .before .before .refused .ensures) (c .before .before .before .before .before .loop .inv .2))
+    let loop = c .before .before .before .before .before .loop in
+    let low = loop .low in
+    let lesser = c .before .before .before .lesser in
+    let m = low + lesser .result in
+    let above : low < m = omega (arith, lesser .ensures) in
+    let below : m < loop .high = omega (arith, lesser .ensures) in
+    let refused = c .before .before .refused in
+    let next = low-next (refused .result) low m (loop .high) (c .before .pick .result) above below (c .before .pick .ensures) in
+    let pre = c .before .before .before .before .before .before .pre in (
+      omega (arith, next .0, loop .inv .0),
+      omega (arith, next .1, loop .inv .2 .most, pre .1 .2),
+      lowered-next (Refuses (chargedIn (s .core .now) (s .n)) (s .probe)) (refused .result) (s .top) low m (loop .high)
+          (c .pick2 .result) above below (c .pick2 .ensures) (refused .ensures) (loop .inv .2),
+    )
 
 returns : tie.Need-returns Inv-loop μ-loop
 returns c = c .before .loop .inv .2

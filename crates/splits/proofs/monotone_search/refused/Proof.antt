@@ -20,13 +20,15 @@ enum-known-probe c = search needs
 
 add-climb : tie.Need-add-climb
 add-climb c =
-    let fits = subst (λ (k : Probe). Askable k) (c .before .probe .given .1) (c .before .before .before .pre .1 .0) in
-    omega (arith, fits .0, c .before .before .before .pre .1 .1)
+    let pre = c .before .before .before .pre in
+    let fits = subst (λ (k : Probe). Askable k) (c .before .probe .given .1) (pre .1 .0) in
+    omega (arith, fits .0, pre .1 .1)
 
 climb-requires : tie.Need-climb-requires
 climb-requires c κs =
-    let fits = subst (λ (k : Probe). Askable k) (c .before .probe .given .1) (c .before .before .before .pre .1 .0) in
-    (c .before .before .before .pre .0, (omega (arith, fits .0, c .before .before .before .pre .1 .1), fits .1))
+    let pre = c .before .before .before .pre in
+    let fits = subst (λ (k : Probe). Askable k) (c .before .probe .given .1) (pre .1 .0) in
+    (pre .0, (omega (arith, fits .0, pre .1 .1), fits .1))
 
 enum-told : tie.Need-enum-told
 enum-told c = search needs
@@ -50,8 +52,11 @@ returns : tie.Need-returns
 returns c =
     let s = c .before .before .before .before .before .before .args in
     let qs = chargedIn (s .core .now) (s .n) in
-    subst (λ (k : Probe). Refuses qs k (s .m)) (sym (c .before .before .before .before .probe .given .1))
-    (climbed-none qs (c .before .before .before .before .probe .given .0 .0) (c .before .before .before .before .probe .given .0 .1 .0) (all-recurs qs (c .before .before .before .before .before .before .pre .0 .1)) (s .m) (sym (c .enum-told .given .1) ∙ c .before .before .climb .ensures))
+    let probe = c .before .before .before .before .probe in
+    let pre = c .before .before .before .before .before .before .pre in
+    subst (λ (k : Probe). Refuses qs k (s .m)) (sym (probe .given .1))
+    (climbed-none qs (probe .given .0 .0) (probe .given .0 .1 .0) (all-recurs qs (pre .0 .1)) (s .m)
+    (sym (c .enum-told .given .1) ∙ c .before .before .climb .ensures))
 
 returns-2 : tie.Need-returns-2
 returns-2 c = search needs
@@ -60,14 +65,17 @@ returns-3 : tie.Need-returns-3
 returns-3 c =
     let s = c .before .before .before .before .args in
     let qs = chargedIn (s .core .now) (s .n) in
-    shows-le (Refuses qs (s .probe) (s .m)) (c .before .before .probe2 .given .0 .0) (c .sum-at .result) (λ come. subst (λ (k : Probe). Refuses qs k (s .m)) (sym (c .before .before .probe2 .given .1)) (omega (arith, come, c .sum-at .ensures .0)))
+    let probe2 = c .before .before .probe2 in
+    shows-le (Refuses qs (s .probe) (s .m)) (probe2 .given .0 .0) (c .sum-at .result)
+    (λ come. subst (λ (k : Probe). Refuses qs k (s .m)) (sym (probe2 .given .1)) (omega (arith, come, c .sum-at .ensures .0)))
 
 returns-4 : tie.Need-returns-4
 returns-4 c =
     let s = c .before .before .before .before .args in
     let qs = chargedIn (s .core .now) (s .n) in
-    shows-lt (Refuses qs (s .probe) (s .m)) (c .before .before .probe3 .given .0 .0) (c .sum-at2 .result)
-    (λ more. subst (λ (k : Probe). Refuses qs k (s .m)) (sym (c .before .before .probe3 .given .1)) (omega (arith, more, c .sum-at2 .ensures .0)))
+    let probe3 = c .before .before .probe3 in
+    shows-lt (Refuses qs (s .probe) (s .m)) (probe3 .given .0 .0) (c .sum-at2 .result)
+    (λ more. subst (λ (k : Probe). Refuses qs k (s .m)) (sym (probe3 .given .1)) (omega (arith, more, c .sum-at2 .ensures .0)))
 
 pub refused-spec : {M : Type 1} → statement M
 refused-spec =

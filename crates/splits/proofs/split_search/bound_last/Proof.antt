@@ -44,32 +44,74 @@ sub-excess-at c = search needs
 excess-at-requires : tie.Need-excess-at-requires
 excess-at-requires c κs =
     let s = c .before .before .before .before .before .before .before .before .before .before .args in
-    let rs = chargedIn (c .before .before .before .before .before .before .before .before .lay-last .last .0) 1 in
-    let judged = judged-last (s .costs) (s .task) (s .x) (s .w) (c .before .before .before .before .before .before .before .stall-of .result) rs (c .before .before .before .before .before .before .before .stall-of .ensures .0) (c .before .before .before .before .before .before .before .before .lay-last .ensures .0) (c .before .before .before .before .before .judge-core .result) (c .before .before .before .before .before .judge-core .ensures) in
-    (c .before .before .before .before .before .before .before .before .lay-last .ensures .1, (c .before .before .before .before .before .before .before .stall-of .ensures .1, sym (ap (λ (qs : List Charged). largestWindow qs) (c .before .before .before .before .before .before .before .before .lay-last .ensures .0) ∙ last-largest (s .costs) (s .task) (s .x) (s .w)), over-within (s .costs) (s .task) (c .before .before .before .before .before .before .before .before .before .before .pre .1 .0) (s .x) (s .w) (c .before .before .before .t .given .0 .0) (sym judged ∙ c .before .before .before .t .given .1)))
+    let lay-last = c .before .before .before .before .before .before .before .before .lay-last in
+    let rs = chargedIn (lay-last .last .0) 1 in
+    let judge-core = c .before .before .before .before .before .judge-core in
+    let stall-of = c .before .before .before .before .before .before .before .stall-of in
+    let judged =
+    judged-last (s .costs) (s .task) (s .x) (s .w) (stall-of .result) rs (stall-of .ensures .0) (lay-last .ensures .0) (judge-core .result)
+    (judge-core .ensures) in
+    let t = c .before .before .before .t in
+    let pre = c .before .before .before .before .before .before .before .before .before .before .pre in (
+      lay-last .ensures .1,
+      (
+        stall-of .ensures .1,
+        sym (ap (λ (qs : List Charged). largestWindow qs) (lay-last .ensures .0) ∙ last-largest (s .costs) (s .task) (s .x) (s .w)),
+        over-within (s .costs) (s .task) (pre .1 .0) (s .x) (s .w) (t .given .0 .0) (sym judged ∙ t .given .1),
+      ),
+    )
 
 returns : tie.Need-returns
 returns c =
     let s = c .before .before .before .before .before .before .before .args in
-    let rs = chargedIn (c .before .before .before .before .before .lay-last .last .0) 1 in
-    let judged = judged-last (s .costs) (s .task) (s .x) (s .w) (c .before .before .before .before .stall-of .result) rs (c .before .before .before .before .stall-of .ensures .0) (c .before .before .before .before .before .lay-last .ensures .0) (c .before .before .judge-core .result) (c .before .before .judge-core .ensures) in
-    (sym judged ∙ c .enum-told .given .1, c .before .before .before .before .before .lay-last .ensures .2)
+    let lay-last = c .before .before .before .before .before .lay-last in
+    let rs = chargedIn (lay-last .last .0) 1 in
+    let judge-core = c .before .before .judge-core in
+    let stall-of = c .before .before .before .before .stall-of in
+    let judged =
+    judged-last (s .costs) (s .task) (s .x) (s .w) (stall-of .result) rs (stall-of .ensures .0) (lay-last .ensures .0) (judge-core .result)
+    (judge-core .ensures) in
+    (sym judged ∙ c .enum-told .given .1, lay-last .ensures .2)
 
 returns-2 : tie.Need-returns-2
 returns-2 c =
     let s = c .before .before .before .before .before .before .before .args in
-    let rs = chargedIn (c .before .before .before .before .before .lay-last .last .0) 1 in
-    let judged = judged-last (s .costs) (s .task) (s .x) (s .w) (c .before .before .before .before .stall-of .result) rs (c .before .before .before .before .stall-of .ensures .0) (c .before .before .before .before .before .lay-last .ensures .0) (c .before .before .judge-core .result) (c .before .before .judge-core .ensures) in
-    ((c .before .before .before .before .before .before .before .pre .1 .1 .1 .0, λ y v less pass. last-undecided (s .costs) (s .task) (s .x) y (s .w) v (c .before .before .before .before .before .before .before .pre .1 .0) less (sym judged ∙ c .enum-told2 .given .1) pass), c .before .before .before .before .before .lay-last .ensures .2)
+    let lay-last = c .before .before .before .before .before .lay-last in
+    let rs = chargedIn (lay-last .last .0) 1 in
+    let judge-core = c .before .before .judge-core in
+    let stall-of = c .before .before .before .before .stall-of in
+    let judged =
+    judged-last (s .costs) (s .task) (s .x) (s .w) (stall-of .result) rs (stall-of .ensures .0) (lay-last .ensures .0) (judge-core .result)
+    (judge-core .ensures) in
+    let pre = c .before .before .before .before .before .before .before .pre in (
+      (
+        pre .1 .1 .1 .0,
+        λ y v less pass. last-undecided (s .costs) (s .task) (s .x) y (s .w) v (pre .1 .0) less (sym judged
+            ∙ c .enum-told2 .given .1) pass,
+      ),
+      lay-last .ensures .2,
+    )
 
 returns-3 : tie.Need-returns-3
 returns-3 c =
-    let s = c .before .before .before .before .before .before .before .before .before .before .before .args in
-    let rs = chargedIn (c .before .before .before .before .before .before .before .before .before .lay-last .last .0) 1 in
-    let judged = judged-last (s .costs) (s .task) (s .x) (s .w) (c .before .before .before .before .before .before .before .before .stall-of .result) rs (c .before .before .before .before .before .before .before .before .stall-of .ensures .0) (c .before .before .before .before .before .before .before .before .before .lay-last .ensures .0) (c .before .before .before .before .before .before .judge-core .result) (c .before .before .before .before .before .before .judge-core .ensures) in
-    let t = c .before .before .before .before .t .given .0 .0 in
-    let asked : demand (c .before .before .before .before .before .before .before .before .stall-of .result) rs t ≡ demand (stall (s .costs)) (lastAlone (s .costs) (s .task) (s .x) (s .w)) t = rw (c .before .before .before .before .before .before .before .before .stall-of .ensures .0, c .before .before .before .before .before .before .before .before .before .lay-last .ensures .0) refl in
-    (last-falls (s .costs) (s .task) (c .before .before .before .before .before .before .before .before .before .before .before .pre .1 .0) (s .x) (s .w) t (sym judged ∙ c .before .before .before .before .t .given .1) (c .before .before .before .before .before .before .before .before .before .before .before .pre .1 .1 .1 .1) (c .before .before .before .before .before .before .before .before .before .before .before .pre .1 .1 .1 .2) (c .excess-at .result) (c .excess-at .ensures ∙ ap (λ (g : ℕ). g - (t + 1)) asked), c .before .before .before .before .before .before .before .before .before .lay-last .ensures .2)
+    let at-lay-last = c .before .before .before .before .before .before .before .before .before in
+    let s = at-lay-last .before .before .args in
+    let lay-last = at-lay-last .lay-last in
+    let rs = chargedIn (lay-last .last .0) 1 in
+    let judge-core = c .before .before .before .before .before .before .judge-core in
+    let stall-of = c .before .before .before .before .before .before .before .before .stall-of in
+    let judged =
+    judged-last (s .costs) (s .task) (s .x) (s .w) (stall-of .result) rs (stall-of .ensures .0) (lay-last .ensures .0) (judge-core .result)
+    (judge-core .ensures) in
+    let the-t = c .before .before .before .before .t in
+    let t = the-t .given .0 .0 in
+    let asked : demand (stall-of .result) rs t ≡ demand (stall (s .costs)) (lastAlone (s .costs) (s .task) (s .x) (s .w)) t =
+    rw (stall-of .ensures .0, lay-last .ensures .0) refl in
+    let pre = at-lay-last .before .before .pre in (
+      last-falls (s .costs) (s .task) (pre .1 .0) (s .x) (s .w) t (sym judged ∙ the-t .given .1) (pre .1 .1 .1 .1) (pre .1 .1 .1 .2)
+          (c .excess-at .result) (c .excess-at .ensures ∙ ap (λ (g : ℕ). g - (t + 1)) asked),
+      lay-last .ensures .2,
+    )
 
 pub bound-last-spec : {M : Type 1} → statement M
 bound-last-spec =

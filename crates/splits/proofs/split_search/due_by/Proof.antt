@@ -32,7 +32,13 @@ returns-3 : tie.Need-returns-3
 returns-3 c =
     let s = c .before .before .before .before .before .args in
     let qs = chargedIn (s .core .now) (s .n) in
-    shows-lt ((1 ≤ s .n) × (leastLive qs ≤ s .t) × (s .t < max (largestWindow qs) (s .w))) (s .t) (c .greater .result) (λ early. (omega (arith, c .before .before .before .before .if1 .left), omega (arith, c .before .before .if2 .left, c .before .before .before .least-live .ensures .0), omega (arith, early, c .greater .ensures, c .before .largest-window .ensures)))
+    let if1 = c .before .before .before .before .if1 in
+    shows-lt ((1 ≤ s .n) × (leastLive qs ≤ s .t) × (s .t < max (largestWindow qs) (s .w))) (s .t) (c .greater .result)
+    (λ early. (
+      omega (arith, if1 .left),
+      omega (arith, c .before .before .if2 .left, c .before .before .before .least-live .ensures .0),
+      omega (arith, early, c .greater .ensures, c .before .largest-window .ensures),
+    ))
 
 pub due-by-spec : {M : Type 1} → statement M
 due-by-spec =

@@ -23,7 +23,15 @@ less-requires : tie.Need-less-requires
 less-requires c κs = search needs
 
 returns : tie.Need-returns
-returns c = omega (arith, c .less .ensures, demand-below (c .before .before .before .args .b) (chargedIn (c .before .before .before .args .alone .now) 1) (c .before .before .before .args .t) (omega (arith, c .before .before .before .pre .1)), c .before .before .sum-at .ensures .0)
+returns c =
+    let start = c .before .before .before .args in
+    omega (
+      arith,
+      c .less .ensures,
+      demand-below (start .b) (chargedIn (start .alone .now) 1) (start .t)
+          (omega (arith, c .before .before .before .pre .1)),
+      c .before .before .sum-at .ensures .0,
+    )
 
 add-less-3 : tie.Need-add-less-3
 add-less-3 c = search needs
@@ -32,7 +40,15 @@ less-requires-2 : tie.Need-less-requires-2
 less-requires-2 c κs = search needs
 
 returns-2 : tie.Need-returns-2
-returns-2 c = omega (arith, c .less2 .ensures, demand-above (c .before .before .before .args .b) (chargedIn (c .before .before .before .args .alone .now) 1) (c .before .before .before .args .t) (omega (arith, c .before .before .before .pre .1)), c .before .before .sum-at .ensures .0)
+returns-2 c =
+    let start = c .before .before .before .args in
+    omega (
+      arith,
+      c .less2 .ensures,
+      demand-above (start .b) (chargedIn (start .alone .now) 1) (start .t)
+          (omega (arith, c .before .before .before .pre .1)),
+      c .before .before .sum-at .ensures .0,
+    )
 
 pub excess-at-spec : {M : Type 1} → statement M
 excess-at-spec =

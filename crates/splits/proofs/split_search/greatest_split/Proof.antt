@@ -32,38 +32,84 @@ returns c =
 lay-out-requires : tie.Need-lay-out-requires
 lay-out-requires c κs =
     let s = c .before .before .args in
-    (c .before .before .pre .0, (omega arith, all-countable (take (s .n) (recordsOf (s .records .now))) (c .before .before .pre .1 .0 .1), length-replicate {A = ℕ} 553 0))
+    let pre = c .before .before .pre in
+    (pre .0, (omega arith, all-countable (take (s .n) (recordsOf (s .records .now))) (pre .1 .0 .1), length-replicate {A = ℕ} 553 0))
 
 least-sum-requires : tie.Need-least-sum-requires
 least-sum-requires c κs =
     let s = c .before .before .before .before .args in
     let ps = take (s .n) (recordsOf (s .records .now)) in
-    (c .before .before .before .before .pre .0, (c .before .before .before .before .pre .1 .1, ready-laid (s .costs) (s .n) ps (c .before .before .before .before .pre .0) (c .before .before .before .before .pre .1 .0 .0) (c .before .before .before .before .pre .1 .0 .1) (c .before .lay-out .last .0) (c .before .lay-out .ensures .0) (c .before .lay-out .ensures .1)))
+    let pre = c .before .before .before .before .pre in (
+      pre .0,
+      (
+        pre .1 .1,
+        ready-laid (s .costs) (s .n) ps (pre .0) (pre .1 .0 .0) (pre .1 .0 .1) (c .before .lay-out .last .0)
+            (c .before .lay-out .ensures .0) (c .before .lay-out .ensures .1),
+      ),
+    )
 
 start-of-requires : tie.Need-start-of-requires
 start-of-requires c κs =
     let s = c .before .before .before .before .before .before .args in
     let ps = take (s .n) (recordsOf (s .records .now)) in
-    let ready : Ready (c .before .before .before .lay-out .last .0) (s .n) = ready-laid (s .costs) (s .n) ps (c .before .before .before .before .before .before .pre .0) (c .before .before .before .before .before .before .pre .1 .0 .0) (c .before .before .before .before .before .before .pre .1 .0 .1) (c .before .before .before .lay-out .last .0) (c .before .before .before .lay-out .ensures .0) (c .before .before .before .lay-out .ensures .1) in
-    (c .before .before .before .before .before .before .pre .0, (c .before .before .before .before .before .before .pre .1 .1, (ready-kept (c .before .before .before .lay-out .last .0) (c .before .least-sum .last .0) (s .n) ready (c .before .least-sum .ensures .2), (c .before .least-sum .ensures .0 ∙ ap (λ (qs : List Charged). tightBeside (s .costs) qs (s .task) 0 1) (sym (c .before .least-sum .ensures .2 .same)), c .before .least-sum .ensures .1))))
+    let lay-out = c .before .before .before .lay-out in
+    let pre = c .before .before .before .before .before .before .pre in
+    let ready : Ready (lay-out .last .0) (s .n) =
+    ready-laid (s .costs) (s .n) ps (pre .0) (pre .1 .0 .0) (pre .1 .0 .1) (lay-out .last .0) (lay-out .ensures .0) (lay-out .ensures .1) in
+    let least-sum = c .before .least-sum in (
+      pre .0,
+      (
+        pre .1 .1,
+        (
+          ready-kept (lay-out .last .0) (least-sum .last .0) (s .n) ready (least-sum .ensures .2),
+          (
+            least-sum .ensures .0
+                ∙ ap (λ (qs : List Charged). tightBeside (s .costs) qs (s .task) 0 1) (sym (least-sum .ensures .2 .same)),
+            least-sum .ensures .1,
+          ),
+        ),
+      ),
+    )
 
 search-requires : tie.Need-search-requires
 search-requires c κs =
     let s = c .before .before .before .before .before .before .before .before .before .args in
     let n = s .n in
     let ps = take n (recordsOf (s .records .now)) in
-    let ready : Ready (c .before .before .before .before .before .before .lay-out .last .0) n = ready-laid (s .costs) n ps (c .before .before .before .before .before .before .before .before .before .pre .0) (c .before .before .before .before .before .before .before .before .before .pre .1 .0 .0) (c .before .before .before .before .before .before .before .before .before .pre .1 .0 .1) (c .before .before .before .before .before .before .lay-out .last .0) (c .before .before .before .before .before .before .lay-out .ensures .0) (c .before .before .before .before .before .before .lay-out .ensures .1) in
-    let kept : SameCore (c .before .before .before .before .before .before .lay-out .last .0) (c .before .before .start-of .last .0) n = kept-again (c .before .before .before .before .before .before .lay-out .last .0) (c .before .before .before .before .least-sum .last .0) (c .before .before .start-of .last .0) n (c .before .before .before .before .least-sum .ensures .2) (c .before .before .start-of .ensures .1) in
-    (c .before .before .before .before .before .before .before .before .before .pre .0, (c .before .before .before .before .before .before .before .before .before .pre .1 .1, ((ready-kept (c .before .before .before .before .before .before .lay-out .last .0) (c .before .before .start-of .last .0) n ready kept, length-replicate {A = ℕ} 553 0), (subst (λ (qs : List Charged). Starts (s .costs) qs (s .task) (c .before .before .start-of .result)) (sym (c .before .before .start-of .ensures .1 .same)) (c .before .before .start-of .ensures .0), omega arith))))
+    let lay-out = c .before .before .before .before .before .before .lay-out in
+    let pre = c .before .before .before .before .before .before .before .before .before .pre in
+    let ready : Ready (lay-out .last .0) n =
+    ready-laid (s .costs) n ps (pre .0) (pre .1 .0 .0) (pre .1 .0 .1) (lay-out .last .0) (lay-out .ensures .0) (lay-out .ensures .1) in
+    let start-of = c .before .before .start-of in
+    let least-sum = c .before .before .before .before .least-sum in
+    let kept : SameCore (lay-out .last .0) (start-of .last .0) n =
+    kept-again (lay-out .last .0) (least-sum .last .0) (start-of .last .0) n (least-sum .ensures .2) (start-of .ensures .1) in (
+      pre .0,
+      (
+        pre .1 .1,
+        (
+          (ready-kept (lay-out .last .0) (start-of .last .0) n ready kept, length-replicate {A = ℕ} 553 0),
+          (
+            subst (λ (qs : List Charged). Starts (s .costs) qs (s .task) (start-of .result)) (sym (start-of .ensures .1 .same)) (start-of .ensures .0),
+            omega arith,
+          ),
+        ),
+      ),
+    )
 
 returns-2 : tie.Need-returns-2
 returns-2 c =
     let s = c .before .before .before .before .before .before .before .before .before .before .args in
     let n = s .n in
     let ps = take n (recordsOf (s .records .now)) in
-    let row : chargedIn (c .before .before .before .start-of .last .0) n ≡ coreOf (s .costs) ps = c .before .before .before .start-of .ensures .1 .same ∙ (c .before .before .before .before .before .least-sum .ensures .2 .same ∙ c .before .before .before .before .before .before .before .lay-out .ensures .0) in
+    let start-of = c .before .before .before .start-of in
+    let least-sum = c .before .before .before .before .before .least-sum in
+    let lay-out = c .before .before .before .before .before .before .before .lay-out in
+    let row : chargedIn (start-of .last .0) n ≡ coreOf (s .costs) ps = start-of .ensures .1 .same ∙ (least-sum .ensures .2 .same ∙ lay-out .ensures .0) in
     let chosen = subst (λ (qs : List Charged). Chosen (s .costs) (s .grain) qs (s .task) (c .search .result)) row (c .search .ensures) in
-    split-is (s .costs) (s .grain) ps (s .task) (c .before .before .before .before .before .before .before .before .before .before .pre .1 .0 .1) (c .before .before .before .before .before .before .before .before .before .before .pre .1 .1) (c .search .result) (splits-of (s .costs) ps (s .task) (s .grain) (c .search .result) chosen)
+    let pre = c .before .before .before .before .before .before .before .before .before .before .pre in
+    split-is (s .costs) (s .grain) ps (s .task) (pre .1 .0 .1) (pre .1 .1) (c .search .result)
+    (splits-of (s .costs) ps (s .task) (s .grain) (c .search .result) chosen)
 
 pub greatest-split-spec : {M : Type 1} → statement M
 greatest-split-spec =

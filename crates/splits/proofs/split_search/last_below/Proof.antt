@@ -50,20 +50,45 @@ sub-window-below c =
 window-below-requires : tie.Need-window-below-requires
 window-below-requires c κs =
     let s = c .before .before .before .before .before .before .before .before .before .args in
-    let found = c .before .before .before .before .before .before .before .before .before .pre .1 .1 .1 .0 .2 in
-    (c .before .before .before .before .before .before .before .before .before .pre .0, (c .before .before .before .before .before .before .before .before .before .pre .1 .0, (ready-kept (s .core .now) (c .before .before .before .before .before .before .before .lay-first .last .0) (s .n) (c .before .before .before .before .before .before .before .before .before .pre .1 .1 .0) (c .before .before .before .before .before .before .before .lay-first .ensures .1), (c .before .before .before .before .before .before .before .before .before .pre .1 .1 .1 .0 .0, c .before .before .before .before .before .before .before .before .before .pre .1 .1 .1 .0 .1, omega (arith, c .before .lowered .ensures .most, found .2, found .3, c .before .before .before .before .before .before .before .before .before .pre .1 .0 .window-fits, c .before .before .before .before .before .before .before .before .before .pre .1 .0 .period-fits)))))
+    let pre = c .before .before .before .before .before .before .before .before .before .pre in
+    let found = pre .1 .1 .1 .0 .2 in
+    let lay-first = c .before .before .before .before .before .before .before .lay-first in (
+      pre .0,
+      (
+        pre .1 .0,
+        (
+          ready-kept (s .core .now) (lay-first .last .0) (s .n) (pre .1 .1 .0) (lay-first .ensures .1),
+          (
+            pre .1 .1 .1 .0 .0,
+            pre .1 .1 .1 .0 .1,
+            omega (arith, c .before .lowered .ensures .most, found .2, found .3, pre .1 .0 .window-fits, pre .1 .0 .period-fits),
+          ),
+        ),
+      ),
+    )
 
 returns : tie.Need-returns
 returns c =
     let s = c .before .before .before .before .before .before .before .before .before .before .args in
     let qs = chargedIn (s .core .now) (s .n) in
-    let new = c .before .before .before .before .before .before .before .before .lay-first .last .0 in
-    let found = c .before .before .before .before .before .before .before .before .before .before .pre .1 .1 .1 .0 .2 in
+    let lay-first = c .before .before .before .before .before .before .before .before .lay-first in
+    let new = lay-first .last .0 in
+    let pre = c .before .before .before .before .before .before .before .before .before .before .pre in
+    let found = pre .1 .1 .1 .0 .2 in
     let t = s .w - s .task .jitter in
     let e : found .0 ≡ t = omega (arith, found .3) in
     let tight = subst (λ (u : ℕ). Tight (s .costs) qs (s .task) (s .x) u) e (found .1) in
-    let misses = subst (λ (rs : List Charged). Misses (s .costs) rs (s .task) (c .before .before .lowered .result - 1) (c .window-below .result) (s .x)) (c .before .before .before .before .before .before .before .before .lay-first .ensures .1 .same) (c .window-below .ensures .0) in
-    (skips-last (s .costs) qs (s .task) (all-recurs qs (c .before .before .before .before .before .before .before .before .before .before .pre .1 .1 .0 .ranged)) (c .before .before .before .before .before .before .before .before .before .before .pre .1 .0) (s .x) t (s .w) (s .s) tight (omega (arith, found .3)) (c .before .before .before .before .before .before .before .before .before .before .pre .1 .1 .1 .1) (chargedIn new (s .n + 1)) (c .before .before .before .before .before .before .before .before .lay-first .ensures .0) (c .before .before .before .before .before .sum-at .result) (c .before .before .before .less .result) (c .before .before .lowered .result) (c .window-below .result) (c .before .before .before .before .before .sum-at .ensures .0) (c .before .before .before .less .ensures) (c .before .before .lowered .ensures) misses, kept-again (s .core .now) new (c .window-below .last .0) (s .n) (c .before .before .before .before .before .before .before .before .lay-first .ensures .1) (c .window-below .ensures .1))
+    let lowered = c .before .before .lowered in
+    let misses =
+    subst (λ (rs : List Charged). Misses (s .costs) rs (s .task) (lowered .result - 1) (c .window-below .result) (s .x))
+    (lay-first .ensures .1 .same) (c .window-below .ensures .0) in
+    let less = c .before .before .before .less in
+    let sum-at = c .before .before .before .before .before .sum-at in (
+      skips-last (s .costs) qs (s .task) (all-recurs qs (pre .1 .1 .0 .ranged)) (pre .1 .0) (s .x) t (s .w) (s .s) tight
+          (omega (arith, found .3)) (pre .1 .1 .1 .1) (chargedIn new (s .n + 1)) (lay-first .ensures .0) (sum-at .result) (less .result)
+          (lowered .result) (c .window-below .result) (sum-at .ensures .0) (less .ensures) (lowered .ensures) misses,
+      kept-again (s .core .now) new (c .window-below .last .0) (s .n) (lay-first .ensures .1) (c .window-below .ensures .1),
+    )
 
 pub last-below-spec : {M : Type 1} → statement M
 last-below-spec =

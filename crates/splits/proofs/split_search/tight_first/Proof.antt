@@ -19,7 +19,9 @@ sub-lay-first : tie.Need-sub-lay-first
 sub-lay-first c = search needs
 
 lay-first-requires : tie.Need-lay-first-requires
-lay-first-requires c κs = (c .before .before .pre .0, (c .before .before .pre .1 .0, (c .before .before .pre .1 .1 .0, (omega arith, omega arith))))
+lay-first-requires c κs =
+    let pre = c .before .before .pre in
+    (pre .0, (pre .1 .0, (pre .1 .1 .0, (omega arith, omega arith))))
 
 add-tight-of : tie.Need-add-tight-of
 add-tight-of c = search needs
@@ -34,8 +36,13 @@ returns : tie.Need-returns
 returns c =
     let s = c .before .before .before .before .before .before .args in
     let qs = chargedIn (s .core .now) (s .n) in
-    let rs = chargedIn (c .before .before .before .lay-first .last .0) (s .n + 1) in
-    (tight-in (s .costs) qs (s .task) (s .x) (all-recurs qs (c .before .before .before .before .before .before .pre .1 .1 .0 .ranged)) (c .before .before .before .before .before .before .pre .1 .0) rs (c .before .before .before .lay-first .ensures .0) (c .tight-of .result) (c .tight-of .ensures ∙ ap (λ (b : ℕ). tightOfLast b rs rs) (c .before .stall-of .ensures .0)), c .before .before .before .lay-first .ensures .1)
+    let lay-first = c .before .before .before .lay-first in
+    let rs = chargedIn (lay-first .last .0) (s .n + 1) in
+    let pre = c .before .before .before .before .before .before .pre in (
+      tight-in (s .costs) qs (s .task) (s .x) (all-recurs qs (pre .1 .1 .0 .ranged)) (pre .1 .0) rs (lay-first .ensures .0) (c .tight-of .result)
+          (c .tight-of .ensures ∙ ap (λ (b : ℕ). tightOfLast b rs rs) (c .before .stall-of .ensures .0)),
+      lay-first .ensures .1,
+    )
 
 pub tight-first-spec : {M : Type 1} → statement M
 tight-first-spec =

@@ -40,7 +40,17 @@ window-below-requires : tie.Need-window-below-requires
 window-below-requires c κs =
     let s = c .before .before .before .before .before .before .before .args in
     let qs = chargedIn (s .core .now) (s .n) in
-    (c .before .before .before .before .before .before .before .pre .0, (c .before .before .before .before .before .before .before .pre .1 .0, (ready-kept (s .core .now) (c .before .before .before .before .before .tight-first .last .0) (s .n) (c .before .before .before .before .before .before .before .pre .1 .1 .0 .0) (c .before .before .before .before .before .tight-first .ensures .1), (c .before .before .before .before .before .before .before .pre .1 .1 .1 .0, c .before .before .before .before .before .before .before .pre .1 .1 .1 .1, omega (arith, c .before .less .ensures, c .before .before .before .before .before .before .before .pre .1 .0 .window-fits, c .before .before .before .before .before .before .before .pre .1 .0 .period-fits)))))
+    let tight-first = c .before .before .before .before .before .tight-first in
+    let pre = c .before .before .before .before .before .before .before .pre in (
+      pre .0,
+      (
+        pre .1 .0,
+        (
+          ready-kept (s .core .now) (tight-first .last .0) (s .n) (pre .1 .1 .0 .0) (tight-first .ensures .1),
+          (pre .1 .1 .1 .0, pre .1 .1 .1 .1, omega (arith, c .before .less .ensures, pre .1 .0 .window-fits, pre .1 .0 .period-fits)),
+        ),
+      ),
+    )
 
 enum-known-w : tie.Need-enum-known-w
 enum-known-w c = search needs
@@ -49,8 +59,10 @@ bound-last-requires : tie.Need-bound-last-requires
 bound-last-requires c κs =
     let s = c .before .before .before .before .before .before .args in
     let qs = chargedIn (s .core .now) (s .n) in
-    let found = subst (λ (f : Found). TightIn (s .costs) qs (s .task) (s .x) f) (c .before .before .w .given .1) (c .before .before .before .before .tight-first .ensures .0) in
-    (c .before .before .before .before .before .before .pre .0, (c .before .before .before .before .before .before .pre .1 .0, (c .before .before .before .before .before .before .pre .1 .1 .0 .1, (c .before .before .before .before .before .before .pre .1 .1 .1 .0, omega (arith, c .before .before .before .before .before .before .pre .1 .1 .1 .1), omega (arith, found .2, found .3)))))
+    let tight-first = c .before .before .before .before .tight-first in
+    let found = subst (λ (f : Found). TightIn (s .costs) qs (s .task) (s .x) f) (c .before .before .w .given .1) (tight-first .ensures .0) in
+    let pre = c .before .before .before .before .before .before .pre in
+    (pre .0, (pre .1 .0, (pre .1 .1 .0 .1, (pre .1 .1 .1 .0, omega (arith, pre .1 .1 .1 .1), omega (arith, found .2, found .3)))))
 
 enum-known-y : tie.Need-enum-known-y
 enum-known-y c = search needs
@@ -60,10 +72,30 @@ enum-known-s c = search needs
 
 last-below-requires : tie.Need-last-below-requires
 last-below-requires c κs =
-    let s = c .before .before .before .before .before .before .before .before .before .before .before .args in
+    let at-tight-first = c .before .before .before .before .before .before .before .before .before in
+    let s = at-tight-first .before .before .args in
     let qs = chargedIn (s .core .now) (s .n) in
-    let found = subst (λ (f : Found). TightIn (s .costs) qs (s .task) (s .x) f) (c .before .before .before .before .before .before .before .w .given .1) (c .before .before .before .before .before .before .before .before .before .tight-first .ensures .0) in
-    (c .before .before .before .before .before .before .before .before .before .before .before .pre .0, (c .before .before .before .before .before .before .before .before .before .before .before .pre .1 .0, (ready-kept (s .core .now) (c .before .before .before .before .before .before .before .before .before .tight-first .last .0) (s .n) (c .before .before .before .before .before .before .before .before .before .before .before .pre .1 .1 .0 .0) (c .before .before .before .before .before .before .before .before .before .tight-first .ensures .1), ((c .before .before .before .before .before .before .before .before .before .before .before .pre .1 .1 .1 .0, c .before .before .before .before .before .before .before .before .before .before .before .pre .1 .1 .1 .1, subst (λ (rs : List Charged). TightIn (s .costs) rs (s .task) (s .x) (At (c .before .before .before .before .before .before .before .w .given .0 .0))) (sym (c .before .before .before .before .before .before .before .before .before .tight-first .ensures .1 .same)) found), subst (λ (b : Bound). LastBounds (s .costs) (s .task) (s .x) (c .before .before .before .before .before .before .before .w .given .0 .0) b) (c .before .before .s .given .1) (c .before .before .before .before .bound-last .ensures .0)))))
+    let w = c .before .before .before .before .before .before .before .w in
+    let tight-first = at-tight-first .tight-first in
+    let found = subst (λ (f : Found). TightIn (s .costs) qs (s .task) (s .x) f) (w .given .1) (tight-first .ensures .0) in
+    let bound-last = c .before .before .before .before .bound-last in
+    let pre = at-tight-first .before .before .pre in (
+      pre .0,
+      (
+        pre .1 .0,
+        (
+          ready-kept (s .core .now) (tight-first .last .0) (s .n) (pre .1 .1 .0 .0) (tight-first .ensures .1),
+          (
+            (
+              pre .1 .1 .1 .0,
+              pre .1 .1 .1 .1,
+              subst (λ (rs : List Charged). TightIn (s .costs) rs (s .task) (s .x) (At (w .given .0 .0))) (sym (tight-first .ensures .1 .same)) found,
+            ),
+            subst (λ (b : Bound). LastBounds (s .costs) (s .task) (s .x) (w .given .0 .0) b) (c .before .before .s .given .1) (bound-last .ensures .0),
+          ),
+        ),
+      ),
+    )
 
 enum-told-2 : tie.Need-enum-told-2
 enum-told-2 c = search needs
@@ -72,36 +104,95 @@ step-first-requires : tie.Need-step-first-requires
 step-first-requires c κs =
     let s = c .before .before .before .before .before .before .before .before .before .before .args in
     let qs = chargedIn (s .core .now) (s .n) in
-    let found = subst (λ (f : Found). TightIn (s .costs) qs (s .task) (s .x) f) (c .before .before .before .before .before .before .w .given .1) (c .before .before .before .before .before .before .before .before .tight-first .ensures .0) in
-    (c .before .before .before .before .before .before .before .before .before .before .pre .0, (c .before .before .before .before .before .before .before .before .before .before .pre .1 .0, (ready-kept (s .core .now) (c .before .before .before .before .before .before .before .before .tight-first .last .0) (s .n) (c .before .before .before .before .before .before .before .before .before .before .pre .1 .1 .0 .0) (c .before .before .before .before .before .before .before .before .tight-first .ensures .1), ((c .before .before .before .before .before .before .before .before .before .before .pre .1 .1 .1 .0, c .before .before .before .before .before .before .before .before .before .before .pre .1 .1 .1 .1, subst (λ (rs : List Charged). TightIn (s .costs) rs (s .task) (s .x) (At (c .before .before .before .before .before .before .w .given .0 .0))) (sym (c .before .before .before .before .before .before .before .before .tight-first .ensures .1 .same)) found), subst (λ (b : Bound). LastBounds (s .costs) (s .task) (s .x) (c .before .before .before .before .before .before .w .given .0 .0) b) (c .before .enum-told2 .given .1) (c .before .before .before .bound-last .ensures .0)))))
+    let w = c .before .before .before .before .before .before .w in
+    let tight-first = c .before .before .before .before .before .before .before .before .tight-first in
+    let found = subst (λ (f : Found). TightIn (s .costs) qs (s .task) (s .x) f) (w .given .1) (tight-first .ensures .0) in
+    let pre = c .before .before .before .before .before .before .before .before .before .before .pre in (
+      pre .0,
+      (
+        pre .1 .0,
+        (
+          ready-kept (s .core .now) (tight-first .last .0) (s .n) (pre .1 .1 .0 .0) (tight-first .ensures .1),
+          (
+            (
+              pre .1 .1 .1 .0,
+              pre .1 .1 .1 .1,
+              subst (λ (rs : List Charged). TightIn (s .costs) rs (s .task) (s .x) (At (w .given .0 .0)))
+                  (sym (tight-first .ensures .1 .same)) found,
+            ),
+            subst (λ (b : Bound). LastBounds (s .costs) (s .task) (s .x) (w .given .0 .0) b)
+                (c .before .enum-told2 .given .1) (c .before .before .before .bound-last .ensures .0),
+          ),
+        ),
+      ),
+    )
 
 returns : tie.Need-returns
 returns c =
     let s = c .before .before .before .before .before .before .before .before .args in
     let qs = chargedIn (s .core .now) (s .n) in
-    let none = subst (λ (f : Found). TightIn (s .costs) qs (s .task) (s .x) f) (c .before .before .before .before .enum-told .given .1) (c .before .before .before .before .before .before .tight-first .ensures .0) in
-    let misses = subst (λ (rs : List Charged). Misses (s .costs) rs (s .task) (c .before .before .less .result) (c .window-below .result) (s .x)) (c .before .before .before .before .before .before .tight-first .ensures .1 .same) (c .window-below .ensures .0) in
-    (step-skips (s .costs) qs (s .task) (s .x) (c .before .before .before .before .before .before .before .before .pre .1 .1 .1 .0) (c .window-below .result) (untight (s .costs) qs (s .task) (s .x) none) (skips-late (s .costs) qs (s .task) (c .before .before .less .result) (c .window-below .result) (s .x) (c .before .before .less .ensures) misses), kept-again (s .core .now) (c .before .before .before .before .before .before .tight-first .last .0) (c .window-below .last .0) (s .n) (c .before .before .before .before .before .before .tight-first .ensures .1) (c .window-below .ensures .1), c .before .before .before .before .before .before .before .before .pre .1 .1 .0 .1)
+    let the-enum-told = c .before .before .before .before .enum-told in
+    let tight-first = c .before .before .before .before .before .before .tight-first in
+    let none = subst (λ (f : Found). TightIn (s .costs) qs (s .task) (s .x) f) (the-enum-told .given .1) (tight-first .ensures .0) in
+    let less = c .before .before .less in
+    let misses =
+    subst (λ (rs : List Charged). Misses (s .costs) rs (s .task) (less .result) (c .window-below .result) (s .x))
+    (tight-first .ensures .1 .same) (c .window-below .ensures .0) in
+    let pre = c .before .before .before .before .before .before .before .before .pre in (
+      step-skips (s .costs) qs (s .task) (s .x) (pre .1 .1 .1 .0) (c .window-below .result) (untight (s .costs) qs (s .task) (s .x) none)
+          (skips-late (s .costs) qs (s .task) (less .result) (c .window-below .result) (s .x) (less .ensures) misses),
+      kept-again (s .core .now)
+          (tight-first .last .0) (c .window-below .last .0) (s .n) (tight-first .ensures .1) (c .window-below .ensures .1),
+      pre .1 .1 .0 .1,
+    )
 
 returns-2 : tie.Need-returns-2
 returns-2 c =
     let s = c .before .before .before .before .before .before .before .before .before .before .args in
     let qs = chargedIn (s .core .now) (s .n) in
-    (step-last (s .costs) qs (s .task) (s .x) (c .before .y .given .0 .0) (c .before .before .before .before .before .before .w .given .0 .0) (subst (λ (b : Bound). LastBounds (s .costs) (s .task) (s .x) (c .before .before .before .before .before .before .w .given .0 .0) b) (c .before .y .given .1) (c .before .before .before .bound-last .ensures .0)), c .before .before .before .before .before .before .before .before .tight-first .ensures .1, c .before .before .before .bound-last .ensures .1)
+    let bound-last = c .before .before .before .bound-last in
+    let w = c .before .before .before .before .before .before .w in
+    let tight-first = c .before .before .before .before .before .before .before .before .tight-first in (
+      step-last (s .costs) qs (s .task) (s .x) (c .before .y .given .0 .0) (w .given .0 .0) (subst (λ (b : Bound). LastBounds (s .costs)
+          (s .task) (s .x) (w .given .0 .0) b) (c .before .y .given .1) (bound-last .ensures .0)),
+      tight-first .ensures .1,
+      bound-last .ensures .1,
+    )
 
 returns-3 : tie.Need-returns-3
 returns-3 c =
-    let s = c .before .before .before .before .before .before .before .before .before .before .before .before .args in
+    let at-tight-first = c .before .before .before .before .before .before .before .before .before .before in
+    let s = at-tight-first .before .before .args in
     let qs = chargedIn (s .core .now) (s .n) in
-    let found = subst (λ (f : Found). TightIn (s .costs) qs (s .task) (s .x) f) (c .before .before .before .before .before .before .before .before .w .given .1) (c .before .before .before .before .before .before .before .before .before .before .tight-first .ensures .0) in
-    let skips = subst (λ (rs : List Charged). Skips (s .costs) rs (s .task) (c .last-below .result) (s .x)) (c .before .before .before .before .before .before .before .before .before .before .tight-first .ensures .1 .same) (c .last-below .ensures .0) in
-    (step-skips (s .costs) qs (s .task) (s .x) (c .before .before .before .before .before .before .before .before .before .before .before .before .pre .1 .1 .1 .0) (c .last-below .result) (falls-there (s .costs) qs (s .task) (s .x) (c .before .before .before .before .before .before .before .before .w .given .0 .0) found (c .before .before .before .s .given .0 .0) (subst (λ (b : Bound). LastBounds (s .costs) (s .task) (s .x) (c .before .before .before .before .before .before .before .before .w .given .0 .0) b) (c .before .before .before .s .given .1) (c .before .before .before .before .before .bound-last .ensures .0))) skips, kept-again (s .core .now) (c .before .before .before .before .before .before .before .before .before .before .tight-first .last .0) (c .last-below .last .0) (s .n) (c .before .before .before .before .before .before .before .before .before .before .tight-first .ensures .1) (c .last-below .ensures .1), c .before .before .before .before .before .bound-last .ensures .1)
+    let w = c .before .before .before .before .before .before .before .before .w in
+    let tight-first = at-tight-first .tight-first in
+    let found = subst (λ (f : Found). TightIn (s .costs) qs (s .task) (s .x) f) (w .given .1) (tight-first .ensures .0) in
+    let skips =
+    subst (λ (rs : List Charged). Skips (s .costs) rs (s .task) (c .last-below .result) (s .x)) (tight-first .ensures .1 .same)
+    (c .last-below .ensures .0) in
+    let the-s = c .before .before .before .s in
+    let bound-last = c .before .before .before .before .before .bound-last in
+    let pre = at-tight-first .before .before .pre in (
+      step-skips (s .costs) qs (s .task) (s .x) (pre .1 .1 .1 .0) (c .last-below .result)
+          (falls-there (s .costs) qs (s .task) (s .x) (w .given .0 .0) found (the-s .given .0 .0)
+          (subst (λ (b : Bound). LastBounds (s .costs) (s .task) (s .x) (w .given .0 .0) b) (the-s .given .1) (bound-last .ensures .0))) skips,
+      kept-again (s .core .now) (tight-first .last .0) (c .last-below .last .0) (s .n) (tight-first .ensures .1) (c .last-below .ensures .1),
+      bound-last .ensures .1,
+    )
 
 returns-4 : tie.Need-returns-4
 returns-4 c =
-    let s = c .before .before .before .before .before .before .before .before .before .before .before .args in
+    let at-tight-first = c .before .before .before .before .before .before .before .before .before in
+    let s = at-tight-first .before .before .args in
     let qs = chargedIn (s .core .now) (s .n) in
-    (subst (λ (rs : List Charged). Steps (s .costs) rs (s .task) (s .x) (c .step-first .result)) (c .before .before .before .before .before .before .before .before .before .tight-first .ensures .1 .same) (c .step-first .ensures .0), kept-again (s .core .now) (c .before .before .before .before .before .before .before .before .before .tight-first .last .0) (c .step-first .last .0) (s .n) (c .before .before .before .before .before .before .before .before .before .tight-first .ensures .1) (c .step-first .ensures .1), c .before .before .before .before .bound-last .ensures .1)
+    let bound-last = c .before .before .before .before .bound-last in
+    let tight-first = at-tight-first .tight-first in (
+      subst (λ (rs : List Charged). Steps (s .costs) rs (s .task) (s .x) (c .step-first .result)) (tight-first .ensures .1 .same)
+          (c .step-first .ensures .0),
+      kept-again (s .core .now) (tight-first .last .0) (c .step-first .last .0) (s .n) (tight-first .ensures .1)
+          (c .step-first .ensures .1),
+      bound-last .ensures .1,
+    )
 
 pub try-split-spec : {M : Type 1} → statement M
 try-split-spec =

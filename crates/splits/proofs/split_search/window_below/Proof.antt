@@ -30,7 +30,10 @@ stall-of-requires c κs = search needs
 add-base : tie.Need-add-base
 add-base c =
     let s = c .before .before .before .before .before .before .args in
-    let ranged : Ranged (c .before .before .charged-at .result) = rw (c .before .before .charged-at .ensures) (charged-at-each Ranged (c .before .before .before .before .lay-first .last .0) (s .n + 1) (c .before .before .before .before .lay-first .ensures .2) (s .n) (omega arith)) in
+    let charged-at = c .before .before .charged-at in
+    let lay-first = c .before .before .before .before .lay-first in
+    let ranged : Ranged (charged-at .result) =
+    rw (charged-at .ensures) (charged-at-each Ranged (lay-first .last .0) (s .n + 1) (lay-first .ensures .2) (s .n) (omega arith)) in
     omega (arith, ranged .charge-fits, c .before .stall-of .ensures .1)
 
 add-lowered : tie.Need-add-lowered
@@ -39,19 +42,41 @@ add-lowered c = search needs
 lowered-requires : tie.Need-lowered-requires
 lowered-requires c κs =
     let s = c .before .before .before .before .before .before .before .args in
-    let ranged : Ranged (c .before .before .before .charged-at .result) = rw (c .before .before .before .charged-at .ensures) (charged-at-each Ranged (c .before .before .before .before .before .lay-first .last .0) (s .n + 1) (c .before .before .before .before .before .lay-first .ensures .2) (s .n) (omega arith)) in
-    ((omega (arith, c .before .before .before .before .before .before .before .pre .1 .1 .0 .room), c .before .before .before .before .before .lay-first .ensures .2), ((omega (arith, ranged .charge-fits, c .before .before .stall-of .ensures .1), omega (arith, c .before .before .before .before .before .before .before .pre .1 .1 .1 .2)), omega arith, omega (arith, c .before .before .before .before .before .before .before .pre .1 .1 .1 .1, c .before .before .before .before .before .before .before .pre .1 .0 .budget-fits, c .before .before .before .before .before .before .before .pre .1 .0 .window-fits, c .before .before .before .before .before .before .before .pre .1 .0 .period-fits)))
+    let charged-at = c .before .before .before .charged-at in
+    let lay-first = c .before .before .before .before .before .lay-first in
+    let ranged : Ranged (charged-at .result) =
+    rw (charged-at .ensures) (charged-at-each Ranged (lay-first .last .0) (s .n + 1) (lay-first .ensures .2) (s .n) (omega arith)) in
+    let pre = c .before .before .before .before .before .before .before .pre in (
+      (omega (arith, pre .1 .1 .0 .room), lay-first .ensures .2),
+      (
+        (omega (arith, ranged .charge-fits, c .before .before .stall-of .ensures .1), omega (arith, pre .1 .1 .1 .2)),
+        omega arith,
+        omega (arith, pre .1 .1 .1 .1, pre .1 .0 .budget-fits, pre .1 .0 .window-fits, pre .1 .0 .period-fits),
+      ),
+    )
 
 sub-result : tie.Need-sub-result
-sub-result c = omega (arith, c .lowered .ensures .some (c .before .before .before .before .before .before .before .before .pre .1 .1 .1 .0))
+sub-result c =
+    let pre = c .before .before .before .before .before .before .before .before .pre in
+    omega (arith, c .lowered .ensures .some (pre .1 .1 .1 .0))
 
 returns : tie.Need-returns
 returns c =
     let s = c .before .before .before .before .before .before .before .before .args in
     let qs = chargedIn (s .core .now) (s .n) in
-    let new = c .before .before .before .before .before .before .lay-first .last .0 in
-    let charge = ap (λ (q : Charged). q .charge) (c .before .before .before .before .charged-at .ensures ∙ laid-charged (s .costs) (s .task) 0 0 (s .core .now) new (s .n) (c .before .before .before .before .before .before .lay-first .ensures .0)) in
-    (misses-lowered (s .costs) qs (s .task) (c .before .before .before .stall-of .result + c .before .before .before .before .charged-at .result .charge) (c .before .before .before .stall-of .result) (c .before .before .before .before .charged-at .result .charge) refl (c .before .before .before .stall-of .ensures .0) charge (chargedIn new (s .n + 1)) (c .before .before .before .before .before .before .lay-first .ensures .0) (s .top) (s .x) (c .lowered .result) (c .before .before .before .before .before .before .before .before .pre .1 .1 .1 .0) (c .lowered .ensures), c .before .before .before .before .before .before .lay-first .ensures .1)
+    let lay-first = c .before .before .before .before .before .before .lay-first in
+    let new = lay-first .last .0 in
+    let charged-at = c .before .before .before .before .charged-at in
+    let charge =
+    ap (λ (q : Charged). q .charge)
+    (charged-at .ensures ∙ laid-charged (s .costs) (s .task) 0 0 (s .core .now) new (s .n) (lay-first .ensures .0)) in
+    let stall-of = c .before .before .before .stall-of in
+    let pre = c .before .before .before .before .before .before .before .before .pre in (
+      misses-lowered (s .costs) qs (s .task) (stall-of .result + charged-at .result .charge) (stall-of .result)
+          (charged-at .result .charge) refl (stall-of .ensures .0) charge (chargedIn new (s .n + 1)) (lay-first .ensures .0) (s .top) (s .x)
+          (c .lowered .result) (pre .1 .1 .1 .0) (c .lowered .ensures),
+      lay-first .ensures .1,
+    )
 
 pub window-below-spec : {M : Type 1} → statement M
 window-below-spec =

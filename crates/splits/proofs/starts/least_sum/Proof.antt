@@ -36,7 +36,10 @@ stall-of-requires c κs = search needs
 add-result : tie.Need-add-result
 add-result c =
     let s = c .before .before .before .before .before .before .args in
-    let ranged : Ranged (c .before .before .charged-at .result) = rw (c .before .before .charged-at .ensures) (charged-at-each Ranged (c .before .before .before .before .lay-first .last .0) (s .n + 1) (c .before .before .before .before .lay-first .ensures .2) (s .n) (omega arith)) in
+    let charged-at = c .before .before .charged-at in
+    let lay-first = c .before .before .before .before .lay-first in
+    let ranged : Ranged (charged-at .result) =
+    rw (charged-at .ensures) (charged-at-each Ranged (lay-first .last .0) (s .n + 1) (lay-first .ensures .2) (s .n) (omega arith)) in
     omega (arith, ranged .charge-fits, c .before .stall-of .ensures .1)
 
 add-sum-at : tie.Need-add-sum-at
@@ -48,16 +51,29 @@ sum-at-requires c κs = search needs
 add-result-2 : tie.Need-add-result-2
 add-result-2 c =
     let s = c .before .before .before .before .before .before .before .before .args in
-    let ranged : Ranged (c .before .before .before .before .charged-at .result) = rw (c .before .before .before .before .charged-at .ensures) (charged-at-each Ranged (c .before .before .before .before .before .before .lay-first .last .0) (s .n + 1) (c .before .before .before .before .before .before .lay-first .ensures .2) (s .n) (omega arith)) in
+    let charged-at = c .before .before .before .before .charged-at in
+    let lay-first = c .before .before .before .before .before .before .lay-first in
+    let ranged : Ranged (charged-at .result) =
+    rw (charged-at .ensures) (charged-at-each Ranged (lay-first .last .0) (s .n + 1) (lay-first .ensures .2) (s .n) (omega arith)) in
     omega (arith, ranged .charge-fits, c .before .before .before .stall-of .ensures .1, c .sum-at .ensures .1)
 
 returns : tie.Need-returns
 returns c =
     let s = c .before .before .before .before .before .before .before .before .args in
-    let ranged : Ranged (c .before .before .before .before .charged-at .result) = rw (c .before .before .before .before .charged-at .ensures) (charged-at-each Ranged (c .before .before .before .before .before .before .lay-first .last .0) (s .n + 1) (c .before .before .before .before .before .before .lay-first .ensures .2) (s .n) (omega arith)) in
-    let at : chargedAt (c .before .before .before .before .before .before .lay-first .last .0) (s .n) ≡ charged (s .costs) (firstPiece (s .task) 0 0) = laid-charged (s .costs) (s .task) 0 0 (s .core .now) (c .before .before .before .before .before .before .lay-first .last .0) (s .n) (c .before .before .before .before .before .before .lay-first .ensures .0) in
-    let calls : c .sum-at .result ≡ total (term Interrupts 1) (withFirst (s .costs) (chargedIn (s .core .now) (s .n)) (s .task) 0 0) = c .sum-at .ensures .0 ∙ ap (λ (qs : List Charged). total (term Interrupts 1) qs) (c .before .before .before .before .before .before .lay-first .ensures .0) in
-    (least-is (s .costs) (chargedIn (s .core .now) (s .n)) (s .task) (c .before .before .before .stall-of .result) (c .before .before .before .before .charged-at .result .charge) (c .sum-at .result) (c .before .before .before .stall-of .ensures .0) (ap (λ (q : Charged). q .charge) (c .before .before .before .before .charged-at .ensures ∙ at)) calls, omega (arith, ranged .charge-fits, c .before .before .before .stall-of .ensures .1, c .sum-at .ensures .1), c .before .before .before .before .before .before .lay-first .ensures .1)
+    let charged-at = c .before .before .before .before .charged-at in
+    let lay-first = c .before .before .before .before .before .before .lay-first in
+    let ranged : Ranged (charged-at .result) =
+    rw (charged-at .ensures) (charged-at-each Ranged (lay-first .last .0) (s .n + 1) (lay-first .ensures .2) (s .n) (omega arith)) in
+    let at : chargedAt (lay-first .last .0) (s .n) ≡ charged (s .costs) (firstPiece (s .task) 0 0) =
+    laid-charged (s .costs) (s .task) 0 0 (s .core .now) (lay-first .last .0) (s .n) (lay-first .ensures .0) in
+    let calls : c .sum-at .result ≡ total (term Interrupts 1) (withFirst (s .costs) (chargedIn (s .core .now) (s .n)) (s .task) 0 0) =
+    c .sum-at .ensures .0 ∙ ap (λ (qs : List Charged). total (term Interrupts 1) qs) (lay-first .ensures .0) in
+    let stall-of = c .before .before .before .stall-of in (
+      least-is (s .costs) (chargedIn (s .core .now) (s .n)) (s .task) (stall-of .result) (charged-at .result .charge) (c .sum-at .result)
+          (stall-of .ensures .0) (ap (λ (q : Charged). q .charge) (charged-at .ensures ∙ at)) calls,
+      omega (arith, ranged .charge-fits, stall-of .ensures .1, c .sum-at .ensures .1),
+      lay-first .ensures .1,
+    )
 
 pub least-sum-spec : {M : Type 1} → statement M
 least-sum-spec =

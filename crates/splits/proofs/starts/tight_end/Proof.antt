@@ -35,7 +35,12 @@ returns-2 : tie.Need-returns-2
 returns-2 c =
     let s = c .before .before .before .before .before .before .args in
     let qs = chargedIn (s .core .now) (s .n) in
-    (ends-lowered (s .costs) qs (s .task) (all-recurs qs (c .before .before .before .before .before .before .pre .1 .1 .ranged)) (c .before .before .before .before .before .before .pre .1 .0) (c .before .due-most .result) (c .before .before .before .before .before .less .result) (c .lowered .result) (c .before .due-most .ensures .0) (c .before .before .before .before .before .less .ensures) (c .lowered .ensures), omega (arith, c .lowered .ensures .most, c .before .before .before .before .before .less .ensures))
+    let less = c .before .before .before .before .before .less in
+    let pre = c .before .before .before .before .before .before .pre in (
+      ends-lowered (s .costs) qs (s .task) (all-recurs qs (pre .1 .1 .ranged)) (pre .1 .0) (c .before .due-most .result) (less .result)
+          (c .lowered .result) (c .before .due-most .ensures .0) (less .ensures) (c .lowered .ensures),
+      omega (arith, c .lowered .ensures .most, less .ensures),
+    )
 
 pub tight-end-spec : {M : Type 1} → statement M
 tight-end-spec =

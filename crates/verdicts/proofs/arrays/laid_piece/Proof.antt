@@ -14,13 +14,17 @@ no-charge-requires : tie.Need-no-charge-requires
 no-charge-requires c κs = search needs
 
 returns : tie.Need-returns
-returns c = c .no-charge .ensures ∙ sym (laid-piece-past (c .before .before .args .core .now) (c .before .before .args .i) (c .before .if1 .taken))
+returns c =
+    let start = c .before .before .args in
+    c .no-charge .ensures ∙ sym (laid-piece-past (start .core .now) (start .i) (c .before .if1 .taken))
 
 charged-at-requires : tie.Need-charged-at-requires
 charged-at-requires c κs = search needs
 
 returns-2 : tie.Need-returns-2
-returns-2 c = c .charged-at .ensures ∙ sym (laid-piece-is (c .before .before .args .core .now) (c .before .before .args .i) (omega (arith, c .before .if1 .left)))
+returns-2 c =
+    let start = c .before .before .args in
+    c .charged-at .ensures ∙ sym (laid-piece-is (start .core .now) (start .i) (omega (arith, c .before .if1 .left)))
 
 pub laid-piece-spec : {M : Type 1} → statement M
 laid-piece-spec = tie.close (tie.spec no-charge-requires returns charged-at-requires returns-2)

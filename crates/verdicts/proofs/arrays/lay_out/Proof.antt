@@ -22,10 +22,13 @@ returns : tie.Need-returns
 returns c =
     let s = c .before .before .args in
     let ps = take (s .n) (recordsOf (s .records .now)) in
-    let few : length ps ≡ s .n = length-take-le (s .n) (recordsOf (s .records .now)) (omega (arith, c .before .before .pre .1 .0, records-length (s .records .now))) in
-    let least : length ps ≤ runMost = omega (arith, few, c .before .before .pre .1 .0) in
-    let laid = c .lay-records .ensures in
-    (rw laid (lay-records-in (s .core .now) (s .costs) (c .before .before .pre .0) ps (c .before .before .pre .1 .1) least (c .before .before .pre .1 .2) (s .n) (sym few)), rw laid (lay-records-length (s .core .now) (s .costs) (c .before .before .pre .0) ps (c .before .before .pre .1 .1) least (c .before .before .pre .1 .2)))
+    let pre = c .before .before .pre in
+    let few : length ps ≡ s .n = length-take-le (s .n) (recordsOf (s .records .now)) (omega (arith, pre .1 .0, records-length (s .records .now))) in
+    let least : length ps ≤ runMost = omega (arith, few, pre .1 .0) in
+    let laid = c .lay-records .ensures in (
+      rw laid (lay-records-in (s .core .now) (s .costs) (pre .0) ps (pre .1 .1) least (pre .1 .2) (s .n) (sym few)),
+      rw laid (lay-records-length (s .core .now) (s .costs) (pre .0) ps (pre .1 .1) least (pre .1 .2)),
+    )
 
 pub lay-out-spec : {M : Type 1} → statement M
 lay-out-spec = tie.close (tie.spec lay-records-requires returns)

@@ -80,7 +80,8 @@ returns-2 : tie.Need-returns-2
 returns-2 c =
     let s = c .before .args in
     let q = s .q in
-    sets-seven (s .core .now) (7 * s .i) (q .charge) (q .window) (q .period) (q .jitter) (q .release) (q .ipi) (q .ipij) ∙ sym (lay-here (s .core .now) (s .i) q (omega (arith, c .if1 .left)))
+    sets-seven (s .core .now) (7 * s .i) (q .charge) (q .window) (q .period) (q .jitter) (q .release) (q .ipi) (q .ipij)
+    ∙ sym (lay-here (s .core .now) (s .i) q (omega (arith, c .if1 .left)))
 
 pub lay-piece-spec : {M : Type 1} → statement M
 lay-piece-spec =

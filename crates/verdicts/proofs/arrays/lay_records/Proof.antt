@@ -35,7 +35,10 @@ returns c =
     let s = c .before .before .before .args in
     let ps = recordsOf (s .records .now) in
     let past = records-length (s .records .now) in
-    c .before .before .loop .inv .1 ∙ ap (λ (l : List Piece). layRecords (s .core .now) (s .costs) l) (take-all (c .before .before .loop .i) ps (omega (arith, past, c .if1 .taken)) ∙ sym (take-all (s .n) ps (omega (arith, past, c .if1 .taken, c .before .loop-test .taken))))
+    let loop = c .before .before .loop in
+    loop .inv .1
+    ∙ ap (λ (l : List Piece). layRecords (s .core .now) (s .costs) l) (take-all (loop .i) ps (omega (arith, past, c .if1 .taken))
+    ∙ sym (take-all (s .n) ps (omega (arith, past, c .if1 .taken, c .before .loop-test .taken))))
 
 record-at-requires : tie.Need-record-at-requires Inv-loop μ-loop
 record-at-requires c κs = search needs
@@ -55,11 +58,15 @@ loop-less c = search needs
 loop-again : tie.Need-loop-again Inv-loop μ-loop
 loop-again c =
     let s = c .before .before .before .before .before .before .before .args in
-    let i = c .before .before .before .before .before .before .loop .i in
-    let low : i < runMost = omega (arith, c .before .before .before .before .if1 .left) in
-    let read = records-read (s .records .now) i (c .before .before .record-at .result) nobody low (c .before .before .record-at .ensures ∙ record-within (s .records .now) i low) in
+    let loop = c .before .before .before .before .before .before .loop in
+    let i = loop .i in
+    let if1 = c .before .before .before .before .if1 in
+    let low : i < runMost = omega (arith, if1 .left) in
+    let record-at = c .before .before .record-at in
+    let read = records-read (s .records .now) i (record-at .result) nobody low (record-at .ensures ∙ record-within (s .records .now) i low) in
     let more = lay-records-more (s .core .now) (s .costs) (recordsOf (s .records .now)) i nobody (omega (arith, records-length (s .records .now))) in
-    (omega (arith, c .before .before .before .before .before .loop-test .taken), cc (c .lay-piece .ensures, c .before .charged-piece .ensures, read, c .before .before .before .before .before .before .loop .inv .1, more))
+    let loop-test = c .before .before .before .before .before .loop-test in
+    (omega (arith, loop-test .taken), cc (c .lay-piece .ensures, c .before .charged-piece .ensures, read, loop .inv .1, more))
 
 returns-2 : tie.Need-returns-2 Inv-loop μ-loop
 returns-2 c =

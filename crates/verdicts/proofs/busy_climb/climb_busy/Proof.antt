@@ -31,7 +31,8 @@ returns : tie.Need-returns Inv-loop μ-loop
 returns c =
     let s = c .before .before .before .args in
     let qs = chargedIn (s .core .now) (s .n) in
-    busy-nothing qs (all-recurs qs (c .before .before .before .pre .1)) (c .before .before .loop .l) (c .if1 .taken) (c .before .before .loop .inv .1)
+    let loop = c .before .before .loop in
+    busy-nothing qs (all-recurs qs (c .before .before .before .pre .1)) (loop .l) (c .if1 .taken) (loop .inv .1)
 
 add-flow-at : tie.Need-add-flow-at Inv-loop μ-loop
 add-flow-at c = search needs
@@ -44,7 +45,9 @@ returns-2 c =
     let s = c .before .before .before .before .before .before .args in
     let qs = chargedIn (s .core .now) (s .n) in
     let o = c .before .before .before .before .before .loop in
-    busy-found qs (all-recurs qs (c .before .before .before .before .before .before .pre .1)) (o .l) (o .inv .0) (omega arith) (omega (arith, c .before .before .flow-at .ensures .0 .exact, c .if2 .taken)) (o .inv .1)
+    let pre = c .before .before .before .before .before .before .pre in
+    busy-found qs (all-recurs qs (pre .1)) (o .l) (o .inv .0) (omega arith)
+    (omega (arith, c .before .before .flow-at .ensures .0 .exact, c .if2 .taken)) (o .inv .1)
 
 reach-of-requires : tie.Need-reach-of-requires Inv-loop μ-loop
 reach-of-requires c κs = search needs
@@ -64,7 +67,10 @@ loop-again c =
     let qs = chargedIn (s .core .now) (s .n) in
     let o = c .before .before .before .before .before .before .before .loop in
     let f = c .before .before .before .before .flow-at in
-    let clear = clear-leap (busySum qs) (busy-sum-mono qs (all-recurs qs (c .before .before .before .before .before .before .before .before .pre .1))) (o .l) (f .result) (c .before .reach-of .result) (o .inv .0) (o .inv .1) (f .ensures .0) (c .before .reach-of .ensures .0) in
+    let pre = c .before .before .before .before .before .before .before .before .pre in
+    let clear =
+    clear-leap (busySum qs) (busy-sum-mono qs (all-recurs qs (pre .1))) (o .l) (f .result) (c .before .reach-of .result) (o .inv .0)
+    (o .inv .1) (f .ensures .0) (c .before .reach-of .ensures .0) in
     (search needs, rw (c .greater .ensures) clear, search needs)
 
 climb-far-requires : tie.Need-climb-far-requires Inv-loop μ-loop

@@ -38,7 +38,9 @@ returns c =
     let s = c .before .before .before .before .before .args in
     let qs = chargedIn (s .core .now) (s .n) in
     let o = c .before .before .before .before .loop in
-    busy-found qs (all-recurs qs (c .before .before .before .before .before .pre .0 .1)) (o .l) (o .inv .0) (omega arith) (omega (arith, c .before .before .flow-at .ensures .0 .exact, c .if1 .taken)) (o .inv .1)
+    let pre = c .before .before .before .before .before .pre in
+    busy-found qs (all-recurs qs (pre .0 .1)) (o .l) (o .inv .0) (omega arith)
+    (omega (arith, c .before .before .flow-at .ensures .0 .exact, c .if1 .taken)) (o .inv .1)
 
 reach-of-requires : tie.Need-reach-of-requires Inv-loop μ-loop
 reach-of-requires c κs = search needs
@@ -60,8 +62,20 @@ leap-requires c κs =
     let o = c .before .before .before .before .before .before .loop in
     let f = c .before .before .before .before .flow-at in
     let exact = f .ensures .0 .exact in
-    let next = clear-leap (busySum qs) (busy-sum-mono qs (all-recurs qs (pre .1))) (o .l) (f .result) (c .before .reach-of .result) (o .inv .0) (o .inv .1) (f .ensures .0) (c .before .reach-of .ensures .0) in
-    (pre, ((omega arith, exact, f .ensures .1, clear-past (busySum qs) (o .l) (o .inv .1) (omega (arith, exact, c .before .before .if1 .left))), rw (c .greater .ensures) next))
+    let next =
+    clear-leap (busySum qs) (busy-sum-mono qs (all-recurs qs (pre .1))) (o .l) (f .result) (c .before .reach-of .result) (o .inv .0)
+    (o .inv .1) (f .ensures .0) (c .before .reach-of .ensures .0) in (
+      pre,
+      (
+        (
+          omega arith,
+          exact,
+          f .ensures .1,
+          clear-past (busySum qs) (o .l) (o .inv .1) (omega (arith, exact, c .before .before .if1 .left)),
+        ),
+        rw (c .greater .ensures) next,
+      ),
+    )
 
 add-if2 : tie.Need-add-if2 Inv-loop μ-loop
 add-if2 c = search needs
@@ -70,14 +84,17 @@ returns-2 : tie.Need-returns-2 Inv-loop μ-loop
 returns-2 c =
     let s = c .before .before .before .before .before .before .before .before .before .before .args in
     let qs = chargedIn (s .core .now) (s .n) in
-    busy-nothing qs (all-recurs qs (c .before .before .before .before .before .before .before .before .before .before .pre .0 .1)) (c .before .before .leap .result) (c .if3 .taken) (c .before .before .leap .ensures .1)
+    let leap = c .before .before .leap in
+    let pre = c .before .before .before .before .before .before .before .before .before .before .pre in
+    busy-nothing qs (all-recurs qs (pre .0 .1)) (leap .result) (c .if3 .taken) (leap .ensures .1)
 
 returns-3 : tie.Need-returns-3 Inv-loop μ-loop
 returns-3 c =
     let s = c .before .before .before .before .before .before .before .before .before .before .args in
     let qs = chargedIn (s .core .now) (s .n) in
     let held = c .before .before .leap .ensures in
-    busy-found qs (all-recurs qs (c .before .before .before .before .before .before .before .before .before .before .pre .0 .1)) (c .before .before .leap .result) (omega arith) (omega arith) (held .2 (c .before .if2 .taken)) (held .1)
+    let pre = c .before .before .before .before .before .before .before .before .before .before .pre in
+    busy-found qs (all-recurs qs (pre .0 .1)) (c .before .before .leap .result) (omega arith) (omega arith) (held .2 (c .before .if2 .taken)) (held .1)
 
 loop-less : tie.Need-loop-less Inv-loop μ-loop
 loop-less c = search needs

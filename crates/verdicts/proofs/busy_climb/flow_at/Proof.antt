@@ -18,7 +18,9 @@ use Rattle.verdicts.proofs.arrays.charged_at.Reads as charged-at-reads
 use Rattle.verdicts.proofs.busy_climb.flow_of.Reads as flow-of-reads
 
 abbrev Inv-loop : tie.InvT-loop
-Inv-loop core n l edge asked₀ share₀ work₀ i₀ asked share work i = (i ≤ n) × Flows (busySum (chargedIn core i)) l (record { asked = asked; share = share; work = work }) × (asked ≤ i * 1000000000000000) × (share ≤ i * 10000000000000000) × (work ≤ i * 1000000000000000)
+Inv-loop core n l edge asked₀ share₀ work₀ i₀ asked share work i = (i ≤ n)
+    × Flows (busySum (chargedIn core i)) l (record { asked = asked; share = share; work = work }) × (asked ≤ i * 1000000000000000)
+    × (share ≤ i * 10000000000000000) × (work ≤ i * 1000000000000000)
 
 abbrev μ-loop : tie.MeasureT-loop
 μ-loop core n l edge asked₀ share₀ work₀ i₀ asked share work i = n - i
@@ -32,7 +34,8 @@ charged-at-requires c κs = search needs
 flow-of-requires : tie.Need-flow-of-requires Inv-loop μ-loop
 flow-of-requires c κs =
     let s = c .before .before .before .args in
-    (rw (c .charged-at .ensures) (charged-at-each Ranged (s .core .now) (s .n) (c .before .before .before .pre .0 .1) (c .before .before .loop .i) (c .before .loop-test .taken)), c .before .before .before .pre .1)
+    let pre = c .before .before .before .pre in
+    (rw (c .charged-at .ensures) (charged-at-each Ranged (s .core .now) (s .n) (pre .0 .1) (c .before .before .loop .i) (c .before .loop-test .taken)), pre .1)
 
 add-asked : tie.Need-add-asked Inv-loop μ-loop
 add-asked c = search needs
@@ -52,8 +55,11 @@ loop-less c = search needs
 loop-again : tie.Need-loop-again Inv-loop μ-loop
 loop-again c =
     let s = c .before .before .before .before .before .before .before .args in
-    let here = subst (λ (q : Charged). Flows (λ m. busyLoad m q) (s .l) (c .before .before .before .flow-of .result)) (c .before .before .before .before .charged-at .ensures) (c .before .before .before .flow-of .ensures .0) in
-    (search needs, flow-more (s .core .now) (c .before .before .before .before .before .before .loop .i) (s .l) _ (c .before .before .before .flow-of .result) _ (c .before .before .before .before .before .before .loop .inv .1) here refl refl refl, omega arith, omega arith, omega arith)
+    let flow-of = c .before .before .before .flow-of in
+    let charged-at = c .before .before .before .before .charged-at in
+    let here = subst (λ (q : Charged). Flows (λ m. busyLoad m q) (s .l) (flow-of .result)) (charged-at .ensures) (flow-of .ensures .0) in
+    let loop = c .before .before .before .before .before .before .loop in
+    (search needs, flow-more (s .core .now) (loop .i) (s .l) _ (flow-of .result) _ (loop .inv .1) here refl refl refl, omega arith, omega arith, omega arith)
 
 returns : tie.Need-returns Inv-loop μ-loop
 returns c =

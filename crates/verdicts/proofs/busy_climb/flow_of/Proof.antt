@@ -45,8 +45,12 @@ returns c =
     let s = c .before .before .before .before .before .before .args in
     let q = s .q in
     let ranged = c .before .before .before .before .before .before .pre .0 in
-    let jobs = c .before .before .before .ceil-div .result in
-    (flow-share q (ranged-recurs q ranged) (s .l) _ (unfold busyLoad in cc) refl refl, omega (arith, prod-le 101000000 2300000 {a = jobs} {b = q .charge + q .release + q .ipi} (search needs) (search needs)), omega (arith, div-le-self ((q .charge + q .release + q .ipi) * allTime) (q .period)), search needs)
+    let jobs = c .before .before .before .ceil-div .result in (
+      flow-share q (ranged-recurs q ranged) (s .l) _ (unfold busyLoad in cc) refl refl,
+      omega (arith, prod-le 101000000 2300000 {a = jobs} {b = q .charge + q .release + q .ipi} (search needs) (search needs)),
+      omega (arith, div-le-self ((q .charge + q .release + q .ipi) * allTime) (q .period)),
+      search needs,
+    )
 
 returns-2 : tie.Need-returns-2
 returns-2 c =

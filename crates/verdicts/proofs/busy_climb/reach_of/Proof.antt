@@ -32,7 +32,9 @@ returns-3 : tie.Need-returns-3
 returns-3 c = (reach-over (c .before .before .before .before .before .before .args .f) (c .if3 .taken), search needs)
 
 returns-4 : tie.Need-returns-4
-returns-4 c = (reach-full (c .before .before .before .before .before .before .before .before .args .f) (omega arith) (c .if4 .taken), search needs)
+returns-4 c =
+    let start = c .before .before .before .before .before .before .before .before .args in
+    (reach-full (start .f) (omega arith) (c .if4 .taken), search needs)
 
 returns-5 : tie.Need-returns-5
 returns-5 c = search needs

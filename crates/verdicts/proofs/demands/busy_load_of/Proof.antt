@@ -20,11 +20,25 @@ add-result-2 : tie.Need-add-result-2
 add-result-2 c = search needs
 
 mul-result : tie.Need-mul-result
-mul-result c = omega (arith, prod-le 101000000 2300000 {a = c .before .before .ceil-div .result} {b = c .before .before .before .args .q .charge + c .before .before .before .args .q .release + c .before .before .before .args .q .ipi} (search needs) (search needs))
+mul-result c =
+    let start = c .before .before .before .args in
+    omega (
+      arith,
+      prod-le 101000000 2300000 {a = c .before .before .ceil-div .result} {b = start .q .charge + start .q .release + start .q .ipi}
+          (search needs) (search needs),
+    )
 
 returns : tie.Need-returns
 unfolding busyLoad
-returns c = (rw (c .before .before .ceil-div .ensures .0), omega (arith, prod-le 101000000 2300000 {a = c .before .before .ceil-div .result} {b = c .before .before .before .args .q .charge + c .before .before .before .args .q .release + c .before .before .before .args .q .ipi} (search needs) (search needs)))
+returns c =
+    let ceil-div = c .before .before .ceil-div in
+    let start = c .before .before .before .args in (
+      rw (ceil-div .ensures .0),
+      omega (
+        arith,
+        prod-le 101000000 2300000 {a = ceil-div .result} {b = start .q .charge + start .q .release + start .q .ipi} (search needs) (search needs),
+      ),
+    )
 
 pub busy-load-of-spec : {M : Type 1} → statement M
 busy-load-of-spec =

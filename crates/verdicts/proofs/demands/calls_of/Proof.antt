@@ -22,7 +22,10 @@ mul-result : tie.Need-mul-result
 mul-result c = omega (arith, prod-le 102000000 200000 {a = c .ceil-div .result} {b = c .before .before .args .cost} (search needs) (search needs))
 
 returns-2 : tie.Need-returns-2
-returns-2 c = (rw (c .ceil-div .ensures .0), omega (arith, prod-le 102000000 200000 {a = c .ceil-div .result} {b = c .before .before .args .cost} (search needs) (search needs)))
+returns-2 c = (
+  rw (c .ceil-div .ensures .0),
+  omega (arith, prod-le 102000000 200000 {a = c .ceil-div .result} {b = c .before .before .args .cost} (search needs) (search needs)),
+)
 
 pub calls-of-spec : {M : Type 1} → statement M
 calls-of-spec = tie.close (tie.spec returns add-ceil-div ceil-div-requires mul-result returns-2)

@@ -35,7 +35,10 @@ loop-less : tie.Need-loop-less Inv-loop μ-loop
 loop-less c = search needs
 
 loop-again : tie.Need-loop-again Inv-loop μ-loop
-loop-again c = (search needs, cc (largest-more (c .before .before .before .before .args .core .now) (c .before .before .before .loop .i), c .before .before .before .loop .inv .1, c .greater .ensures, c .before .charged-at .ensures))
+loop-again c =
+    let loop = c .before .before .before .loop in
+    let start = c .before .before .before .before .args in
+    (search needs, cc (largest-more (start .core .now) (loop .i), loop .inv .1, c .greater .ensures, c .before .charged-at .ensures))
 
 returns : tie.Need-returns Inv-loop μ-loop
 returns c =

@@ -45,15 +45,29 @@ loop-less : tie.Need-loop-less Inv-loop μ-loop
 loop-less c = search needs
 
 loop-again : tie.Need-loop-again Inv-loop μ-loop
-loop-again c = (search needs, cc (earliest-more (c .before .before .before .before .before .less .result) (c .before .before .before .before .before .before .before .args .core .now) (c .before .before .before .before .loop .i), c .before .before .before .before .loop .inv .1, c .lesser .ensures, c .before .less2 .ensures, c .before .before .charged-at2 .ensures))
+loop-again c =
+    let loop = c .before .before .before .before .loop in
+    let less = c .before .before .before .before .before .less in
+    let start = c .before .before .before .before .before .before .before .args in (
+      search needs,
+      cc (
+        earliest-more (less .result) (start .core .now) (loop .i),
+        loop .inv .1,
+        c .lesser .ensures,
+        c .before .less2 .ensures,
+        c .before .before .charged-at2 .ensures,
+      ),
+    )
 
 returns : tie.Need-returns Inv-loop μ-loop
 returns c =
     let s = c .before .before .before .before .args in
     let w = c .before .before .less .result in
     let e : c .before .loop .i ≡ s .n = omega arith in
-    let head : w ≡ chargedAt (s .core .now) 0 .window - chargedAt (s .core .now) 0 .jitter = cc (c .before .before .less .ensures, c .before .before .before .charged-at .ensures) in
-    cc (e, head, c .before .loop .inv .1, least-live-charged (s .core .now) (s .n) (c .before .before .before .before .pre .0))
+    let head : w ≡ chargedAt (s .core .now) 0 .window - chargedAt (s .core .now) 0 .jitter =
+    cc (c .before .before .less .ensures, c .before .before .before .charged-at .ensures) in
+    let pre = c .before .before .before .before .pre in
+    cc (e, head, c .before .loop .inv .1, least-live-charged (s .core .now) (s .n) (pre .0))
 
 pub least-live-spec : {M : Type 1} → statement M
 least-live-spec =

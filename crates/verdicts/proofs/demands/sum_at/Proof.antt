@@ -30,7 +30,8 @@ charged-at-requires c κs = search needs
 term-of-requires : tie.Need-term-of-requires Inv-loop μ-loop
 term-of-requires c κs =
     let s = c .before .before .before .args in
-    (rw (c .charged-at .ensures) (charged-at-each Ranged (s .core .now) (s .n) (c .before .before .before .pre .0 .1) (c .before .before .loop .i) (c .before .loop-test .taken)), c .before .before .before .pre .1)
+    let pre = c .before .before .before .pre in
+    (rw (c .charged-at .ensures) (charged-at-each Ranged (s .core .now) (s .n) (pre .0 .1) (c .before .before .loop .i) (c .before .loop-test .taken)), pre .1)
 
 add-so-far : tie.Need-add-so-far Inv-loop μ-loop
 add-so-far c = search needs
@@ -44,8 +45,9 @@ loop-less c = search needs
 loop-again : tie.Need-loop-again Inv-loop μ-loop
 loop-again c =
     let s = c .before .before .before .before .args in
-    let more = total-more (term (s .sum) (s .t)) (s .core .now) (c .before .before .before .loop .i) in
-    (search needs, cc (more, c .before .before .before .loop .inv .1, c .term-of .ensures .0, c .before .charged-at .ensures), omega arith)
+    let loop = c .before .before .before .loop in
+    let more = total-more (term (s .sum) (s .t)) (s .core .now) (loop .i) in
+    (search needs, cc (more, loop .inv .1, c .term-of .ensures .0, c .before .charged-at .ensures), omega arith)
 
 returns : tie.Need-returns Inv-loop μ-loop
 returns c =

@@ -15,7 +15,13 @@ mul-result : tie.Need-mul-result
 mul-result c = omega (arith, prod-le 102000001 2000000 {a = c .before .jobs-due .result} {b = c .before .before .args .q .charge} (search needs) (search needs))
 
 returns : tie.Need-returns
-returns c = (rw (c .before .jobs-due .ensures .0), omega (arith, prod-le 102000001 2000000 {a = c .before .jobs-due .result} {b = c .before .before .args .q .charge} (search needs) (search needs)))
+returns c = (
+  rw (c .before .jobs-due .ensures .0),
+  omega (
+    arith,
+    prod-le 102000001 2000000 {a = c .before .jobs-due .result} {b = c .before .before .args .q .charge} (search needs) (search needs),
+  ),
+)
 
 pub work-of-spec : {M : Type 1} → statement M
 work-of-spec = tie.close (tie.spec jobs-due-requires mul-result returns)

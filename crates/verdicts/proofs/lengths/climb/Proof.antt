@@ -33,8 +33,10 @@ returns : tie.Need-returns Inv-loop μ-loop
 returns c =
     let s = c .before .before .before .before .args in
     let qs = chargedIn (s .core .now) (s .n) in
-    least-holding-is (asked (s .sum) (s .base) qs) (asked-mono (s .sum) (s .base) qs (all-recurs qs (c .before .before .before .before .pre .0 .1))) (s .top) (At (c .before .before .before .loop .l))
-    (record { here = record { some = c .before .before .before .loop .inv .0; fits = omega arith }; none-below = c .before .before .before .loop .inv .1 }, search needs)
+    let loop = c .before .before .before .loop in
+    let pre = c .before .before .before .before .pre in
+    least-holding-is (asked (s .sum) (s .base) qs) (asked-mono (s .sum) (s .base) qs (all-recurs qs (pre .0 .1))) (s .top) (At (loop .l))
+    (record { here = record { some = loop .inv .0; fits = omega arith }; none-below = loop .inv .1 }, search needs)
 
 loop-less : tie.Need-loop-less Inv-loop μ-loop
 loop-less c = search needs
@@ -43,7 +45,12 @@ loop-again : tie.Need-loop-again Inv-loop μ-loop
 loop-again c =
     let s = c .before .before .before .before .args in
     let qs = chargedIn (s .core .now) (s .n) in
-    (search needs, rw (c .before .sum-at .ensures .0) (clear-step (asked (s .sum) (s .base) qs) (asked-mono (s .sum) (s .base) qs (all-recurs qs (c .before .before .before .before .pre .0 .1))) (c .before .before .before .loop .l) (c .before .before .before .loop .inv .1) (omega arith)))
+    let loop = c .before .before .before .loop in
+    let pre = c .before .before .before .before .pre in (
+      search needs,
+      rw (c .before .sum-at .ensures .0) (clear-step (asked (s .sum) (s .base) qs)
+          (asked-mono (s .sum) (s .base) qs (all-recurs qs (pre .0 .1))) (loop .l) (loop .inv .1) (omega arith)),
+    )
 
 returns-2 : tie.Need-returns-2 Inv-loop μ-loop
 returns-2 c =

@@ -27,7 +27,10 @@ charged-at-requires c κs = search needs
 
 add-climb : tie.Need-add-climb
 add-climb c =
-    let ranged : Ranged (c .before .charged-at .result) = rw (c .before .charged-at .ensures) (charged-at-each Ranged (c .before .before .args .core .now) (c .before .before .args .n) (c .before .before .pre .0 .2) (c .before .before .args .n - 1) (omega arith)) in
+    let start = c .before .before .args in
+    let ranged : Ranged (c .before .charged-at .result) =
+    rw (c .before .charged-at .ensures)
+    (charged-at-each Ranged (start .core .now) (start .n) (c .before .before .pre .0 .2) (start .n - 1) (omega arith)) in
     search needs
 
 less-requires : tie.Need-less-requires
@@ -35,8 +38,13 @@ less-requires c κs = search needs
 
 climb-requires : tie.Need-climb-requires
 climb-requires c κs =
-    let ranged : Ranged (c .before .before .charged-at .result) = rw (c .before .before .charged-at .ensures) (charged-at-each Ranged (c .before .before .before .args .core .now) (c .before .before .before .args .n) (c .before .before .before .pre .0 .2) (c .before .before .before .args .n - 1) (omega arith)) in
-    ((c .before .before .before .pre .0 .1, c .before .before .before .pre .0 .2), (omega arith, omega arith))
+    let charged-at = c .before .before .charged-at in
+    let at-start = c .before .before .before in
+    let start = at-start .args in
+    let pre = at-start .pre in
+    let ranged : Ranged (charged-at .result) =
+    rw (charged-at .ensures) (charged-at-each Ranged (start .core .now) (start .n) (pre .0 .2) (start .n - 1) (omega arith)) in
+    ((pre .0 .1, pre .0 .2), (omega arith, omega arith))
 
 enum-told : tie.Need-enum-told
 enum-told c = search needs
@@ -48,20 +56,38 @@ add-t13 : tie.Need-add-t13
 add-t13 c =
     let s = c .before .before .before .before .before .before .before .args in
     let qs = chargedIn (s .core .now) (s .n) in
-    let ranged : Ranged (c .before .before .before .before .before .before .charged-at .result) = rw (c .before .before .before .before .before .before .charged-at .ensures) (charged-at-each Ranged (s .core .now) (s .n) (c .before .before .before .before .before .before .before .pre .0 .2) (s .n - 1) (omega arith)) in
-    omega (arith, found-within (asked Interrupts (s .b + c .before .before .before .before .before .before .charged-at .result .charge) qs) (asked-mono Interrupts (s .b + c .before .before .before .before .before .before .charged-at .result .charge) qs (all-recurs qs (c .before .before .before .before .before .before .before .pre .0 .2))) (c .before .before .before .before .less .result) (c .before .t .given .0 .0) (sym (c .before .before .before .climb .ensures) ∙ c .before .t .given .1))
+    let charged-at = c .before .before .before .before .before .before .charged-at in
+    let pre = c .before .before .before .before .before .before .before .pre in
+    let ranged : Ranged (charged-at .result) = rw (charged-at .ensures) (charged-at-each Ranged (s .core .now) (s .n) (pre .0 .2) (s .n - 1) (omega arith)) in
+    let less = c .before .before .before .before .less in
+    omega (
+      arith,
+      found-within (asked Interrupts (s .b + charged-at .result .charge) qs)
+          (asked-mono Interrupts (s .b + charged-at .result .charge) qs (all-recurs qs (pre .0 .2))) (less .result) (c .before .t .given .0 .0)
+          (sym (c .before .before .before .climb .ensures) ∙ c .before .t .given .1),
+    )
 
 returns : tie.Need-returns
 returns c =
     let s = c .before .before .before .before .before .before .args in
-    let q = c .before .before .before .before .before .charged-at .result in
-    ap (λ (r : Found). later (q .jitter) r) (sym (c .enum-told .given .1)) ∙ tight-found (s .b) (s .core .now) (s .n) (c .before .before .before .before .before .before .pre .0 .0) q (c .before .before .before .before .before .charged-at .ensures) (c .before .before .before .less .result) (c .before .before .before .less .ensures) (c .before .before .climb .result) (c .before .before .climb .ensures)
+    let charged-at = c .before .before .before .before .before .charged-at in
+    let q = charged-at .result in
+    let climb = c .before .before .climb in
+    let less = c .before .before .before .less in
+    let pre = c .before .before .before .before .before .before .pre in
+    ap (λ (r : Found). later (q .jitter) r) (sym (c .enum-told .given .1))
+    ∙ tight-found (s .b) (s .core .now) (s .n) (pre .0 .0) q (charged-at .ensures) (less .result) (less .ensures) (climb .result) (climb .ensures)
 
 returns-2 : tie.Need-returns-2
 returns-2 c =
     let s = c .before .before .before .before .before .before .before .args in
-    let q = c .before .before .before .before .before .before .charged-at .result in
-    ap (λ (r : Found). later (q .jitter) r) (sym (c .before .t .given .1)) ∙ tight-found (s .b) (s .core .now) (s .n) (c .before .before .before .before .before .before .before .pre .0 .0) q (c .before .before .before .before .before .before .charged-at .ensures) (c .before .before .before .before .less .result) (c .before .before .before .before .less .ensures) (c .before .before .before .climb .result) (c .before .before .before .climb .ensures)
+    let charged-at = c .before .before .before .before .before .before .charged-at in
+    let q = charged-at .result in
+    let climb = c .before .before .before .climb in
+    let less = c .before .before .before .before .less in
+    let pre = c .before .before .before .before .before .before .before .pre in
+    ap (λ (r : Found). later (q .jitter) r) (sym (c .before .t .given .1))
+    ∙ tight-found (s .b) (s .core .now) (s .n) (pre .0 .0) q (charged-at .ensures) (less .result) (less .ensures) (climb .result) (climb .ensures)
 
 pub tight-of-spec : {M : Type 1} → statement M
 tight-of-spec =

@@ -27,7 +27,9 @@ interrupts-of-requires c κs = search needs
 returns-2 : tie.Need-returns-2
 returns-2 c =
     let s = c .before .before .before .before .args in
-    level-calls (s .b) (chargedIn (s .core .now) (s .n)) (s .q) (s .f) (s .t) (c .before .before .before .demand-at .result) (c .before .interrupts-of .result) (c .before .before .before .demand-at .ensures) (c .before .interrupts-of .ensures .0) (omega arith) (c .if2 .taken)
+    let demand-at = c .before .before .before .demand-at in
+    level-calls (s .b) (chargedIn (s .core .now) (s .n)) (s .q) (s .f) (s .t) (demand-at .result) (c .before .interrupts-of .result)
+    (demand-at .ensures) (c .before .interrupts-of .ensures .0) (omega arith) (c .if2 .taken)
 
 jobs-due-requires : tie.Need-jobs-due-requires
 jobs-due-requires c κs = search needs
@@ -44,7 +46,11 @@ add-t13 c = search needs
 returns-3 : tie.Need-returns-3
 returns-3 c =
     let s = c .before .before .before .before .before .before .args in
-    level-fits (s .b) (chargedIn (s .core .now) (s .n)) (s .q) (s .f) (s .t) (c .before .before .before .before .before .demand-at .result) (c .before .before .before .interrupts-of .result) (c .before .jobs-due .result) (c .before .before .before .before .before .demand-at .ensures) (c .before .before .before .interrupts-of .ensures .0) (c .before .jobs-due .ensures .0) (omega arith) (omega arith) (c .fitting .result) (c .fitting .ensures)
+    let interrupts-of = c .before .before .before .interrupts-of in
+    let demand-at = c .before .before .before .before .before .demand-at in
+    level-fits (s .b) (chargedIn (s .core .now) (s .n)) (s .q) (s .f) (s .t) (demand-at .result) (interrupts-of .result)
+    (c .before .jobs-due .result) (demand-at .ensures) (interrupts-of .ensures .0) (c .before .jobs-due .ensures .0) (omega arith)
+    (omega arith) (c .fitting .result) (c .fitting .ensures)
 
 pub level-at-spec : {M : Type 1} → statement M
 level-at-spec =

@@ -1,4 +1,5 @@
--- `most_fitting::lower` meets its contract: nothing fits at t; or what fits there, and at a second length from a on where that is less than f, goes on below what it asks for at t.
+-- `most_fitting::lower` meets its contract: nothing fits at t; or what fits there, and at a second length from a on where that is less than
+-- f, goes on below what it asks for at t.
 use Prim.Native.Nat.{_≤_}
 use native.Mathlib.Omega.{arith}
 use Rattle.verdicts.specs.ChargedArray.{chargedIn}
@@ -20,27 +21,36 @@ level-at-requires c κs = search needs
 returns : tie.Need-returns
 returns c =
     let s = c .before .before .before .args in
-    lowers-none (s .b) (chargedIn (s .core .now) (s .n)) (s .q) (s .f) (s .a) (s .t) (c .before .before .level-at .result) (c .before .before .before .pre .1 .1 .1) (omega arith) (c .before .before .level-at .ensures)
+    let level-at = c .before .before .level-at in
+    lowers-none (s .b) (chargedIn (s .core .now) (s .n)) (s .q) (s .f) (s .a) (s .t) (level-at .result)
+    (c .before .before .before .pre .1 .1 .1) (omega arith) (level-at .ensures)
 
 mul-next-end : tie.Need-mul-next-end
 mul-next-end c =
     let s = c .before .before .before .before .before .before .args in
-    omega (arith, look-less (s .b) (chargedIn (s .core .now) (s .n)) (s .q) (s .f) (s .t) (s .f) (c .before .before .before .before .before .level-at .result) (c .before .before .before .before .before .level-at .ensures) (omega arith))
+    let level-at = c .before .before .before .before .before .level-at in
+    omega (arith, look-less (s .b) (chargedIn (s .core .now) (s .n)) (s .q) (s .f) (s .t) (s .f) (level-at .result) (level-at .ensures) (omega arith))
 
 add-next-end : tie.Need-add-next-end
 add-next-end c =
     let s = c .before .before .before .before .before .before .before .args in
-    omega (arith, look-less (s .b) (chargedIn (s .core .now) (s .n)) (s .q) (s .f) (s .t) (s .f) (c .before .before .before .before .before .before .level-at .result) (c .before .before .before .before .before .before .level-at .ensures) (omega arith))
+    let level-at = c .before .before .before .before .before .before .level-at in
+    omega (arith, look-less (s .b) (chargedIn (s .core .now) (s .n)) (s .q) (s .f) (s .t) (s .f) (level-at .result) (level-at .ensures) (omega arith))
 
 next-end-requires : tie.Need-next-end-requires
 next-end-requires c κs =
     let s = c .before .before .before .before .before .before .before .args in
-    look-less (s .b) (chargedIn (s .core .now) (s .n)) (s .q) (s .f) (s .t) (s .f) (c .before .before .before .before .before .before .level-at .result) (c .before .before .before .before .before .before .level-at .ensures) (omega arith)
+    let level-at = c .before .before .before .before .before .before .level-at in
+    look-less (s .b) (chargedIn (s .core .now) (s .n)) (s .q) (s .f) (s .t) (s .f) (level-at .result) (level-at .ensures) (omega arith)
 
 returns-2 : tie.Need-returns-2
 returns-2 c =
     let s = c .before .before .before .before .before .before .before .before .args in
-    lowers-to (s .b) (chargedIn (s .core .now) (s .n)) (s .q) (s .f) (s .a) (s .t) (s .w) (s .f) (c .next-end .result) (c .before .before .before .before .before .before .before .level-at .result) (c .before .before .before .before .before .before .before .before .pre .1 .1 .0 .1) (c .next-end .ensures) (c .before .before .before .before .before .before .before .before .pre .1 .1 .1) (c .before .before .before .before .before .before .before .level-at .ensures) (omega arith) (λ z le fits. omega (arith, c .before .before .before .before .before .before .before .level-at .ensures .most))
+    let level-at = c .before .before .before .before .before .before .before .level-at in
+    let pre = c .before .before .before .before .before .before .before .before .pre in
+    lowers-to (s .b) (chargedIn (s .core .now) (s .n)) (s .q) (s .f) (s .a) (s .t) (s .w) (s .f) (c .next-end .result) (level-at .result)
+    (pre .1 .1 .0 .1) (c .next-end .ensures) (pre .1 .1 .1) (level-at .ensures) (omega arith)
+    (λ z le fits. omega (arith, level-at .ensures .most))
 
 stretch-start-requires : tie.Need-stretch-start-requires
 stretch-start-requires c κs = search needs
@@ -53,30 +63,55 @@ lesser-requires c κs = search needs
 
 level-at-requires-2 : tie.Need-level-at-requires-2
 level-at-requires-2 c κs =
-    (c .before .before .before .before .before .before .before .before .pre .0, (c .before .before .before .before .before .before .before .before .pre .1 .0, (c .before .before .before .before .before .before .before .before .pre .1 .1 .0 .0, c .before .before .before .before .before .before .before .before .pre .1 .1 .0 .1, omega (arith, c .before .before .before .before .before .before .before .level-at .ensures .most), omega (arith, c .lesser .ensures))))
+    let level-at = c .before .before .before .before .before .before .before .level-at in
+    let pre = c .before .before .before .before .before .before .before .before .pre in
+    (pre .0, (pre .1 .0, (pre .1 .1 .0 .0, pre .1 .1 .0 .1, omega (arith, level-at .ensures .most), omega (arith, c .lesser .ensures))))
 
 mul-next-end-2 : tie.Need-mul-next-end-2
 mul-next-end-2 c =
     let s = c .before .before .before .before .before .before .before .before .before .before .args in
-    omega (arith, look-less (s .b) (chargedIn (s .core .now) (s .n)) (s .q) (s .f) (s .t) (c .before .level-at2 .result .charge) (c .before .before .before .before .before .before .before .before .before .level-at .result) (c .before .before .before .before .before .before .before .before .before .level-at .ensures) (c .before .level-at2 .ensures .most))
+    omega (
+      arith,
+      look-less (s .b) (chargedIn (s .core .now) (s .n)) (s .q) (s .f) (s .t) (c .before .level-at2 .result .charge)
+          (c .before .before .before .before .before .before .before .before .before .level-at .result)
+          (c .before .before .before .before .before .before .before .before .before .level-at .ensures) (c .before .level-at2 .ensures .most),
+    )
 
 add-next-end-2 : tie.Need-add-next-end-2
 add-next-end-2 c =
-    let s = c .before .before .before .before .before .before .before .before .before .before .before .args in
-    omega (arith, look-less (s .b) (chargedIn (s .core .now) (s .n)) (s .q) (s .f) (s .t) (c .before .before .level-at2 .result .charge) (c .before .before .before .before .before .before .before .before .before .before .level-at .result) (c .before .before .before .before .before .before .before .before .before .before .level-at .ensures) (c .before .before .level-at2 .ensures .most))
+    let at-level-at = c .before .before .before .before .before .before .before .before .before .before in
+    let s = at-level-at .before .args in
+    let level-at2 = c .before .before .level-at2 in
+    let level-at = at-level-at .level-at in
+    omega (
+      arith,
+      look-less (s .b) (chargedIn (s .core .now) (s .n)) (s .q) (s .f) (s .t) (level-at2 .result .charge) (level-at .result)
+          (level-at .ensures) (level-at2 .ensures .most),
+    )
 
 next-end-requires-2 : tie.Need-next-end-requires-2
 next-end-requires-2 c κs =
-    let s = c .before .before .before .before .before .before .before .before .before .before .before .args in
-    look-less (s .b) (chargedIn (s .core .now) (s .n)) (s .q) (s .f) (s .t) (c .before .before .level-at2 .result .charge) (c .before .before .before .before .before .before .before .before .before .before .level-at .result) (c .before .before .before .before .before .before .before .before .before .before .level-at .ensures) (c .before .before .level-at2 .ensures .most)
+    let at-level-at = c .before .before .before .before .before .before .before .before .before .before in
+    let s = at-level-at .before .args in
+    let level-at2 = c .before .before .level-at2 in
+    let level-at = at-level-at .level-at in
+    look-less (s .b) (chargedIn (s .core .now) (s .n)) (s .q) (s .f) (s .t) (level-at2 .result .charge) (level-at .result)
+    (level-at .ensures) (level-at2 .ensures .most)
 
 returns-3 : tie.Need-returns-3
 returns-3 c =
-    let s = c .before .before .before .before .before .before .before .before .before .before .before .before .args in
-    let again = c .before .before .before .before .lesser .result in
-    let low : s .a ≤ again = omega (arith, c .before .before .before .before .before .before .before .before .before .before .before .before .pre .1 .1 .1, c .before .before .before .before .lesser .ensures, c .before .before .before .before .before .greater .ensures) in
-    let high : again ≤ s .t = omega (arith, c .before .before .before .before .lesser .ensures) in
-    lowers-to (s .b) (chargedIn (s .core .now) (s .n)) (s .q) (s .f) (s .a) (s .t) (s .w) (c .before .before .before .level-at2 .result .charge) (c .next-end2 .result) (c .before .before .before .before .before .before .before .before .before .before .before .level-at .result) (c .before .before .before .before .before .before .before .before .before .before .before .before .pre .1 .1 .0 .1) (c .next-end2 .ensures) (c .before .before .before .before .before .before .before .before .before .before .before .before .pre .1 .1 .1) (c .before .before .before .before .before .before .before .before .before .before .before .level-at .ensures) (c .before .before .before .level-at2 .ensures .most) (λ z le fits. c .before .before .before .level-at2 .ensures .caps z le (fits again low (omega arith)))
+    let at-greater = c .before .before .before .before .before in
+    let s = at-greater .before .before .before .before .before .before .before .args in
+    let lesser = c .before .before .before .before .lesser in
+    let again = lesser .result in
+    let pre = at-greater .before .before .before .before .before .before .before .pre in
+    let low : s .a ≤ again = omega (arith, pre .1 .1 .1, lesser .ensures, at-greater .greater .ensures) in
+    let high : again ≤ s .t = omega (arith, lesser .ensures) in
+    let level-at2 = c .before .before .before .level-at2 in
+    let level-at = at-greater .before .before .before .before .before .before .level-at in
+    lowers-to (s .b) (chargedIn (s .core .now) (s .n)) (s .q) (s .f) (s .a) (s .t) (s .w) (level-at2 .result .charge) (c .next-end2 .result)
+    (level-at .result) (pre .1 .1 .0 .1) (c .next-end2 .ensures) (pre .1 .1 .1) (level-at .ensures) (level-at2 .ensures .most)
+    (λ z le fits. level-at2 .ensures .caps z le (fits again low (omega arith)))
 
 pub lower-spec : {M : Type 1} → statement M
 lower-spec =

@@ -33,7 +33,22 @@ sub-lower : tie.Need-sub-lower Inv-loop μ-loop
 sub-lower c = search needs
 
 lower-requires : tie.Need-lower-requires Inv-loop μ-loop
-lower-requires c κs = (c .before .before .before .pre .0, (c .before .before .before .pre .1 .0, ((c .before .before .before .pre .1 .1 .0, c .before .before .largest-window .ensures, omega (arith, c .before .loop .inv .1 .most), omega (arith, c .before .loop .inv .0)), omega arith)))
+lower-requires c κs =
+    let pre = c .before .before .before .pre in (
+      pre .0,
+      (
+        pre .1 .0,
+        (
+          (
+            pre .1 .1 .0,
+            c .before .before .largest-window .ensures,
+            omega (arith, c .before .loop .inv .1 .most),
+            omega (arith, c .before .loop .inv .0),
+          ),
+          omega arith,
+        ),
+      ),
+    )
 
 loop-less : tie.Need-loop-less Inv-loop μ-loop
 loop-less c = omega (arith, c .lower .ensures .down)
@@ -42,12 +57,18 @@ loop-again : tie.Need-loop-again Inv-loop μ-loop
 loop-again c =
     let s = c .before .before .before .before .args in
     let qs = chargedIn (s .core .now) (s .n) in
-    (omega (arith, c .lower .ensures .down, c .before .before .loop .inv .0), passed-step (s .b) qs (s .q) (all-recurs qs (c .before .before .before .before .pre .0 .1)) (ranged-recurs (s .q) (c .before .before .before .before .pre .1 .0)) (s .f) (s .a) (c .before .before .loop .end) (s .a + s .l) (c .before .before .loop .r) (c .lower .result) (omega arith) (c .before .before .loop .inv .0) (c .before .before .loop .inv .1) (c .lower .ensures))
+    let loop = c .before .before .loop in
+    let pre = c .before .before .before .before .pre in (
+      omega (arith, c .lower .ensures .down, loop .inv .0),
+      passed-step (s .b) qs (s .q) (all-recurs qs (pre .0 .1)) (ranged-recurs (s .q) (pre .1 .0)) (s .f) (s .a) (loop .end) (s .a + s .l)
+          (loop .r) (c .lower .result) (omega arith) (loop .inv .0) (loop .inv .1) (c .lower .ensures),
+    )
 
 returns : tie.Need-returns Inv-loop μ-loop
 returns c =
     let s = c .before .before .before .args in
-    passed-done (s .b) (chargedIn (s .core .now) (s .n)) (s .q) (s .f) (s .a) (s .l) (c .before .loop .end) (c .before .loop .r) (omega arith) (c .before .loop .inv .1)
+    passed-done (s .b) (chargedIn (s .core .now) (s .n)) (s .q) (s .f) (s .a) (s .l) (c .before .loop .end) (c .before .loop .r)
+    (omega arith) (c .before .loop .inv .1)
 
 pub squeeze-spec : {M : Type 1} → statement M
 squeeze-spec =

@@ -29,7 +29,11 @@ charged-at-requires c κs = search needs
 piece-start-requires-2 : tie.Need-piece-start-requires-2 Inv-loop μ-loop
 piece-start-requires-2 c κs =
     let s = c .before .before .before .before .args in
-    (rw (c .charged-at .ensures) (charged-at-each Ranged (s .core .now) (s .n) (c .before .before .before .before .pre .0 .1) (c .before .before .loop .i) (c .before .loop-test .taken)), c .before .before .before .before .pre .1 .1)
+    let pre = c .before .before .before .before .pre in (
+      rw (c .charged-at .ensures) (charged-at-each Ranged (s .core .now) (s .n) (pre .0 .1) (c .before .before .loop .i)
+          (c .before .loop-test .taken)),
+      pre .1 .1,
+    )
 
 greater-requires : tie.Need-greater-requires Inv-loop μ-loop
 greater-requires c κs = search needs

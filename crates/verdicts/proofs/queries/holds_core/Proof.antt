@@ -39,8 +39,10 @@ returns-2 : tie.Need-returns-2 Inv-loop μ-loop
 returns-2 c =
     let q = c .before .ranged-piece in
     let s = c .before .before .before .before .before .before .args in
-    let bad = subst (λ (b : Bool). Tells (Ranged (c .before .before .charged-at .result)) b) (not-true (q .result) (c .if2 .taken)) (q .ensures) in
-    λ both. bad (rw (c .before .before .charged-at .ensures) (charged-at-each Ranged (s .core .now) (s .n) (both .1) (c .before .before .before .before .loop .i) (c .before .before .before .loop-test .taken)))
+    let charged-at = c .before .before .charged-at in
+    let bad = subst (λ (b : Bool). Tells (Ranged (charged-at .result)) b) (not-true (q .result) (c .if2 .taken)) (q .ensures) in
+    let loop = c .before .before .before .before .loop in
+    λ both. bad (rw (charged-at .ensures) (charged-at-each Ranged (s .core .now) (s .n) (both .1) (loop .i) (c .before .before .before .loop-test .taken)))
 
 add-i : tie.Need-add-i Inv-loop μ-loop
 add-i c = search needs
@@ -52,8 +54,13 @@ loop-again : tie.Need-loop-again Inv-loop μ-loop
 loop-again c =
     let q = c .before .ranged-piece in
     let s = c .before .before .before .before .before .before .args in
-    let good = subst (λ (b : Bool). Tells (Ranged (c .before .before .charged-at .result)) b) (not-false (q .result) (c .if2 .left)) (q .ensures) in
-    (omega arith, rw (charged-in-more (s .core .now) (c .before .before .before .before .loop .i)) (each-snoc Ranged (chargedIn (s .core .now) (c .before .before .before .before .loop .i)) _ (c .before .before .before .before .loop .inv .1) (rw (c .before .before .charged-at .ensures) at good)))
+    let charged-at = c .before .before .charged-at in
+    let good = subst (λ (b : Bool). Tells (Ranged (charged-at .result)) b) (not-false (q .result) (c .if2 .left)) (q .ensures) in
+    let loop = c .before .before .before .before .loop in (
+      omega arith,
+      rw (charged-in-more (s .core .now) (loop .i))
+          (each-snoc Ranged (chargedIn (s .core .now) (loop .i)) _ (loop .inv .1) (rw (charged-at .ensures) at good)),
+    )
 
 returns-3 : tie.Need-returns-3 Inv-loop μ-loop
 returns-3 c =

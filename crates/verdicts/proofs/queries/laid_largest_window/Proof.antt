@@ -17,14 +17,17 @@ largest-window-requires c κs = search needs
 
 returns : tie.Need-returns
 returns c =
-    c .largest-window .ensures ∙ ap (λ (qs : List Charged). largestWindow qs) (sym (laid-pieces-past (c .before .before .args .core .now) (c .before .before .args .n) (c .before .if1 .taken)))
+    let start = c .before .before .args in
+    c .largest-window .ensures ∙ ap (λ (qs : List Charged). largestWindow qs) (sym (laid-pieces-past (start .core .now) (start .n) (c .before .if1 .taken)))
 
 largest-window-requires-2 : tie.Need-largest-window-requires-2
 largest-window-requires-2 c κs = search needs
 
 returns-2 : tie.Need-returns-2
 returns-2 c =
-    c .largest-window2 .ensures ∙ ap (λ (qs : List Charged). largestWindow qs) (sym (laid-pieces-is (c .before .before .args .core .now) (c .before .before .args .n) (omega (arith, c .before .if1 .left))))
+    let start = c .before .before .args in
+    c .largest-window2 .ensures
+    ∙ ap (λ (qs : List Charged). largestWindow qs) (sym (laid-pieces-is (start .core .now) (start .n) (omega (arith, c .before .if1 .left))))
 
 pub laid-largest-window-spec : {M : Type 1} → statement M
 laid-largest-window-spec = tie.close (tie.spec largest-window-requires returns largest-window-requires-2 returns-2)

@@ -20,14 +20,17 @@ least-live-requires c κs = search needs
 
 returns-2 : tie.Need-returns-2
 returns-2 c =
-    c .least-live .ensures ∙ ap (λ (qs : List Charged). leastLive qs) (sym (laid-pieces-past (c .before .before .before .args .core .now) (c .before .before .before .args .n) (c .before .if2 .taken)))
+    let start = c .before .before .before .args in
+    c .least-live .ensures ∙ ap (λ (qs : List Charged). leastLive qs) (sym (laid-pieces-past (start .core .now) (start .n) (c .before .if2 .taken)))
 
 least-live-requires-2 : tie.Need-least-live-requires-2
 least-live-requires-2 c κs = (omega (arith, c .before .if1 .left), omega (arith, c .if2 .left))
 
 returns-3 : tie.Need-returns-3
 returns-3 c =
-    c .least-live2 .ensures ∙ ap (λ (qs : List Charged). leastLive qs) (sym (laid-pieces-is (c .before .before .before .args .core .now) (c .before .before .before .args .n) (omega (arith, c .before .if2 .left))))
+    let start = c .before .before .before .args in
+    c .least-live2 .ensures
+    ∙ ap (λ (qs : List Charged). leastLive qs) (sym (laid-pieces-is (start .core .now) (start .n) (omega (arith, c .before .if2 .left))))
 
 pub laid-least-live-spec : {M : Type 1} → statement M
 laid-least-live-spec =

@@ -28,7 +28,11 @@ returns-3 : tie.Need-returns-3
 unfolding laidSpan
 returns-3 c =
     let s = c .before .before .before .args in
-    rw (le-leb (s .b) stallMost (omega (arith, c .before .before .if1 .left)), le-leb (s .a) timeMost (omega (arith, c .before .if2 .left)), lt-leb (s .l) busyMost (c .if3 .taken))
+    rw (
+      le-leb (s .b) stallMost (omega (arith, c .before .before .if1 .left)),
+      le-leb (s .a) timeMost (omega (arith, c .before .if2 .left)),
+      lt-leb (s .l) busyMost (c .if3 .taken),
+    )
 
 holds-core-requires : tie.Need-holds-core-requires
 holds-core-requires c κs = search needs
@@ -38,21 +42,32 @@ unfolding laidSpan
 returns-4 c =
     let s = c .before .before .before .before .before .args in
     let h = c .before .holds-core in
-    rw (le-leb (s .b) stallMost (omega (arith, c .before .before .before .before .if1 .left)), le-leb (s .a) timeMost (omega (arith, c .before .before .before .if2 .left)), le-leb (s .l) busyMost (omega (arith, c .before .before .if3 .left)), laid-none (s .core .now) (s .n) (h .result) (h .ensures) (not-true (h .result) (c .if4 .taken)))
+    let if1 = c .before .before .before .before .if1 in
+    rw (
+      le-leb (s .b) stallMost (omega (arith, if1 .left)),
+      le-leb (s .a) timeMost (omega (arith, c .before .before .before .if2 .left)),
+      le-leb (s .l) busyMost (omega (arith, c .before .before .if3 .left)),
+      laid-none (s .core .now) (s .n) (h .result) (h .ensures) (not-true (h .result) (c .if4 .taken)),
+    )
 
 descend-requires : tie.Need-descend-requires
 descend-requires c κs =
     let s = c .before .before .before .before .before .args in
     let h = c .before .holds-core in
     let core = laid-some (s .core .now) (s .n) (h .result) (h .ensures) (not-false (h .result) (c .if4 .left)) in
-    (core, (omega (arith, c .before .before .before .before .if1 .left), omega (arith, c .before .before .before .if2 .left), omega (arith, c .before .before .if3 .left)))
+    let if1 = c .before .before .before .before .if1 in
+    (core, (omega (arith, if1 .left), omega (arith, c .before .before .before .if2 .left), omega (arith, c .before .before .if3 .left)))
 
 returns-5 : tie.Need-returns-5
 returns-5 c =
     let s = c .before .before .before .before .before .before .args in
     let h = c .before .before .holds-core in
     let core = laid-some (s .core .now) (s .n) (h .result) (h .ensures) (not-false (h .result) (c .before .if4 .left)) in
-    c .descend .ensures ∙ sym (span-held (s .core .now) (s .n) core (s .b) (s .a) (s .l) (omega (arith, c .before .before .before .before .before .if1 .left)) (omega (arith, c .before .before .before .before .if2 .left)) (omega (arith, c .before .before .before .if3 .left)))
+    let if2 = c .before .before .before .before .if2 in
+    let if1 = c .before .before .before .before .before .if1 in
+    c .descend .ensures
+    ∙ sym (span-held (s .core .now) (s .n) core (s .b) (s .a) (s .l) (omega (arith, if1 .left)) (omega (arith, if2 .left))
+    (omega (arith, c .before .before .before .if3 .left)))
 
 pub laid-span-spec : {M : Type 1} → statement M
 laid-span-spec =

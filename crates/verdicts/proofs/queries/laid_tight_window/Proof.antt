@@ -25,7 +25,10 @@ unfolding laidTightWindow
 returns-2 c =
     let s = c .before .before .before .args in
     let h = c .before .holds-core in
-    rw (le-leb (s .b) stallMost (omega (arith, c .before .before .if1 .left)), laid-none (s .core .now) (s .n) (h .result) (h .ensures) (not-true (h .result) (c .if2 .taken)))
+    rw (
+      le-leb (s .b) stallMost (omega (arith, c .before .before .if1 .left)),
+      laid-none (s .core .now) (s .n) (h .result) (h .ensures) (not-true (h .result) (c .if2 .taken)),
+    )
 
 returns-3 : tie.Need-returns-3
 returns-3 c =
@@ -46,7 +49,8 @@ returns-4 c =
     let s = c .before .before .before .before .before .args in
     let h = c .before .before .before .holds-core in
     let core = laid-some (s .core .now) (s .n) (h .result) (h .ensures) (not-false (h .result) (c .before .before .if2 .left)) in
-    c .tight-of .ensures ∙ sym (tight-window-held (s .core .now) (s .n) core (s .b) (omega (arith, c .before .before .before .before .if1 .left)))
+    let if1 = c .before .before .before .before .if1 in
+    c .tight-of .ensures ∙ sym (tight-window-held (s .core .now) (s .n) core (s .b) (omega (arith, if1 .left)))
 
 pub laid-tight-window-spec : {M : Type 1} → statement M
 laid-tight-window-spec =

@@ -25,7 +25,10 @@ unfolding laidVerdict
 returns-2 c =
     let s = c .before .before .before .args in
     let h = c .before .holds-core in
-    rw (le-leb (s .b) stallMost (omega (arith, c .before .before .if1 .left)), laid-none (s .core .now) (s .n) (h .result) (h .ensures) (not-true (h .result) (c .if2 .taken)))
+    rw (
+      le-leb (s .b) stallMost (omega (arith, c .before .before .if1 .left)),
+      laid-none (s .core .now) (s .n) (h .result) (h .ensures) (not-true (h .result) (c .if2 .taken)),
+    )
 
 judge-core-requires : tie.Need-judge-core-requires
 judge-core-requires c κs =

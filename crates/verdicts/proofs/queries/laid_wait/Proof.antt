@@ -31,7 +31,11 @@ unfolding laidWait
 returns-3 c =
     let s = c .before .before .before .before .args in
     let h = c .before .holds-core in
-    rw (le-leb (s .base) waitMost (omega (arith, c .before .before .before .if1 .left)), le-leb (s .top) busyMost (omega (arith, c .before .before .if2 .left)), laid-none (s .core .now) (s .n) (h .result) (h .ensures) (not-true (h .result) (c .if3 .taken)))
+    rw (
+      le-leb (s .base) waitMost (omega (arith, c .before .before .before .if1 .left)),
+      le-leb (s .top) busyMost (omega (arith, c .before .before .if2 .left)),
+      laid-none (s .core .now) (s .n) (h .result) (h .ensures) (not-true (h .result) (c .if3 .taken)),
+    )
 
 climb-requires : tie.Need-climb-requires
 climb-requires c κs =
@@ -45,7 +49,9 @@ returns-4 c =
     let s = c .before .before .before .before .before .args in
     let h = c .before .before .holds-core in
     let core = laid-some (s .core .now) (s .n) (h .result) (h .ensures) (not-false (h .result) (c .before .if3 .left)) in
-    c .climb .ensures ∙ sym (wait-held (s .core .now) (s .n) core (s .base) (s .top) (omega (arith, c .before .before .before .before .if1 .left)) (omega (arith, c .before .before .before .if2 .left)))
+    let if1 = c .before .before .before .before .if1 in
+    c .climb .ensures
+    ∙ sym (wait-held (s .core .now) (s .n) core (s .base) (s .top) (omega (arith, if1 .left)) (omega (arith, c .before .before .before .if2 .left)))
 
 pub laid-wait-spec : {M : Type 1} → statement M
 laid-wait-spec =

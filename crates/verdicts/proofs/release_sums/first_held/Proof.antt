@@ -14,7 +14,8 @@ use Rattle.verdicts.proofs.release_sums.first_held.Lts as lts
 
 abbrev Inv-loop : tie.InvT-loop
 Inv-loop marks l asked sum₀ m₀ j₀ sum m j =
-    (j ≤ 1023) × (m ≡ l + j + 1) × (sum ≤ asked + j * 200000000) × ((f : ℕ → ℕ) → Marks f l marks → asked ≡ f l → Clear f (l + 1) → Clear f m × (sum ≡ f (l + j)))
+    (j ≤ 1023) × (m ≡ l + j + 1) × (sum ≤ asked + j * 200000000)
+    × ((f : ℕ → ℕ) → Marks f l marks → asked ≡ f l → Clear f (l + 1) → Clear f m × (sum ≡ f (l + j)))
 
 abbrev μ-loop : tie.MeasureT-loop
 μ-loop marks l asked sum₀ m₀ j₀ sum m j = 1023 - j
@@ -38,8 +39,13 @@ add-sum c =
 
 returns : tie.Need-returns Inv-loop μ-loop
 returns c =
-    let o = c .before .before .before .loop in
-    ((search needs, search needs), λ f marks asked clear. (o .inv .3 f marks asked clear .0, λ near. omega (arith, o .inv .3 f marks asked clear .1, marks (o .j) (omega arith), ap f (o .inv .1))))
+    let o = c .before .before .before .loop in (
+      (search needs, search needs),
+      λ f marks asked clear. (
+        o .inv .3 f marks asked clear .0,
+        λ near. omega (arith, o .inv .3 f marks asked clear .1, marks (o .j) (omega arith), ap f (o .inv .1)),
+      ),
+    )
 
 add-m-2 : tie.Need-add-m-2 Inv-loop μ-loop
 add-m-2 c = search needs
@@ -52,12 +58,14 @@ loop-less c = search needs
 
 loop-again : tie.Need-loop-again Inv-loop μ-loop
 loop-again c =
-    let o = c .before .before .before .loop in (
+    let o = c .before .before .before .loop in
+    let at-start = c .before .before .before .before in (
       search needs,
       search needs,
-      omega (arith, c .before .before .before .before .pre .2 (o .j)),
+      omega (arith, at-start .pre .2 (o .j)),
       λ f marks asked clear.
-          (let here : o .sum + getD (c .before .before .before .before .args .marks .now) (o .j) 0 ≡ f (o .m) = omega (arith, o .inv .3 f marks asked clear .1, marks (o .j) (omega arith), ap f (o .inv .1)) in
+          (let here : o .sum + getD (at-start .args .marks .now)
+          (o .j) 0 ≡ f (o .m) = omega (arith, o .inv .3 f marks asked clear .1, marks (o .j) (omega arith), ap f (o .inv .1)) in
           (clear-past f (o .m) (o .inv .3 f marks asked clear .0) (omega arith), here ∙ ap f (omega arith))),
     )
 

@@ -34,13 +34,16 @@ mul-at c =
 sub-at : tie.Need-sub-at Inv-loop μ-loop
 sub-at c =
     let s = c .before .before .before .before .args in
-    omega (arith, ap (λ (j : ℕ). j * s .q .period) (c .before .ceil-div .ensures .0), ceil-covers (s .l) {k = s .q .period} (c .before .before .before .before .pre .0 .period-some))
+    let pre = c .before .before .before .before .pre in
+    omega (arith, ap (λ (j : ℕ). j * s .q .period) (c .before .ceil-div .ensures .0), ceil-covers (s .l) {k = s .q .period} (pre .0 .period-some))
 
 loop-holds : tie.Need-loop-holds Inv-loop μ-loop
 loop-holds c =
     let s = c .before .before .before .before .args in
     let q = s .q in
-    marking-none (q .charge + q .release + q .ipi) (c .before .before .before .before .pre .0 .period-some) (s .l) _ (s .marks .now) (c .before .before .before .before .pre .1 .1) (ap (λ (j : ℕ). j * q .period - s .l) (c .before .ceil-div .ensures .0))
+    let pre = c .before .before .before .before .pre in
+    marking-none (q .charge + q .release + q .ipi) (pre .0 .period-some) (s .l) _ (s .marks .now) (pre .1 .1)
+    (ap (λ (j : ℕ). j * q .period - s .l) (c .before .ceil-div .ensures .0))
 
 mul-marks : tie.Need-mul-marks Inv-loop μ-loop
 mul-marks c = search needs
@@ -67,7 +70,9 @@ loop-again c =
     let s = c .before .before .before .before .before .before .before .args in
     let q = s .q in
     let o = c .before .before .loop in
-    marking-more (q .charge + q .release + q .ipi) (c .before .before .before .before .before .before .before .pre .0 .period-some) (s .l) (o .at) (s .marks .now) (o .marks) (o .inv) (c .before .loop-test .taken) (search needs)
+    let pre = c .before .before .before .before .before .before .before .pre in
+    marking-more (q .charge + q .release + q .ipi) (pre .0 .period-some) (s .l) (o .at) (s .marks .now) (o .marks) (o .inv)
+    (c .before .loop-test .taken) (search needs)
 
 returns : tie.Need-returns Inv-loop μ-loop
 returns c =

@@ -35,8 +35,10 @@ mark-requires : tie.Need-mark-requires Inv-loop μ-loop
 mark-requires c κs =
     let s = c .before .before .before .before .args in
     let pre = c .before .before .before .before .pre in
-    let o = c .before .before .before .loop in
-    (rw (c .charged-at .ensures) (charged-at-each Ranged (s .core .now) (s .n) (pre .0 .1) (o .i) (c .before .before .loop-test .taken)), (pre .1 .0, o .inv .3, λ j. omega (arith, o .inv .2 j)))
+    let o = c .before .before .before .loop in (
+      rw (c .charged-at .ensures) (charged-at-each Ranged (s .core .now) (s .n) (pre .0 .1) (o .i) (c .before .before .loop-test .taken)),
+      (pre .1 .0, o .inv .3, λ j. omega (arith, o .inv .2 j)),
+    )
 
 add-i : tie.Need-add-i Inv-loop μ-loop
 add-i c = search needs
@@ -48,8 +50,12 @@ loop-again : tie.Need-loop-again Inv-loop μ-loop
 loop-again c =
     let s = c .before .before .before .before .before .args in
     let o = c .before .before .before .before .loop in
-    let here = rw (c .before .charged-at .ensures) at (c .mark .ensures .0) in
-    (search needs, marks-more (s .core .now) (o .i) (s .l) (o .marks) _ (o .inv .1) here, λ j. omega (arith, c .mark .ensures .0 .little j, o .inv .2 j), c .mark .ensures .1)
+    let here = rw (c .before .charged-at .ensures) at (c .mark .ensures .0) in (
+      search needs,
+      marks-more (s .core .now) (o .i) (s .l) (o .marks) _ (o .inv .1) here,
+      λ j. omega (arith, c .mark .ensures .0 .little j, o .inv .2 j),
+      c .mark .ensures .1,
+    )
 
 returns : tie.Need-returns Inv-loop μ-loop
 returns c =

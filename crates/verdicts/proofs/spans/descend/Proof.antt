@@ -34,13 +34,16 @@ sub-t : tie.Need-sub-t Inv-loop μ-loop
 sub-t c = search needs
 
 demand-at-requires : tie.Need-demand-at-requires Inv-loop μ-loop
-demand-at-requires c κs = (c .before .before .before .pre .0, (c .before .before .before .pre .1 .0, c .before .before .largest-window .ensures, omega arith))
+demand-at-requires c κs =
+    let pre = c .before .before .before .pre in
+    (pre .0, (pre .1 .0, c .before .before .largest-window .ensures, omega arith))
 
 returns : tie.Need-returns Inv-loop μ-loop
 returns c =
     let s = c .before .before .before .before .before .args in
-    scan-is (s .b) (chargedIn (s .core .now) (s .n)) (s .a) (s .l) (Overloaded (c .before .before .before .loop .end - 1))
-    (record { from = omega arith; below = omega arith; over = omega arith; calm = λ u from below. c .before .before .before .loop .inv .1 u (omega arith) below })
+    let loop = c .before .before .before .loop in
+    scan-is (s .b) (chargedIn (s .core .now) (s .n)) (s .a) (s .l) (Overloaded (loop .end - 1))
+    (record { from = omega arith; below = omega arith; over = omega arith; calm = λ u from below. loop .inv .1 u (omega arith) below })
 
 next-end-requires : tie.Need-next-end-requires Inv-loop μ-loop
 next-end-requires c κs = search needs
@@ -52,7 +55,12 @@ loop-again : tie.Need-loop-again Inv-loop μ-loop
 loop-again c =
     let s = c .before .before .before .before .before .before .args in
     let qs = chargedIn (s .core .now) (s .n) in
-    (omega arith, calm-more (s .b) qs (all-recurs qs (c .before .before .before .before .before .before .pre .0 .1)) (c .before .before .before .before .loop .end - 1) (c .next-end .result) (s .a + s .l) (omega arith) (λ wide. omega (arith, c .next-end .ensures .2 (omega arith))) (λ u from below. c .before .before .before .before .loop .inv .1 u (omega arith) below))
+    let loop = c .before .before .before .before .loop in
+    let pre = c .before .before .before .before .before .before .pre in (
+      omega arith,
+      calm-more (s .b) qs (all-recurs qs (pre .0 .1)) (loop .end - 1) (c .next-end .result) (s .a + s .l) (omega arith)
+          (λ wide. omega (arith, c .next-end .ensures .2 (omega arith))) (λ u from below. loop .inv .1 u (omega arith) below),
+    )
 
 returns-2 : tie.Need-returns-2 Inv-loop μ-loop
 returns-2 c =

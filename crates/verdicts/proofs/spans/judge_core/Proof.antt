@@ -41,21 +41,36 @@ descend-requires : tie.Need-descend-requires
 descend-requires c κs =
     let s = c .before .before .before .before .before .before .args in
     let qs = chargedIn (s .core .now) (s .n) in
-    (c .before .before .before .before .before .before .pre .0, (c .before .before .before .before .before .before .pre .1, omega (arith, c .least-live .ensures, least-live-fits qs (c .before .before .before .before .before .before .pre .0 .1)), busy-length-within qs (all-recurs qs (c .before .before .before .before .before .before .pre .0 .1)) (c .before .before .l .given .0 .0) (sym (c .before .before .before .before .climb-busy .ensures) ∙ c .before .before .l .given .1)))
+    let l = c .before .before .l in
+    let climb-busy = c .before .before .before .before .climb-busy in
+    let pre = c .before .before .before .before .before .before .pre in (
+      pre .0,
+      (
+        pre .1,
+        omega (arith, c .least-live .ensures, least-live-fits qs (pre .0 .1)),
+        busy-length-within qs (all-recurs qs (pre .0 .1)) (l .given .0 .0) (sym (climb-busy .ensures) ∙ l .given .1),
+      ),
+    )
 
 returns-2 : tie.Need-returns-2
 returns-2 c =
     let s = c .before .before .before .before .args in
     let qs = chargedIn (s .core .now) (s .n) in
     let some : 1 ≤ length qs = omega (arith, charged-in-length (s .core .now) (s .n), c .before .before .before .if1 .left) in
-    sym (verdict-span (s .b) qs some ∙ ap (λ (r : Found). overSpan (s .b) qs (leastLive qs) r) (sym (c .before .before .climb-busy .ensures) ∙ c .enum-told .given .1))
+    sym (verdict-span (s .b) qs some
+    ∙ ap (λ (r : Found). overSpan (s .b) qs (leastLive qs) r) (sym (c .before .before .climb-busy .ensures) ∙ c .enum-told .given .1))
 
 returns-3 : tie.Need-returns-3
 returns-3 c =
     let s = c .before .before .before .before .before .before .before .args in
     let qs = chargedIn (s .core .now) (s .n) in
-    let some : 1 ≤ length qs = omega (arith, charged-in-length (s .core .now) (s .n), c .before .before .before .before .before .before .if1 .left) in
-    c .descend .ensures ∙ (ap (λ (a : ℕ). scan (s .b) qs a (c .before .before .before .l .given .0 .0)) (c .before .least-live .ensures) ∙ sym (verdict-span (s .b) qs some ∙ ap (λ (r : Found). overSpan (s .b) qs (leastLive qs) r) (sym (c .before .before .before .before .before .climb-busy .ensures) ∙ c .before .before .before .l .given .1)))
+    let if1 = c .before .before .before .before .before .before .if1 in
+    let some : 1 ≤ length qs = omega (arith, charged-in-length (s .core .now) (s .n), if1 .left) in
+    let l = c .before .before .before .l in
+    let climb-busy = c .before .before .before .before .before .climb-busy in
+    c .descend .ensures
+    ∙ (ap (λ (a : ℕ). scan (s .b) qs a (l .given .0 .0)) (c .before .least-live .ensures)
+    ∙ sym (verdict-span (s .b) qs some ∙ ap (λ (r : Found). overSpan (s .b) qs (leastLive qs) r) (sym (climb-busy .ensures) ∙ l .given .1)))
 
 pub judge-core-spec : {M : Type 1} → statement M
 judge-core-spec =
