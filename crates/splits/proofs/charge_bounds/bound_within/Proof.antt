@@ -85,8 +85,7 @@ descend-requires c κs =
     let q = c .before .before .before .before .before .before .before .charged-at .result in
     let ranged : Ranged q = rw (c .before .before .before .before .before .before .before .charged-at .ensures) (charged-at-each Ranged (s .core .now) (s .n + 1) (c .before .before .before .before .before .before .before .before .pre .0 .1) (s .n) (omega arith)) in
     let qs = chargedIn (s .core .now) (s .n) in
-    let front : Each Ranged qs = charged-in-front Ranged (s .core .now) (s .n) (c .before .before .before .before .before .before .before .before .pre .0 .1) in
-    (
+    let front : Each Ranged qs = charged-in-front Ranged (s .core .now) (s .n) (c .before .before .before .before .before .before .before .before .pre .0 .1) in (
       (omega arith, c .before .before .before .before .before .before .before .before .pre .0 .1),
       (
         c .before .before .before .before .before .before .before .before .pre .1 .0 .0,
