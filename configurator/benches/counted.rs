@@ -439,11 +439,7 @@ impl<T: Tally> Lean<T> {
         let own = a.max(largest_window(core));
         match self.descend(all, b, own, q.window.saturating_sub(own)) {
             Verdict::Passes => (Bound::Stands, Settled::Allowed),
-            Verdict::Overloaded(t) => {
-                self.tally.note(Event::Stretch(all.len()));
-                let start = all.iter().map(|q| lane_start(q, t)).max().unwrap_or(0);
-                (Bound::Falls(start.min(t).max(own)), Settled::OwnBlocking)
-            }
+            Verdict::Overloaded(t) => (Bound::Falls(t), Settled::OwnBlocking),
             Verdict::Undecided => (Bound::Falls(own), Settled::OwnBlocking),
         }
     }
@@ -545,13 +541,9 @@ impl<T: Tally> Lean<T> {
             Verdict::Passes => {}
             Verdict::Undecided => return (Err(0), Settled::LastEnds),
             Verdict::Overloaded(u) => {
-                self.tally.note(Event::Stretch(1));
-                let start = lane_start(&rest[0], u).min(u).max(least_live(&rest));
-                let mut excess = |t| {
-                    let g = self.demand(&rest, ask.stall, deadline - w, t);
-                    g.saturating_sub(t + 1)
-                };
-                let s = excess(u).max(excess(start));
+                let s = self
+                    .demand(&rest, ask.stall, deadline - w, u)
+                    .saturating_sub(u + 1);
                 let below = self.last_below(all, base, x, t, s);
                 return (Err(below), Settled::LastFalls);
             }

@@ -11,11 +11,11 @@ use crate::monotone_search::pick;
 use demand::BUSY_MOST;
 use demand::Charged;
 use demand::Found;
-use demand::RUN_NUMBERS;
 use demand::Verdict;
 use demand::greater;
 use demand::less;
 use demand::lesser;
+use verdicts::CORE_NUMBERS;
 use verdicts::Sum;
 ghost use mathlib.Core.Path.{_≡_};
 ghost use Prim.Native.Nat.{_+_, _*_, _<_, _≤_};
@@ -38,7 +38,7 @@ pub enum Bound {
 }
 
 // What one far length and a short walk leave of f: the far length tells where there is more to do than time, the short walk finds most of the rest.
-pub fn cap_of(core: &[u64; RUN_NUMBERS], n: usize, b: u64, q: Charged, f: u64, a: u64) -> u64
+pub fn cap_of(core: &[u64; CORE_NUMBERS], n: usize, b: u64, q: Charged, f: u64, a: u64) -> u64
     requires { ⌜ (n ≤ runMost) × Each Ranged (chargedIn (now core) n) ⌝ }
     requires { ⌜ Ranged q ⌝ }
     requires { ⌜ (b ≤ stallMost) × (f ≤ chargeMost) × (a ≤ timeMost) ⌝ }
@@ -50,7 +50,7 @@ pub fn cap_of(core: &[u64; RUN_NUMBERS], n: usize, b: u64, q: Charged, f: u64, a
 
 // What the busy length l tells of the n pieces and the one behind, from their least live length a on. Between the largest window of the n and that of the one
 // behind only its own blocking is left.
-pub fn bound_within(core: &[u64; RUN_NUMBERS], n: usize, b: u64, a: u64, l: u64) -> Bound
+pub fn bound_within(core: &[u64; CORE_NUMBERS], n: usize, b: u64, a: u64, l: u64) -> Bound
     requires { ⌜ (n < runMost) × Each Ranged (chargedIn (now core) (n + 1)) ⌝ }
     requires { ⌜ (b ≤ stallMost) × (a ≤ timeMost) × (l ≤ busyMost) × (1 ≤ chargedAt (now core) n .charge) ⌝ }
     requires { ⌜ (a ≡ leastLive (chargedIn (now core) (n + 1))) × (busyLength (chargedIn (now core) (n + 1)) ≡ At l) ⌝ }
@@ -90,7 +90,7 @@ pub fn with_charge(q: Charged, f: u64) -> Charged
 
 // The greatest charge of q, below its own, that fits at t beside the n pieces where the stall counts. What q asks for with no charge, and how many jobs are charged, the
 // sums with q behind tell.
-pub fn fit_stalled(core: &mut [u64; RUN_NUMBERS], n: usize, b: u64, q: Charged, t: u64) -> u64
+pub fn fit_stalled(core: &mut [u64; CORE_NUMBERS], n: usize, b: u64, q: Charged, t: u64) -> u64
     requires { ⌜ (n < runMost) × (length (now core) ≡ 7 * runMost) × Each Ranged (chargedIn (now core) n) ⌝ }
     requires { ⌜ Ranged q ⌝ }
     requires { ⌜ (b ≤ stallMost) × (1 ≤ q .charge) × (t ≤ lengthMost) ⌝ }
@@ -110,7 +110,7 @@ pub fn fit_stalled(core: &mut [u64; RUN_NUMBERS], n: usize, b: u64, q: Charged, 
 }
 
 // A charge of q, below its own, with which the n pieces and q may hold the busy sum at l. What is made of it needs no more than that it is below.
-pub fn guess_at(core: &[u64; RUN_NUMBERS], n: usize, q: Charged, l: u64) -> u64
+pub fn guess_at(core: &[u64; CORE_NUMBERS], n: usize, q: Charged, l: u64) -> u64
     requires { ⌜ (n < runMost) × Each Ranged (chargedIn (now core) (n + 1)) ⌝ }
     requires { ⌜ Ranged q ⌝ }
     requires { ⌜ (1 ≤ q .charge) × (l ≤ lengthMost) ⌝ }
@@ -122,7 +122,7 @@ pub fn guess_at(core: &[u64; RUN_NUMBERS], n: usize, q: Charged, l: u64) -> u64
 }
 
 // The greatest such charge at the last multiples of the periods, where the busy sum is least above the length.
-pub fn guess(core: &[u64; RUN_NUMBERS], n: usize, q: Charged) -> u64
+pub fn guess(core: &[u64; CORE_NUMBERS], n: usize, q: Charged) -> u64
     requires { ⌜ (n < runMost) × Each Ranged (chargedIn (now core) (n + 1)) ⌝ }
     requires { ⌜ Ranged q ⌝ }
     requires { ⌜ 1 ≤ q .charge ⌝ }
@@ -139,7 +139,7 @@ pub fn guess(core: &[u64; RUN_NUMBERS], n: usize, q: Charged) -> u64
 }
 
 // Whether the n pieces with q behind, charged f, have no busy length.
-pub fn unsettled(core: &mut [u64; RUN_NUMBERS], n: usize, q: Charged, f: u64) -> bool
+pub fn unsettled(core: &mut [u64; CORE_NUMBERS], n: usize, q: Charged, f: u64) -> bool
     requires { ⌜ (n < runMost) × (length (now core) ≡ 7 * runMost) × Each Ranged (chargedIn (now core) n) ⌝ }
     requires { ⌜ Ranged q ⌝ }
     requires { ⌜ f ≤ chargeMost ⌝ }
@@ -154,7 +154,7 @@ pub fn unsettled(core: &mut [u64; RUN_NUMBERS], n: usize, q: Charged, f: u64) ->
 
 // Where q's own charge leaves no busy length: what is left of it after some probes, from a charge that may leave one. The last few are left to the search, which
 // climbs for each as a probe does.
-pub fn busy_cap(core: &mut [u64; RUN_NUMBERS], n: usize, q: Charged, from: u64) -> u64
+pub fn busy_cap(core: &mut [u64; CORE_NUMBERS], n: usize, q: Charged, from: u64) -> u64
     requires { ⌜ (n < runMost) × (length (now core) ≡ 7 * runMost) × Each Ranged (chargedIn (now core) n) ⌝ }
     requires { ⌜ Ranged q ⌝ }
     requires { ⌜ (from < q .charge) × Unsettled (chargedIn (now core) n) q (q .charge) ⌝ }
@@ -172,7 +172,7 @@ pub fn busy_cap(core: &mut [u64; RUN_NUMBERS], n: usize, q: Charged, from: u64) 
 }
 
 // What a core with one piece behind its n tells. The charge of that piece is written anew where there is no busy length.
-pub fn bound_of(core: &mut [u64; RUN_NUMBERS], n: usize, b: u64) -> Bound
+pub fn bound_of(core: &mut [u64; CORE_NUMBERS], n: usize, b: u64) -> Bound
     requires { ⌜ (n < runMost) × (length (now core) ≡ 7 * runMost) × Each Ranged (chargedIn (now core) (n + 1)) ⌝ }
     requires { ⌜ (b ≤ stallMost) × (1 ≤ chargedAt (now core) n .charge) ⌝ }
     ensures { λ r. ⌜ Bounds b (chargedIn (now (core .entry)) n) (chargedAt (now (core .entry)) n) r × SameCore (now (core .entry)) (now (core .exit)) n ⌝ }

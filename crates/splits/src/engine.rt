@@ -6,6 +6,7 @@ use demand::Piece;
 use demand::RUN_NUMBERS;
 use demand::Verdict;
 use demand::charged_piece;
+use verdicts::CORE_NUMBERS;
 use verdicts::Sum;
 use verdicts::laid_busy_length;
 use verdicts::laid_largest_window;
@@ -54,7 +55,7 @@ pub fn stall_of(costs: Costs) -> u64
 }
 
 // The charged piece at place i.
-pub fn charged_at(core: &[u64; RUN_NUMBERS], i: usize) -> Charged
+pub fn charged_at(core: &[u64; CORE_NUMBERS], i: usize) -> Charged
     requires { ⌜ i < runMost ⌝ }
     ensures { λ r. ⌜ r ≡ chargedAt (now (core .entry)) i ⌝ }
 {
@@ -62,7 +63,7 @@ pub fn charged_at(core: &[u64; RUN_NUMBERS], i: usize) -> Charged
 }
 
 // The charged piece q goes to place i, behind those before it.
-pub fn put_charged(core: &mut [u64; RUN_NUMBERS], i: usize, q: Charged)
+pub fn put_charged(core: &mut [u64; CORE_NUMBERS], i: usize, q: Charged)
     requires { ⌜ (i < runMost) × (length (now core) ≡ 7 * runMost) ⌝ }
     ensures { λ r. ⌜ (chargedIn (now (core .exit)) (i + 1) ≡ chargedIn (now (core .entry)) i ++ (q ∷ [])) × (length (now (core .exit)) ≡ 7 * runMost) ⌝ }
 {
@@ -71,7 +72,7 @@ pub fn put_charged(core: &mut [u64; RUN_NUMBERS], i: usize, q: Charged)
 
 // The first n records of a run, each charged.
 pub fn lay_out<'a>(
-    core: &'a mut [u64; RUN_NUMBERS],
+    core: &'a mut [u64; CORE_NUMBERS],
     costs: Costs,
     records: &'a [u64; RUN_NUMBERS],
     n: usize,
@@ -84,7 +85,7 @@ pub fn lay_out<'a>(
 }
 
 // One of the sums over the first n pieces.
-pub fn sum_at(core: &[u64; RUN_NUMBERS], n: usize, sum: Sum, t: u64) -> u64
+pub fn sum_at(core: &[u64; CORE_NUMBERS], n: usize, sum: Sum, t: u64) -> u64
     requires { ⌜ (n ≤ runMost) × Each Ranged (chargedIn (now core) n) ⌝ }
     requires { ⌜ t ≤ lengthMost ⌝ }
     ensures { λ r. ⌜ (r ≡ total (term sum t) (chargedIn (now (core .entry)) n)) × (r ≤ 79000000000000000) ⌝ }
@@ -92,7 +93,7 @@ pub fn sum_at(core: &[u64; RUN_NUMBERS], n: usize, sum: Sum, t: u64) -> u64
     laid_sum(core, n, sum, t)
 }
 
-pub fn largest_window(core: &[u64; RUN_NUMBERS], n: usize) -> u64
+pub fn largest_window(core: &[u64; CORE_NUMBERS], n: usize) -> u64
     requires { ⌜ n ≤ runMost ⌝ }
     ensures { λ r. ⌜ r ≡ largestWindow (chargedIn (now (core .entry)) n) ⌝ }
 {
@@ -100,7 +101,7 @@ pub fn largest_window(core: &[u64; RUN_NUMBERS], n: usize) -> u64
 }
 
 // t0, where there is a piece.
-pub fn least_live(core: &[u64; RUN_NUMBERS], n: usize) -> u64
+pub fn least_live(core: &[u64; CORE_NUMBERS], n: usize) -> u64
     requires { ⌜ (1 ≤ n) × (n ≤ runMost) × Each Ranged (chargedIn (now core) n) ⌝ }
     ensures { λ r. ⌜ (r ≡ leastLive (chargedIn (now (core .entry)) n)) × (r ≤ timeMost) ⌝ }
 {
@@ -108,7 +109,7 @@ pub fn least_live(core: &[u64; RUN_NUMBERS], n: usize) -> u64
 }
 
 // The busy length of the n pieces, if there is one up to the limit.
-pub fn climb_busy(core: &[u64; RUN_NUMBERS], n: usize) -> Found
+pub fn climb_busy(core: &[u64; CORE_NUMBERS], n: usize) -> Found
     requires { ⌜ (n ≤ runMost) × Each Ranged (chargedIn (now core) n) ⌝ }
     ensures { λ r. ⌜ r ≡ busyLength (chargedIn (now (core .entry)) n) ⌝ }
 {
@@ -116,7 +117,7 @@ pub fn climb_busy(core: &[u64; RUN_NUMBERS], n: usize) -> Found
 }
 
 // The tight window of the last of the n pieces, where that is at most its own window.
-pub fn tight_of(core: &[u64; RUN_NUMBERS], n: usize, b: u64) -> Found
+pub fn tight_of(core: &[u64; CORE_NUMBERS], n: usize, b: u64) -> Found
     requires { ⌜ (1 ≤ n) × (n ≤ runMost) × Each Ranged (chargedIn (now core) n) ⌝ }
     requires { ⌜ b ≤ stallMost ⌝ }
     ensures { λ r. ⌜ r ≡ tightOfLast b (chargedIn (now (core .entry)) n) (chargedIn (now (core .entry)) n) ⌝ }
@@ -125,7 +126,7 @@ pub fn tight_of(core: &[u64; RUN_NUMBERS], n: usize, b: u64) -> Found
 }
 
 // The least length, up to top, that holds the base and all interrupts.
-pub fn climb(core: &[u64; RUN_NUMBERS], n: usize, base: u64, top: u64) -> Found
+pub fn climb(core: &[u64; CORE_NUMBERS], n: usize, base: u64, top: u64) -> Found
     requires { ⌜ (n ≤ runMost) × Each Ranged (chargedIn (now core) n) ⌝ }
     requires { ⌜ (base ≤ waitMost) × (top ≤ busyMost) ⌝ }
     ensures { λ r. ⌜ r ≡ leastHolding (λ t. base + total (term Interrupts t) (chargedIn (now (core .entry)) n)) top ⌝ }
@@ -134,7 +135,7 @@ pub fn climb(core: &[u64; RUN_NUMBERS], n: usize, base: u64, top: u64) -> Found
 }
 
 // The greatest overloaded length among the l from a.
-pub fn descend(core: &[u64; RUN_NUMBERS], n: usize, b: u64, a: u64, l: u64) -> Verdict
+pub fn descend(core: &[u64; CORE_NUMBERS], n: usize, b: u64, a: u64, l: u64) -> Verdict
     requires { ⌜ (n ≤ runMost) × Each Ranged (chargedIn (now core) n) ⌝ }
     requires { ⌜ (b ≤ stallMost) × (a ≤ timeMost) × (l ≤ busyMost) ⌝ }
     ensures { λ r. ⌜ r ≡ scan b (chargedIn (now (core .entry)) n) a l ⌝ }
@@ -143,7 +144,7 @@ pub fn descend(core: &[u64; RUN_NUMBERS], n: usize, b: u64, a: u64, l: u64) -> V
 }
 
 // The verdict on a core with the stall b.
-pub fn judge_core(core: &[u64; RUN_NUMBERS], n: usize, b: u64) -> Verdict
+pub fn judge_core(core: &[u64; CORE_NUMBERS], n: usize, b: u64) -> Verdict
     requires { ⌜ (n ≤ runMost) × Each Ranged (chargedIn (now core) n) ⌝ }
     requires { ⌜ b ≤ stallMost ⌝ }
     ensures { λ r. ⌜ r ≡ verdict b (chargedIn (now (core .entry)) n) ⌝ }
@@ -153,7 +154,7 @@ pub fn judge_core(core: &[u64; RUN_NUMBERS], n: usize, b: u64) -> Verdict
 
 // The greatest charge up to f with which q fits beside the n pieces at each of the l lengths from a, or 0.
 pub fn squeeze(
-    core: &[u64; RUN_NUMBERS],
+    core: &[u64; CORE_NUMBERS],
     n: usize,
     b: u64,
     q: Charged,

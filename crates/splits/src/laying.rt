@@ -3,9 +3,9 @@ use crate::engine::charged_of;
 use crate::engine::put_charged;
 use demand::Costs;
 use demand::Piece;
-use demand::RUN_NUMBERS;
 use demand::first_piece;
 use demand::last_piece;
+use verdicts::CORE_NUMBERS;
 ghost use mathlib.Core.Path.{_≡_};
 ghost use Prim.Native.Nat.{_+_, _*_, _≤_};
 ghost use lib.ListN.{length};
@@ -16,7 +16,14 @@ ghost use Rattle.verdicts.specs.ChargedArray.{chargedIn};
 ghost use Rattle.splits.specs.ways.SplitSearch.{Ready, SameCore};
 
 // The first piece of x, in the window w, goes behind the n pieces of the core.
-pub fn lay_first(core: &mut [u64; RUN_NUMBERS], n: usize, costs: Costs, task: Piece, x: u64, w: u64)
+pub fn lay_first(
+    core: &mut [u64; CORE_NUMBERS],
+    n: usize,
+    costs: Costs,
+    task: Piece,
+    x: u64,
+    w: u64,
+)
     requires { ⌜ SizedCosts costs ⌝ }
     requires { ⌜ Sized task ⌝ }
     requires { ⌜ Ready (now core) n ⌝ }
@@ -27,7 +34,7 @@ pub fn lay_first(core: &mut [u64; RUN_NUMBERS], n: usize, costs: Costs, task: Pi
 }
 
 // The last piece of x, beside a first one in the window w, lies alone.
-pub fn lay_last(alone: &mut [u64; RUN_NUMBERS], costs: Costs, task: Piece, x: u64, w: u64)
+pub fn lay_last(alone: &mut [u64; CORE_NUMBERS], costs: Costs, task: Piece, x: u64, w: u64)
     requires { ⌜ SizedCosts costs ⌝ }
     requires { ⌜ Sized task ⌝ }
     requires { ⌜ length (now alone) ≡ 7 * runMost ⌝ }

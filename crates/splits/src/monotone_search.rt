@@ -3,8 +3,8 @@
 use crate::engine::climb;
 use crate::engine::sum_at;
 use demand::Found;
-use demand::RUN_NUMBERS;
 use demand::lesser;
+use verdicts::CORE_NUMBERS;
 use verdicts::Sum;
 ghost use mathlib.Core.Path.{_≡_};
 ghost use mathlib.Core.Bool.{cond};
@@ -28,7 +28,7 @@ pub fn pick(first: bool, a: u64, b: u64) -> u64
     if first { a } else { b }
 }
 
-pub fn refused(core: &[u64; RUN_NUMBERS], n: usize, probe: Probe, m: u64) -> bool
+pub fn refused(core: &[u64; CORE_NUMBERS], n: usize, probe: Probe, m: u64) -> bool
     requires { ⌜ (n ≤ runMost) × Each Ranged (chargedIn (now core) n) ⌝ }
     requires { ⌜ Askable probe × (m ≤ timeMost) ⌝ }
     ensures { λ r. ⌜ ShowsIf (Refuses (chargedIn (now (core .entry)) n) probe m) r ⌝ }
@@ -44,7 +44,7 @@ pub fn refused(core: &[u64; RUN_NUMBERS], n: usize, probe: Probe, m: u64) -> boo
 }
 
 // The high end lowered as far as the probes go.
-pub fn lowered(core: &[u64; RUN_NUMBERS], n: usize, probe: Probe, from: u64, top: u64) -> u64
+pub fn lowered(core: &[u64; CORE_NUMBERS], n: usize, probe: Probe, from: u64, top: u64) -> u64
     requires { ⌜ (n ≤ runMost) × Each Ranged (chargedIn (now core) n) ⌝ }
     requires { ⌜ Askable probe × (from ≤ timeMost) × (top ≤ timeMost) ⌝ }
     ensures { λ r. ⌜ Lowered (Refuses (chargedIn (now (core .entry)) n) probe) top r ⌝ }

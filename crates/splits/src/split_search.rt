@@ -28,6 +28,7 @@ use demand::Verdict;
 use demand::first_piece;
 use demand::greater;
 use demand::less;
+use verdicts::CORE_NUMBERS;
 use verdicts::Sum;
 ghost use mathlib.Core.Path.{_≡_};
 ghost use Prim.Native.Nat.{_+_, _*_, _-_, _<_, _≤_, max};
@@ -54,7 +55,7 @@ pub enum Step {
 
 // The tight window of the first piece of x, where it leaves the last piece one: looked for up to one less than the task's own window.
 pub fn tight_first(
-    core: &mut [u64; RUN_NUMBERS],
+    core: &mut [u64; CORE_NUMBERS],
     n: usize,
     costs: Costs,
     task: Piece,
@@ -71,7 +72,7 @@ pub fn tight_first(
 }
 
 // One less than the last piece alone, in the window w, is overloaded at t, or 0.
-pub fn excess_at(alone: &[u64; RUN_NUMBERS], b: u64, w: u64, t: u64) -> u64
+pub fn excess_at(alone: &[u64; CORE_NUMBERS], b: u64, w: u64, t: u64) -> u64
     requires { ⌜ Each Ranged (chargedIn (now alone) 1) ⌝ }
     requires { ⌜ (b ≤ stallMost) × (w ≡ largestWindow (chargedIn (now alone) 1)) × (t ≤ lengthMost) ⌝ }
     ensures { λ r. ⌜ r ≡ demand b (chargedIn (now (alone .entry)) 1) t - (t + 1) ⌝ }
@@ -86,7 +87,7 @@ pub fn excess_at(alone: &[u64; RUN_NUMBERS], b: u64, w: u64, t: u64) -> u64
 // What the last piece of x alone tells. Where it has no busy length no longer one has; where it is overloaded by more than s, so is each longer one, as long as
 // its window is longer by no more than its budget and s.
 pub fn bound_last(
-    alone: &mut [u64; RUN_NUMBERS],
+    alone: &mut [u64; CORE_NUMBERS],
     costs: Costs,
     task: Piece,
     x: u64,
@@ -109,7 +110,7 @@ pub fn bound_last(
 
 // Down from x to where a tight window ends by the top, or to 0: no budget between has one.
 pub fn window_below(
-    core: &mut [u64; RUN_NUMBERS],
+    core: &mut [u64; CORE_NUMBERS],
     n: usize,
     costs: Costs,
     task: Piece,
@@ -130,7 +131,7 @@ pub fn window_below(
 
 // Down from x, whose last piece is overloaded by more than s: a smaller budget's is too, unless its tight window has more than s interrupts less.
 pub fn last_below(
-    core: &mut [u64; RUN_NUMBERS],
+    core: &mut [u64; CORE_NUMBERS],
     n: usize,
     costs: Costs,
     task: Piece,
@@ -154,7 +155,7 @@ pub fn last_below(
 
 // Down from x, which is overloaded at t: so is a smaller budget, unless it fits there with the stall, or its tight window ends by t.
 pub fn own_below(
-    core: &mut [u64; RUN_NUMBERS],
+    core: &mut [u64; CORE_NUMBERS],
     n: usize,
     costs: Costs,
     task: Piece,
@@ -176,7 +177,7 @@ pub fn own_below(
 }
 
 // Whether a job of the core is due by the end t of a tight window, where the stall still counts: w is J + t.
-pub fn due_by(core: &[u64; RUN_NUMBERS], n: usize, t: u64, w: u64) -> bool
+pub fn due_by(core: &[u64; CORE_NUMBERS], n: usize, t: u64, w: u64) -> bool
     requires { ⌜ (n ≤ runMost) × Each Ranged (chargedIn (now core) n) ⌝ }
     ensures { λ r. ⌜ ShowsIf ((1 ≤ n) × (leastLive (chargedIn (now (core .entry)) n) ≤ t) × (t < max (largestWindow (chargedIn (now (core .entry)) n)) w)) r ⌝ }
 {
@@ -191,7 +192,7 @@ pub fn due_by(core: &[u64; RUN_NUMBERS], n: usize, t: u64, w: u64) -> bool
 
 // What the core with the first piece of x tells, where the last piece passes.
 pub fn step_first(
-    core: &mut [u64; RUN_NUMBERS],
+    core: &mut [u64; CORE_NUMBERS],
     n: usize,
     costs: Costs,
     task: Piece,
@@ -220,8 +221,8 @@ pub fn step_first(
 
 // One candidate tried.
 pub fn try_split(
-    core: &mut [u64; RUN_NUMBERS],
-    alone: &mut [u64; RUN_NUMBERS],
+    core: &mut [u64; CORE_NUMBERS],
+    alone: &mut [u64; CORE_NUMBERS],
     n: usize,
     costs: Costs,
     task: Piece,
@@ -248,8 +249,8 @@ pub fn try_split(
 
 // Down from the top, as far at a time as each candidate tells.
 pub fn search(
-    core: &mut [u64; RUN_NUMBERS],
-    alone: &mut [u64; RUN_NUMBERS],
+    core: &mut [u64; CORE_NUMBERS],
+    alone: &mut [u64; CORE_NUMBERS],
     n: usize,
     costs: Costs,
     task: Piece,
@@ -293,9 +294,9 @@ pub fn greatest_split(
     if grain == 0 {
         return Split::Nowhere;
     }
-    let mut core: [u64; RUN_NUMBERS] = [0; RUN_NUMBERS];
+    let mut core: [u64; CORE_NUMBERS] = [0; CORE_NUMBERS];
     lay_out(&mut core, costs, records, n);
-    let mut alone: [u64; RUN_NUMBERS] = [0; RUN_NUMBERS];
+    let mut alone: [u64; CORE_NUMBERS] = [0; CORE_NUMBERS];
     let least = least_sum(&mut core, n, costs, task);
     let top = start_of(&mut core, n, costs, task, least);
     search(&mut core, &mut alone, n, costs, task, top, grain)

@@ -9,9 +9,9 @@ use crate::monotone_search::Probe;
 use crate::monotone_search::lowered;
 use demand::Costs;
 use demand::Piece;
-use demand::RUN_NUMBERS;
 use demand::less;
 use demand::lesser;
+use verdicts::CORE_NUMBERS;
 use verdicts::Sum;
 ghost use mathlib.Core.Path.{_≡_};
 ghost use mathlib.Core.Logic.{_⊎_};
@@ -24,7 +24,7 @@ ghost use Rattle.verdicts.specs.ChargedArray.{chargedIn};
 ghost use Rattle.splits.specs.ways.SplitSearch.{Ready, SameCore, Ends, Starts};
 
 // What a first piece without a budget waits for within length 1: no tight window is shorter than this and its budget.
-pub fn least_sum(core: &mut [u64; RUN_NUMBERS], n: usize, costs: Costs, task: Piece) -> u64
+pub fn least_sum(core: &mut [u64; CORE_NUMBERS], n: usize, costs: Costs, task: Piece) -> u64
     requires { ⌜ SizedCosts costs ⌝ }
     requires { ⌜ Sized task ⌝ }
     requires { ⌜ Ready (now core) n ⌝ }
@@ -48,7 +48,7 @@ pub fn due_most(costs: Costs, task: Piece) -> u64
 
 // What the t of each allowed split's tight window is below: it leaves the last piece a window, and what is due of the core by then is charged no more than the
 // stall, or than nothing where the task has jitter.
-pub fn tight_end(core: &[u64; RUN_NUMBERS], n: usize, costs: Costs, task: Piece) -> u64
+pub fn tight_end(core: &[u64; CORE_NUMBERS], n: usize, costs: Costs, task: Piece) -> u64
     requires { ⌜ SizedCosts costs ⌝ }
     requires { ⌜ Sized task ⌝ }
     requires { ⌜ Ready (now core) n ⌝ }
@@ -65,7 +65,7 @@ pub fn tight_end(core: &[u64; RUN_NUMBERS], n: usize, costs: Costs, task: Piece)
 
 // A budget that no allowed split is above: what is left below the end, and of that what the core has room for in the widest of these windows.
 pub fn start_of(
-    core: &mut [u64; RUN_NUMBERS],
+    core: &mut [u64; CORE_NUMBERS],
     n: usize,
     costs: Costs,
     task: Piece,

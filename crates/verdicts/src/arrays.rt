@@ -1,4 +1,5 @@
 // A core under judgement, laid out once in one array of numbers, seven to a piece, and lent from then on.
+use crate::CORE_NUMBERS;
 use demand::Charged;
 use demand::Costs;
 use demand::RUN_MOST;
@@ -15,7 +16,7 @@ ghost use Rattle.demand.specs.Sizes.{SizedCosts, Each, runMost};
 ghost use Rattle.demand.specs.ways.Ranges.{Countable, noCharge};
 
 // The charged piece at place i.
-pub fn charged_at(core: &[u64; RUN_NUMBERS], i: usize) -> Charged
+pub fn charged_at(core: &[u64; CORE_NUMBERS], i: usize) -> Charged
     requires { ⌜ i < runMost ⌝ }
     ensures { λ r. ⌜ r ≡ chargedAt (now (core .entry)) i ⌝ }
 {
@@ -46,7 +47,7 @@ fn no_charge() -> Charged
 }
 
 /// The charged piece at a place from 0 of a core that is laid out; past the last place all numbers are 0.
-pub fn laid_piece(core: &[u64; RUN_NUMBERS], i: usize) -> Charged
+pub fn laid_piece(core: &[u64; CORE_NUMBERS], i: usize) -> Charged
     ensures exact { λ r. ⌜ r ≡ laidPiece (now (core .entry)) i ⌝ }
 {
     if RUN_MOST <= i {
@@ -56,7 +57,7 @@ pub fn laid_piece(core: &[u64; RUN_NUMBERS], i: usize) -> Charged
 }
 
 /// Lays a charged piece out, as its seven numbers, at a place from 0; past the last place nothing changes.
-pub fn lay_piece(core: &mut [u64; RUN_NUMBERS], i: usize, q: Charged)
+pub fn lay_piece(core: &mut [u64; CORE_NUMBERS], i: usize, q: Charged)
     ensures exact { λ r. ⌜ now (core .exit) ≡ layPiece (now (core .entry)) i q ⌝ }
 {
     if RUN_MOST <= i {
@@ -74,7 +75,7 @@ pub fn lay_piece(core: &mut [u64; RUN_NUMBERS], i: usize, q: Charged)
 
 /// Lays the first n records of a run out, each charged.
 pub fn lay_records<'a>(
-    core: &'a mut [u64; RUN_NUMBERS],
+    core: &'a mut [u64; CORE_NUMBERS],
     costs: Costs,
     records: &'a [u64; RUN_NUMBERS],
     n: usize,
@@ -93,7 +94,7 @@ pub fn lay_records<'a>(
 
 // The same of records that can be charged.
 pub fn lay_out<'a>(
-    core: &'a mut [u64; RUN_NUMBERS],
+    core: &'a mut [u64; CORE_NUMBERS],
     costs: Costs,
     records: &'a [u64; RUN_NUMBERS],
     n: usize,

@@ -1,12 +1,12 @@
 // The busy length, climbed by leaps. A plain climb goes from l to what is asked at l, and creeps where the pieces take up nearly all time. So each pass also tells
 // how far every length from l on that holds the busy sum must reach: a piece whose next release is at the edge or later asks for the jobs it has by l, any
 // other for its share of the length. Such a leap is at most about the largest period, so where a long climb gains little by it, a whole stretch of lengths is walked.
+use crate::CORE_NUMBERS;
 use crate::arrays::charged_at;
 use crate::demands::ceil_div;
 use crate::release_sums::held_from;
 use demand::Charged;
 use demand::Found;
-use demand::RUN_NUMBERS;
 use demand::greater;
 ghost use mathlib.Core.Path.{_≡_};
 ghost use Prim.Native.Nat.{_+_, _<_, _≤_};
@@ -45,7 +45,7 @@ pub fn flow_of(q: Charged, l: u64, edge: u64) -> Flow
     }
 }
 
-pub fn flow_at(core: &[u64; RUN_NUMBERS], n: usize, l: u64, edge: u64) -> Flow
+pub fn flow_at(core: &[u64; CORE_NUMBERS], n: usize, l: u64, edge: u64) -> Flow
     requires { ⌜ (n ≤ runMost) × Each Ranged (chargedIn (now core) n) ⌝ }
     requires { ⌜ l ≤ lengthMost ⌝ }
     ensures { λ r. ⌜ Flows (busySum (chargedIn (now (core .entry)) n)) l r × (r .asked ≤ 79000000000000000) ⌝ }
@@ -88,7 +88,7 @@ pub fn reach_of(f: Flow) -> u64
 }
 
 // Where the climb goes on from l: to `next` where that is far, else through the stretch from l on.
-pub fn leap(core: &[u64; RUN_NUMBERS], n: usize, l: u64, asked: u64, next: u64) -> u64
+pub fn leap(core: &[u64; CORE_NUMBERS], n: usize, l: u64, asked: u64, next: u64) -> u64
     requires { ⌜ (n ≤ runMost) × Each Ranged (chargedIn (now core) n) ⌝ }
     requires { ⌜ (l ≤ busyMost) × (asked ≡ busySum (chargedIn (now core) n) l) × (asked ≤ 79000000000000000) × Clear (busySum (chargedIn (now core) n)) (l + 1) ⌝ }
     requires { ⌜ Clear (busySum (chargedIn (now core) n)) next ⌝ }
@@ -102,7 +102,7 @@ pub fn leap(core: &[u64; RUN_NUMBERS], n: usize, l: u64, asked: u64, next: u64) 
 
 // The climb from l on, where it is long. Each pass looks ahead by the mean of the last look and the last leap. A turn ends the climb or gains 256 lengths, so there are at
 // most 390,626.
-pub fn climb_far(core: &[u64; RUN_NUMBERS], n: usize, from: u64) -> Found
+pub fn climb_far(core: &[u64; CORE_NUMBERS], n: usize, from: u64) -> Found
     requires { ⌜ (n ≤ runMost) × Each Ranged (chargedIn (now core) n) ⌝ }
     requires { ⌜ (1 ≤ from) × Clear (busySum (chargedIn (now core) n)) from ⌝ }
     ensures { λ r. ⌜ r ≡ busyLength (chargedIn (now (core .entry)) n) ⌝ }
@@ -130,7 +130,7 @@ pub fn climb_far(core: &[u64; RUN_NUMBERS], n: usize, from: u64) -> Found
 
 // The busy length of the n pieces, if there is one up to the limit. The first pass lets all pieces flow: where they take up more than all time there is none. While the
 // climb is short, the others go by what is asked alone.
-pub fn climb_busy(core: &[u64; RUN_NUMBERS], n: usize) -> Found
+pub fn climb_busy(core: &[u64; CORE_NUMBERS], n: usize) -> Found
     requires { ⌜ (n ≤ runMost) × Each Ranged (chargedIn (now core) n) ⌝ }
     ensures { λ r. ⌜ r ≡ busyLength (chargedIn (now (core .entry)) n) ⌝ }
 {

@@ -1,8 +1,8 @@
 // Jobs due, interrupts, the sums and the demand g(t), over charged pieces. Nothing wraps: lengths are at most 101,000,000.
+use crate::CORE_NUMBERS;
 use crate::Sum;
 use crate::arrays::charged_at;
 use demand::Charged;
-use demand::RUN_NUMBERS;
 use demand::greater;
 use demand::less;
 use demand::lesser;
@@ -96,7 +96,7 @@ pub fn term_of(sum: Sum, q: Charged, t: u64) -> u64
 }
 
 // One of the sums over the first n pieces.
-pub fn sum_at(core: &[u64; RUN_NUMBERS], n: usize, sum: Sum, t: u64) -> u64
+pub fn sum_at(core: &[u64; CORE_NUMBERS], n: usize, sum: Sum, t: u64) -> u64
     requires { ⌜ (n ≤ runMost) × Each Ranged (chargedIn (now core) n) ⌝ }
     requires { ⌜ t ≤ lengthMost ⌝ }
     ensures { λ r. ⌜ (r ≡ total (term sum t) (chargedIn (now (core .entry)) n)) × (r ≤ 79000000000000000) ⌝ }
@@ -111,7 +111,7 @@ pub fn sum_at(core: &[u64; RUN_NUMBERS], n: usize, sum: Sum, t: u64) -> u64
     so_far
 }
 
-pub fn largest_window(core: &[u64; RUN_NUMBERS], n: usize) -> u64
+pub fn largest_window(core: &[u64; CORE_NUMBERS], n: usize) -> u64
     requires { ⌜ n ≤ runMost ⌝ }
     ensures { λ r. ⌜ r ≡ largestWindow (chargedIn (now (core .entry)) n) ⌝ }
 {
@@ -126,7 +126,7 @@ pub fn largest_window(core: &[u64; RUN_NUMBERS], n: usize) -> u64
 }
 
 // t0, where there is a piece.
-pub fn least_live(core: &[u64; RUN_NUMBERS], n: usize) -> u64
+pub fn least_live(core: &[u64; CORE_NUMBERS], n: usize) -> u64
     requires { ⌜ (1 ≤ n) × (n ≤ runMost) ⌝ }
     ensures { λ r. ⌜ r ≡ leastLive (chargedIn (now (core .entry)) n) ⌝ }
 {
@@ -142,7 +142,7 @@ pub fn least_live(core: &[u64; RUN_NUMBERS], n: usize) -> u64
 }
 
 // g(t), for a core with the stall b and the largest window w.
-pub fn demand_at(core: &[u64; RUN_NUMBERS], n: usize, b: u64, w: u64, t: u64) -> u64
+pub fn demand_at(core: &[u64; CORE_NUMBERS], n: usize, b: u64, w: u64, t: u64) -> u64
     requires { ⌜ (n ≤ runMost) × Each Ranged (chargedIn (now core) n) ⌝ }
     requires { ⌜ (b ≤ stallMost) × (w ≡ largestWindow (chargedIn (now core) n)) × (t ≤ lengthMost) ⌝ }
     ensures { λ r. ⌜ r ≡ demand b (chargedIn (now (core .entry)) n) t ⌝ }

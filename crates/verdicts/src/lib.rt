@@ -27,6 +27,7 @@ use demand::Check;
 use demand::Costs;
 use demand::Figure;
 use demand::Found;
+use demand::RUN_MOST;
 use demand::RUN_NUMBERS;
 use demand::Run;
 use demand::TIME_MOST;
@@ -48,6 +49,9 @@ use spans::judge_core;
 ghost use mathlib.Core.Path.{_≡_};
 ghost use Rattle.demand.specs.Answer.{answerOf, busyFigure, demandFigure, tightFigure};
 ghost use Rattle.demand.specs.Records.{recordsOf};
+
+/// How many numbers a core that is laid out is, seven to a charged piece. As many as a lent run of records, with other columns.
+pub const CORE_NUMBERS: usize = 7 * RUN_MOST;
 
 /// What no judged length reaches: the limit of the busy length and a window.
 pub const LENGTH_MOST: u64 = BUSY_MOST + TIME_MOST;
@@ -79,7 +83,7 @@ pub fn judge_records(costs: Costs, records: &[u64; RUN_NUMBERS], count: usize) -
     match check_records(costs, records, count) {
         Check::Bad(why) => Answer::Refused(why),
         Check::Fine => {
-            let mut core: [u64; RUN_NUMBERS] = [0; RUN_NUMBERS];
+            let mut core: [u64; CORE_NUMBERS] = [0; CORE_NUMBERS];
             lay_out(&mut core, costs, records, count);
             Answer::Judged(judge_core(&core, count, stall_of(costs)))
         }
@@ -102,7 +106,7 @@ pub fn busy_length(costs: Costs, records: &[u64; RUN_NUMBERS], count: usize) -> 
     match check_records(costs, records, count) {
         Check::Bad(why) => Figure::Barred(why),
         Check::Fine => {
-            let mut core: [u64; RUN_NUMBERS] = [0; RUN_NUMBERS];
+            let mut core: [u64; CORE_NUMBERS] = [0; CORE_NUMBERS];
             lay_out(&mut core, costs, records, count);
             Figure::Of(climb_busy(&core, count))
         }
@@ -119,7 +123,7 @@ pub fn demand_of(costs: Costs, records: &[u64; RUN_NUMBERS], count: usize, t: u6
             if LENGTH_MOST < t {
                 return Figure::Of(Found::Nothing);
             }
-            let mut core: [u64; RUN_NUMBERS] = [0; RUN_NUMBERS];
+            let mut core: [u64; CORE_NUMBERS] = [0; CORE_NUMBERS];
             lay_out(&mut core, costs, records, count);
             let w = largest_window(&core, count);
             Figure::Of(Found::At(demand_at(&core, count, stall_of(costs), w, t)))
@@ -137,7 +141,7 @@ pub fn tight_window(costs: Costs, records: &[u64; RUN_NUMBERS], count: usize) ->
             if count == 0 {
                 return Figure::Of(Found::Nothing);
             }
-            let mut core: [u64; RUN_NUMBERS] = [0; RUN_NUMBERS];
+            let mut core: [u64; CORE_NUMBERS] = [0; CORE_NUMBERS];
             lay_out(&mut core, costs, records, count);
             Figure::Of(tight_of(&core, count, stall_of(costs)))
         }

@@ -1,5 +1,6 @@
 // How much a piece may be charged beside a core: a walk down that lowers its charge wherever it does not fit. One walk so tells of every smaller
 // charge at once, where a verdict tells of one.
+use crate::CORE_NUMBERS;
 use crate::arrays::charged_at;
 use crate::demands::demand_at;
 use crate::demands::interrupts_of;
@@ -7,7 +8,6 @@ use crate::demands::jobs_due;
 use crate::demands::largest_window;
 use crate::spans::next_end;
 use demand::Charged;
-use demand::RUN_NUMBERS;
 use demand::greater;
 use demand::less;
 use demand::lesser;
@@ -83,7 +83,7 @@ pub fn piece_start(q: Charged, t: u64) -> u64
 }
 
 // From where on the demand of the n pieces and of q is as at t.
-pub fn stretch_start(core: &[u64; RUN_NUMBERS], n: usize, q: Charged, t: u64) -> u64
+pub fn stretch_start(core: &[u64; CORE_NUMBERS], n: usize, q: Charged, t: u64) -> u64
     requires { ⌜ (n ≤ runMost) × Each Ranged (chargedIn (now core) n) ⌝ }
     requires { ⌜ Ranged q ⌝ }
     requires { ⌜ t ≤ lengthMost ⌝ }
@@ -99,7 +99,7 @@ pub fn stretch_start(core: &[u64; RUN_NUMBERS], n: usize, q: Charged, t: u64) ->
 
 // The greatest charge up to f that fits at t; w is the largest window of the n pieces. Where none fits, all is 0.
 pub fn level_at(
-    core: &[u64; RUN_NUMBERS],
+    core: &[u64; CORE_NUMBERS],
     n: usize,
     b: u64,
     w: u64,
@@ -140,7 +140,7 @@ pub fn level_at(
 // One step down: what fits at t, and where that is less than f, what of it fits where the demand at t begins, since it fits least there. The walk goes on below
 // what is asked for at t with that.
 pub fn lower(
-    core: &[u64; RUN_NUMBERS],
+    core: &[u64; CORE_NUMBERS],
     n: usize,
     b: u64,
     w: u64,
@@ -178,7 +178,7 @@ pub fn lower(
 // The greatest charge up to f with which q fits beside the n pieces at each of the l lengths from a, or 0: down from the last of them, with f lowered wherever it
 // does not fit.
 pub fn squeeze(
-    core: &[u64; RUN_NUMBERS],
+    core: &[u64; CORE_NUMBERS],
     n: usize,
     b: u64,
     q: Charged,

@@ -1,5 +1,6 @@
 // What is asked of a core that is laid out. Where a sum could wrap, since the array holds no core or a number is past its bound, the answer is refused.
 use crate::CHARGE_MOST;
+use crate::CORE_NUMBERS;
 use crate::LENGTH_MOST;
 use crate::RELEASE_MOST;
 use crate::STALL_MOST;
@@ -20,7 +21,6 @@ use demand::COST_MOST;
 use demand::Charged;
 use demand::Found;
 use demand::RUN_MOST;
-use demand::RUN_NUMBERS;
 use demand::TIME_MOST;
 use demand::Verdict;
 ghost use mathlib.Core.Path.{_≡_};
@@ -62,7 +62,7 @@ fn ranged_piece(q: Charged) -> bool
 }
 
 // Whether the first n places hold a core.
-fn holds_core(core: &[u64; RUN_NUMBERS], n: usize) -> bool
+fn holds_core(core: &[u64; CORE_NUMBERS], n: usize) -> bool
     ensures { λ r. ⌜ Tells ((n ≤ runMost) × Each Ranged (chargedIn (now (core .entry)) n)) r ⌝ }
 {
     if RUN_MOST < n {
@@ -79,7 +79,7 @@ fn holds_core(core: &[u64; RUN_NUMBERS], n: usize) -> bool
 }
 
 /// A figure of the pieces of a core that is laid out, summed at the length t; 0 where it is none, or t is no judged length.
-pub fn laid_sum(core: &[u64; RUN_NUMBERS], n: usize, sum: Sum, t: u64) -> u64
+pub fn laid_sum(core: &[u64; CORE_NUMBERS], n: usize, sum: Sum, t: u64) -> u64
     ensures exact { λ r. ⌜ r ≡ laidSum sum t (laid (now (core .entry)) n) ⌝ }
 {
     if LENGTH_MOST < t {
@@ -92,7 +92,7 @@ pub fn laid_sum(core: &[u64; RUN_NUMBERS], n: usize, sum: Sum, t: u64) -> u64
 }
 
 /// The largest window of the first n pieces that are laid out, of at most 79.
-pub fn laid_largest_window(core: &[u64; RUN_NUMBERS], n: usize) -> u64
+pub fn laid_largest_window(core: &[u64; CORE_NUMBERS], n: usize) -> u64
     ensures exact { λ r. ⌜ r ≡ largestWindow (laidPieces (now (core .entry)) n) ⌝ }
 {
     if RUN_MOST < n {
@@ -102,7 +102,7 @@ pub fn laid_largest_window(core: &[u64; RUN_NUMBERS], n: usize) -> u64
 }
 
 /// Their least live length, or 0 where there is no piece.
-pub fn laid_least_live(core: &[u64; RUN_NUMBERS], n: usize) -> u64
+pub fn laid_least_live(core: &[u64; CORE_NUMBERS], n: usize) -> u64
     ensures exact { λ r. ⌜ r ≡ leastLive (laidPieces (now (core .entry)) n) ⌝ }
 {
     if n == 0 {
@@ -115,7 +115,7 @@ pub fn laid_least_live(core: &[u64; RUN_NUMBERS], n: usize) -> u64
 }
 
 /// The busy length of a core that is laid out, if there is one up to the limit.
-pub fn laid_busy_length(core: &[u64; RUN_NUMBERS], n: usize) -> Found
+pub fn laid_busy_length(core: &[u64; CORE_NUMBERS], n: usize) -> Found
     ensures exact { λ r. ⌜ r ≡ laidBusyLength (laid (now (core .entry)) n) ⌝ }
 {
     if !holds_core(core, n) {
@@ -125,7 +125,7 @@ pub fn laid_busy_length(core: &[u64; RUN_NUMBERS], n: usize) -> Found
 }
 
 /// The tight window of the last piece of a core that is laid out, with the stall b, where that is at most its own window.
-pub fn laid_tight_window(core: &[u64; RUN_NUMBERS], n: usize, b: u64) -> Found
+pub fn laid_tight_window(core: &[u64; CORE_NUMBERS], n: usize, b: u64) -> Found
     ensures exact { λ r. ⌜ r ≡ laidTightWindow b (laid (now (core .entry)) n) ⌝ }
 {
     if STALL_MOST < b {
@@ -141,7 +141,7 @@ pub fn laid_tight_window(core: &[u64; RUN_NUMBERS], n: usize, b: u64) -> Found
 }
 
 /// The least length up to the top that holds the base and all interrupts of a core that is laid out which come within it.
-pub fn laid_wait(core: &[u64; RUN_NUMBERS], n: usize, base: u64, top: u64) -> Found
+pub fn laid_wait(core: &[u64; CORE_NUMBERS], n: usize, base: u64, top: u64) -> Found
     ensures exact { λ r. ⌜ r ≡ laidWait base top (laid (now (core .entry)) n) ⌝ }
 {
     if WAIT_MOST < base {
@@ -157,7 +157,7 @@ pub fn laid_wait(core: &[u64; RUN_NUMBERS], n: usize, base: u64, top: u64) -> Fo
 }
 
 /// The greatest overloaded length among the l from a, of a core that is laid out, with the stall b.
-pub fn laid_span(core: &[u64; RUN_NUMBERS], n: usize, b: u64, a: u64, l: u64) -> Verdict
+pub fn laid_span(core: &[u64; CORE_NUMBERS], n: usize, b: u64, a: u64, l: u64) -> Verdict
     ensures exact { λ r. ⌜ r ≡ laidSpan b a l (laid (now (core .entry)) n) ⌝ }
 {
     if STALL_MOST < b {
@@ -176,7 +176,7 @@ pub fn laid_span(core: &[u64; RUN_NUMBERS], n: usize, b: u64, a: u64, l: u64) ->
 }
 
 /// The verdict on a core that is laid out, with the stall b.
-pub fn laid_verdict(core: &[u64; RUN_NUMBERS], n: usize, b: u64) -> Verdict
+pub fn laid_verdict(core: &[u64; CORE_NUMBERS], n: usize, b: u64) -> Verdict
     ensures exact { λ r. ⌜ r ≡ laidVerdict b (laid (now (core .entry)) n) ⌝ }
 {
     if STALL_MOST < b {
@@ -190,7 +190,7 @@ pub fn laid_verdict(core: &[u64; RUN_NUMBERS], n: usize, b: u64) -> Verdict
 
 /// The greatest charge up to f with which q fits beside a core that is laid out, with the stall b, at each of the l lengths from a, or 0.
 pub fn laid_most_fitting(
-    core: &[u64; RUN_NUMBERS],
+    core: &[u64; CORE_NUMBERS],
     n: usize,
     b: u64,
     q: Charged,

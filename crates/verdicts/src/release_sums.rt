@@ -1,9 +1,9 @@
 // A stretch of 1,024 lengths at once. From one length to the next the busy sum grows by the jobs released at the first, so the costs of the jobs are marked where they
 // are released, and one walk over the marks tells the first length past l that holds the busy sum.
+use crate::CORE_NUMBERS;
 use crate::arrays::charged_at;
 use crate::demands::ceil_div;
 use demand::Charged;
-use demand::RUN_NUMBERS;
 ghost use mathlib.Core.Path.{_≡_};
 ghost use Prim.Native.Nat.{ℕ, _+_, _<_, _≤_};
 ghost use lib.ListN.{length};
@@ -29,7 +29,7 @@ pub fn mark(marks: &mut [u64; 1024], q: Charged, l: u64)
 }
 
 // Over marks that are all 0.
-pub fn mark_all<'a>(marks: &'a mut [u64; 1024], core: &'a [u64; RUN_NUMBERS], n: usize, l: u64)
+pub fn mark_all<'a>(marks: &'a mut [u64; 1024], core: &'a [u64; CORE_NUMBERS], n: usize, l: u64)
     requires { ⌜ (n ≤ runMost) × Each Ranged (chargedIn (now core) n) ⌝ }
     requires { ⌜ (l ≤ busyMost) × (length (now marks) ≡ 1024) × Under 0 (now marks) ⌝ }
     ensures { λ r. ⌜ Marks (busySum (chargedIn (now (core .entry)) n)) l (now (marks .exit)) × Under 200000000 (now (marks .exit)) ⌝ }
@@ -62,7 +62,7 @@ pub fn first_held(marks: &[u64; 1024], l: u64, asked: u64) -> u64
 }
 
 // The same of the busy sum of a core.
-pub fn held_from(core: &[u64; RUN_NUMBERS], n: usize, l: u64, asked: u64) -> u64
+pub fn held_from(core: &[u64; CORE_NUMBERS], n: usize, l: u64, asked: u64) -> u64
     requires { ⌜ (n ≤ runMost) × Each Ranged (chargedIn (now core) n) ⌝ }
     requires { ⌜ (l ≤ busyMost) × (asked ≡ busySum (chargedIn (now core) n) l) × (asked ≤ 79000000000000000) × Clear (busySum (chargedIn (now core) n)) (l + 1) ⌝ }
     ensures { λ r. ⌜ (l < r) × (r ≤ l + 1024) × Clear (busySum (chargedIn (now (core .entry)) n)) r × (r < l + 1024 → busySum (chargedIn (now (core .entry)) n) r ≤ r) ⌝ }

@@ -1,10 +1,10 @@
 // The verdict over the judged span: from its top down by QPA (001), with care at the largest window.
+use crate::CORE_NUMBERS;
 use crate::busy_climb::climb_busy;
 use crate::demands::demand_at;
 use crate::demands::largest_window;
 use crate::demands::least_live;
 use demand::Found;
-use demand::RUN_NUMBERS;
 use demand::Verdict;
 use demand::greater;
 ghost use mathlib.Core.Path.{_≡_};
@@ -24,7 +24,7 @@ pub fn next_end(g: u64, w: u64, t: u64) -> u64
 }
 
 // The greatest overloaded length among the l from a. All lengths from `end` up are known to be calm.
-pub fn descend(core: &[u64; RUN_NUMBERS], n: usize, b: u64, a: u64, l: u64) -> Verdict
+pub fn descend(core: &[u64; CORE_NUMBERS], n: usize, b: u64, a: u64, l: u64) -> Verdict
     requires { ⌜ (n ≤ runMost) × Each Ranged (chargedIn (now core) n) ⌝ }
     requires { ⌜ (b ≤ stallMost) × (a ≤ timeMost) × (l ≤ busyMost) ⌝ }
     ensures { λ r. ⌜ r ≡ scan b (chargedIn (now (core .entry)) n) a l ⌝ }
@@ -43,7 +43,7 @@ pub fn descend(core: &[u64; RUN_NUMBERS], n: usize, b: u64, a: u64, l: u64) -> V
 }
 
 // The verdict on a core with the stall b.
-pub fn judge_core(core: &[u64; RUN_NUMBERS], n: usize, b: u64) -> Verdict
+pub fn judge_core(core: &[u64; CORE_NUMBERS], n: usize, b: u64) -> Verdict
     requires { ⌜ (n ≤ runMost) × Each Ranged (chargedIn (now core) n) ⌝ }
     requires { ⌜ b ≤ stallMost ⌝ }
     ensures { λ r. ⌜ r ≡ verdict b (chargedIn (now (core .entry)) n) ⌝ }

@@ -12,7 +12,7 @@
 --   shared-firsts, shares-firsts  an item has one piece, and another where it has a first piece
 --   shared-free                   with costs, J and P zero the window of a first piece is its budget
 use mathlib.Core.Path.{_≡_, refl, ap, _∙_, subst}
-use mathlib.Core.Bool.{Bool, true, false}
+use mathlib.Core.Bool.{Bool, true, false, cond}
 use mathlib.Core.List.{List, [], _∷_, _++_, append-nil, map}
 use Prim.Native.Nat.{ℕ, zero, suc, _+_, _-_, _≤_, _<_}
 use native.Mathlib.Omega.{arith}
@@ -28,6 +28,7 @@ use Rattle.demand.specs.declared.Split.the-variants.{Cut, Nowhere}
 use Rattle.demand.specs.Sizes.{Sized, SizedCosts, Each}
 use Rattle.demand.specs.Charge.{coreOf, stall}
 use Rattle.demand.specs.Verdict.{verdictOf}
+use Rattle.demand.specs.Kinds.{departs}
 use Rattle.demand.specs.Split.{pieceOf, firstPiece, lastPiece, passes, greatestSplit, Splits}
 use Rattle.demand.proofs.Sums.{each-snoc}
 use Rattle.demand.proofs.BusyLaws.{least-unique}
@@ -36,7 +37,7 @@ use Rattle.demand.proofs.SplitLaws.{Parts, split-parts, split-means, Free, tigh
 use Rattle.walks.specs.Way.{Spot, Placed, placedAs, Landing, refuses, fine, stuck, walkOver, rowOf}
 use Rattle.walks.specs.Shares.{Divides, Kinds, Shares, nil, more}
 use Rattle.walks.specs.Kept.{Meet}
-use Rattle.walks.specs.Halves.{Stand, inOne, inTwo, fromCore, halving, Shared, one-piece, two-pieces, splitCount, isFirst}
+use Rattle.walks.specs.Halves.{Stand, inOne, inTwo, fromCore, halving, Shared, one-piece, two-pieces, splitCount}
 use Rattle.walks.proofs.ListLaws.{sum-append}
 use Rattle.walks.proofs.WayLaws.{IfLands, sticks-at}
 use Rattle.walks.proofs.SoundLaws.{row-append, Claim, Sound}
@@ -279,7 +280,7 @@ module _ {A : Type 0} (c : Costs) (g m : ℕ) (w : A → Piece) (plain : (a : A)
       omega (
         arith,
         length-append (map (placedAs a) k) l,
-        sum-append (λ (e : Placed A). isFirst (e .piece .kind)) (map (placedAs a) k) l,
+        sum-append (λ (e : Placed A). cond (departs (e .piece .kind)) 1 0) (map (placedAs a) k) l,
         shares-firsts r,
         shared-firsts c g (w a) a (plain a) (s .1),
       )

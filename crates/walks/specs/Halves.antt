@@ -6,14 +6,13 @@
 --   fromCore c g w n p row the whole piece w from core p on, with n cores after it and that row on it: the four rules
 --   halving c g m whole    the way on m cores, at the costs c and the grain g, for items of which each has its whole piece
 --   Shared c g w a l       l is all of an item a with the whole piece w: whole on a core, or by a greatest split on a core and the next
---   splitCount l           how many first pieces are placed: a split makes one
+--   splitCount l           how many pieces depart: a split makes one
 use mathlib.Core.Path.{_≡_}
-use mathlib.Core.Bool.{Bool, true, false}
+use mathlib.Core.Bool.{Bool, true, false, cond}
 use mathlib.Core.List.{List, [], _∷_, _++_}
 use Prim.Native.Nat.{ℕ, zero, suc, _-_, _*_}
 use lib.Dec.{ltb}
-use Rattle.demand.specs.declared.Kind.{Kind}
-use Rattle.demand.specs.declared.Kind.the-variants.{Whole, First, Last}
+use Rattle.demand.specs.Kinds.{departs}
 use Rattle.demand.specs.declared.Piece.{Piece}
 use Rattle.demand.specs.declared.Costs.{Costs}
 use Rattle.demand.specs.declared.Verdict.the-variants.{Passes}
@@ -59,10 +58,5 @@ pub data Shared {A : Type 0} (c : Costs) (g : ℕ) (w : Piece) (a : A) : List (P
   one-piece : {p : ℕ} → Shared c g w a (record { on = p; item = a; piece = w } ∷ [])
   two-pieces : {p x v : ℕ} (row : List Piece) → Each Sized row → verdictOf c row ≡ Passes → greatestSplit c g row w ≡ Cut x v → Shared c g w a (record { on = p; item = a; piece = firstPiece w x v } ∷ record { on = suc p; item = a; piece = lastPiece c w x v } ∷ [])
 
-abbrev pub isFirst : Kind → ℕ
-isFirst Whole = 0
-isFirst First = 1
-isFirst Last = 0
-
 abbrev pub splitCount : {A : Type 0} → List (Placed A) → ℕ
-splitCount l = sumBy (λ e. isFirst (e .piece .kind)) l
+splitCount l = sumBy (λ e. cond (departs (e .piece .kind)) 1 0) l
