@@ -541,9 +541,11 @@ impl<T: Tally> Lean<T> {
             Verdict::Passes => {}
             Verdict::Undecided => return (Err(0), Settled::LastEnds),
             Verdict::Overloaded(u) => {
-                let s = self
-                    .demand(&rest, ask.stall, deadline - w, u)
-                    .saturating_sub(u + 1);
+                let mut excess = |t| {
+                    let g = self.demand(&rest, ask.stall, deadline - w, t);
+                    g.saturating_sub(t + 1)
+                };
+                let s = excess(u).max(excess(least_live(&rest)));
                 let below = self.last_below(all, base, x, t, s);
                 return (Err(below), Settled::LastFalls);
             }

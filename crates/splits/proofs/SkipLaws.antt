@@ -286,11 +286,18 @@ module _ (c : Costs) (p : Piece) (ok : Sized p) (x w u : ℕ) (over : verdict (s
       let due = alone-live q (q .window) (omega (arith, jobs-due-some q (q .window) (omega arith))) in
       omega (arith, over-means .3 .below, over-means .2 .within, least-le (over-means .2 .start) (q .window) due, window-most p ok)
 
-  -- by one less than it is overloaded there
-  pub last-falls : x ≤ p .budget → w ≤ p .window → (s : ℕ) → s ≡ demand (stall c) (lastAlone c p x w) u - (u + 1) → Hopeless c p x w s
-  last-falls fits inside s late =
-      last-hopeless c p ok x w u (live-mono (lastAlone c p x w) (last-recurs c p x w ok) (over-means .3 .from) (over-means .2 .start .here))
-      fits inside s (omega (arith, over-means .3 .over))
+  -- by one less than it is overloaded, there or at the least live length
+  pub last-falls : x ≤ p .budget → w ≤ p .window → (a m n s : ℕ) → a ≡ leastLive (lastAlone c p x w)
+      → m ≡ demand (stall c) (lastAlone c p x w) u - (u + 1) → n ≡ demand (stall c) (lastAlone c p x w) a - (a + 1) → s ≡ max m n
+      → Hopeless c p x w s
+  last-falls fits inside a m n s least late soon is = elim (decLt m n) [
+    | yes more ↦
+        last-hopeless c p ok x w a (subst (λ (t : ℕ). Live (lastAlone c p x w) t) (sym least)
+        (least-live-some (lastAlone c p x w) (last-one c p x w) .here)) fits inside s (omega arith)
+    | no less ↦
+        last-hopeless c p ok x w u (live-mono (lastAlone c p x w) (last-recurs c p x w ok) (over-means .3 .from) (over-means .2 .start .here))
+        fits inside s (omega (arith, over-means .3 .over))
+  ]
 
 -- ---- how far down the next may stand
 

@@ -85,7 +85,7 @@ pub fn excess_at(alone: &[u64; CORE_NUMBERS], b: u64, w: u64, t: u64) -> u64
 }
 
 // What the last piece of x alone tells. Where it has no busy length no longer one has; where it is overloaded by more than s, so is each longer one, as long as
-// its window is longer by no more than its budget and s.
+// its window is longer by no more than its budget and s. The greatest overloaded length has the least excess, so the least live one is looked at too.
 pub fn bound_last(
     alone: &mut [u64; CORE_NUMBERS],
     costs: Costs,
@@ -104,7 +104,12 @@ pub fn bound_last(
     match judge_core(alone, 1, b) {
         Verdict::Passes => Bound::Stands,
         Verdict::Undecided => Bound::AtMost(0),
-        Verdict::Overloaded(t) => { Bound::Falls(excess_at(alone, b, task.window - w, t)) }
+        Verdict::Overloaded(t) => {
+            let left = task.window - w;
+            let late = excess_at(alone, b, left, t);
+            let soon = excess_at(alone, b, left, least_live(alone, 1));
+            Bound::Falls(greater(late, soon))
+        }
     }
 }
 

@@ -1,10 +1,11 @@
--- `split_search::bound_last` meets its contract: the verdict on the last piece, and where it is overloaded its excess there.
+-- `split_search::bound_last` meets its contract: the verdict on the last piece, and where it is overloaded its excess there and at the least live length.
 use mathlib.Core.Path.{_≡_, refl, sym, ap, _∙_}
 use mathlib.Core.List.{List}
 use Prim.Native.Nat.{ℕ, _+_, _-_}
+use native.Mathlib.Omega.{arith}
 use Rattle.demand.specs.declared.Charged.{Charged}
 use Rattle.demand.specs.Charge.{stall}
-use Rattle.demand.specs.Demand.{largestWindow, demand}
+use Rattle.demand.specs.Demand.{largestWindow, leastLive, demand}
 use Rattle.verdicts.specs.ChargedArray.{chargedIn}
 use Rattle.demand.specs.ways.ChargedSplit.{lastAlone}
 use Rattle.demand.proofs.ChargedSplitLaws.{last-largest, last-undecided}
@@ -16,6 +17,8 @@ use Rattle.splits.proofs.split_search.bound_last.Tie as tie
 use Rattle.splits.proofs.split_search.bound_last.Reads as reads
 use Rattle.splits.proofs.split_search.bound_last.Lts as lts
 use Rattle.splits.proofs.engine.judge_core.Reads as judge-core-reads
+use Rattle.splits.proofs.engine.least_live.Reads as least-live-reads
+use Rattle.demand.proofs.greater.Reads as greater-reads
 use Rattle.splits.proofs.engine.stall_of.Reads as stall-of-reads
 use Rattle.splits.proofs.laying.lay_last.Reads as lay-last-reads
 use Rattle.splits.proofs.split_search.excess_at.Reads as excess-at-reads
@@ -38,8 +41,8 @@ enum-told-2 c = search needs
 enum-known-t : tie.Need-enum-known-t
 enum-known-t c = search needs
 
-sub-excess-at : tie.Need-sub-excess-at
-sub-excess-at c = search needs
+sub-left : tie.Need-sub-left
+sub-left c = search needs
 
 excess-at-requires : tie.Need-excess-at-requires
 excess-at-requires c κs =
@@ -60,6 +63,26 @@ excess-at-requires c κs =
         over-within (s .costs) (s .task) (pre .1 .0) (s .x) (s .w) (t .given .0 .0) (sym judged ∙ t .given .1),
       ),
     )
+
+least-live-requires : tie.Need-least-live-requires
+least-live-requires c κs = search needs
+
+excess-at-requires-2 : tie.Need-excess-at-requires-2
+excess-at-requires-2 c κs =
+    let at-lay-last = c .before .before .before .before .before .before .before .before .before .before .before in
+    let s = at-lay-last .before .before .args in
+    let lay-last = at-lay-last .lay-last in
+    let stall-of = c .before .before .before .before .before .before .before .before .before .before .stall-of in (
+      lay-last .ensures .1,
+      (
+        stall-of .ensures .1,
+        sym (ap (λ (qs : List Charged). largestWindow qs) (lay-last .ensures .0) ∙ last-largest (s .costs) (s .task) (s .x) (s .w)),
+        omega (arith, c .least-live .ensures .1),
+      ),
+    )
+
+greater-requires : tie.Need-greater-requires
+greater-requires c κs = search needs
 
 returns : tie.Need-returns
 returns c =
@@ -94,22 +117,28 @@ returns-2 c =
 
 returns-3 : tie.Need-returns-3
 returns-3 c =
-    let at-lay-last = c .before .before .before .before .before .before .before .before .before in
+    let late = c .before .before .before .before in
+    let at-lay-last = late .before .before .before .before .before .before .before .before .before in
     let s = at-lay-last .before .before .args in
     let lay-last = at-lay-last .lay-last in
     let rs = chargedIn (lay-last .last .0) 1 in
-    let judge-core = c .before .before .before .before .before .before .judge-core in
-    let stall-of = c .before .before .before .before .before .before .before .before .stall-of in
+    let judge-core = late .before .before .before .before .before .before .judge-core in
+    let stall-of = late .before .before .before .before .before .before .before .before .stall-of in
     let judged =
     judged-last (s .costs) (s .task) (s .x) (s .w) (stall-of .result) rs (stall-of .ensures .0) (lay-last .ensures .0) (judge-core .result)
     (judge-core .ensures) in
-    let the-t = c .before .before .before .before .t in
+    let the-t = late .before .before .before .before .t in
     let t = the-t .given .0 .0 in
-    let asked : demand (stall-of .result) rs t ≡ demand (stall (s .costs)) (lastAlone (s .costs) (s .task) (s .x) (s .w)) t =
-    rw (stall-of .ensures .0, lay-last .ensures .0) refl in
+    let live = c .before .before .least-live in
+    let a = live .result in
+    let asked : (u : ℕ) → demand (stall-of .result) rs u ≡ demand (stall (s .costs)) (lastAlone (s .costs) (s .task) (s .x) (s .w)) u =
+    λ u. rw (stall-of .ensures .0, lay-last .ensures .0) refl in
     let pre = at-lay-last .before .before .pre in (
       last-falls (s .costs) (s .task) (pre .1 .0) (s .x) (s .w) t (sym judged ∙ the-t .given .1) (pre .1 .1 .1 .1) (pre .1 .1 .1 .2)
-          (c .excess-at .result) (c .excess-at .ensures ∙ ap (λ (g : ℕ). g - (t + 1)) asked),
+          a (late .excess-at .result) (c .before .excess-at2 .result) (c .greater .result)
+          (live .ensures .0 ∙ ap (λ (qs : List Charged). leastLive qs) (lay-last .ensures .0))
+          (late .excess-at .ensures ∙ ap (λ (g : ℕ). g - (t + 1)) (asked t))
+          (c .before .excess-at2 .ensures ∙ ap (λ (g : ℕ). g - (a + 1)) (asked a)) (c .greater .ensures),
       lay-last .ensures .2,
     )
 
@@ -123,8 +152,11 @@ bound-last-spec =
     enum-told
     enum-told-2
     enum-known-t
-    sub-excess-at
+    sub-left
     excess-at-requires
+    least-live-requires
+    excess-at-requires-2
+    greater-requires
     returns
     returns-2
     returns-3)
