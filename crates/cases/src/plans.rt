@@ -2,13 +2,16 @@
 use demand::Costs;
 use libc::STDOUT_FILENO;
 use plan::Layout;
+use plan::PIECES_MOST;
 use plan::Plan;
+use plan::ROW_MOST;
 use plan::Reply;
 use plan::Stored;
 use plan::plan_tasks;
 use plan::tasks_on;
 use task::Machine;
 use task::Name;
+use task::TASKS_MOST;
 use task::Task;
 use task::Tasks;
 use task::Times;
@@ -39,9 +42,9 @@ fn alike(place: usize, worst: u64, d: u64, migrate: u64) -> Task {
 
 // So many tasks alike, up to 64.
 pub fn many(count: usize, worst: u64, d: u64, migrate: u64) -> Tasks {
-    let mut list = [alike(0, worst, d, migrate); 64];
+    let mut list = [alike(0, worst, d, migrate); TASKS_MOST];
     let mut i: usize = 0;
-    while i < 64 {
+    while i < TASKS_MOST {
         list[i] = alike(i, worst, d, migrate);
         i += 1;
     }
@@ -82,11 +85,11 @@ fn show_row(layout: Layout, core: usize) {
     let len = layout.lens[core];
     let mut i: usize = 0;
     while i < len {
-        if 64 <= i {
+        if ROW_MOST <= i {
             return;
         }
-        let number = layout.rows[core * 64 + i];
-        if 79 <= number {
+        let number = layout.rows[core * ROW_MOST + i];
+        if PIECES_MOST <= number {
             return;
         }
         let piece = layout.pieces[number];

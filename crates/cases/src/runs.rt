@@ -2,6 +2,7 @@
 use demand::Costs;
 use demand::Kind;
 use demand::Piece;
+use demand::RUN_MOST;
 use demand::Run;
 
 pub fn piece(kind: Kind, budget: u64, window: u64, period: u64, jitter: u64) -> Piece {
@@ -50,14 +51,14 @@ pub fn ipis(ipio: u64, ipij: u64) -> Costs {
 pub fn empty() -> Run {
     Run {
         count: 0,
-        pieces: [whole(0, 0, 0); 79],
+        pieces: [whole(0, 0, 0); RUN_MOST],
     }
 }
 
 // The run with one piece more; a full run stays as it is.
 pub fn with(run: Run, piece: Piece) -> Run {
     let at = run.count;
-    if 79 <= at {
+    if RUN_MOST <= at {
         return run;
     }
     let mut next = run;

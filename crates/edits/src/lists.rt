@@ -1,5 +1,6 @@
 // What is wrong with an edit of a list of tasks, and the list after it.
 use task::Name;
+use task::TASKS_MOST;
 use task::Task;
 use task::Tasks;
 use task::place_of;
@@ -7,7 +8,7 @@ use task::well_formed;
 use task::whole_piece;
 ghost use mathlib.Core.Path.{_≡_};
 ghost use Prim.Native.Nat.{_<_, _≤_};
-ghost use Rattle.task.specs.Tasks.{listOf};
+ghost use Rattle.task.specs.Tasks.{listOf, tasksMost};
 ghost use Rattle.walks.specs.Edits.{add, withdraw, retime, edited};
 ghost use Rattle.edits.specs.Edits.{byName, editFault};
 ghost use Rattle.edits.specs.ways.ListInArray.{Lists, removed};
@@ -27,7 +28,7 @@ pub fn add_fault(task: Task, tasks: Tasks) -> u64
     if place_of(name, tasks) != 0 {
         return 4;
     }
-    if 64 <= tasks.count {
+    if TASKS_MOST <= tasks.count {
         return 6;
     }
     0
@@ -66,7 +67,7 @@ pub fn retime_fault(task: Task, tasks: Tasks) -> u64
 
 // One more at the end.
 pub fn append(tasks: Tasks, task: Task) -> Tasks
-    requires { ⌜ (tasks .count ≤ 64) × (editFault (add task) (listOf tasks) ≡ 0) ⌝ }
+    requires { ⌜ (tasks .count ≤ tasksMost) × (editFault (add task) (listOf tasks) ≡ 0) ⌝ }
     ensures { λ r. ⌜ Lists r (edited byName (add task) (listOf tasks)) ⌝ }
 {
     let n = tasks.count;
@@ -78,7 +79,7 @@ pub fn append(tasks: Tasks, task: Task) -> Tasks
 
 // The task in the place of the one of its name.
 pub fn replace(tasks: Tasks, task: Task) -> Tasks
-    requires { ⌜ (tasks .count ≤ 64) × (editFault (retime task) (listOf tasks) ≡ 0) ⌝ }
+    requires { ⌜ (tasks .count ≤ tasksMost) × (editFault (retime task) (listOf tasks) ≡ 0) ⌝ }
     ensures { λ r. ⌜ Lists r (edited byName (retime task) (listOf tasks)) ⌝ }
 {
     let name = task.name;
@@ -91,7 +92,7 @@ pub fn replace(tasks: Tasks, task: Task) -> Tasks
 
 // The list without the task at place i, from 0: those behind it move one place up.
 pub fn close_up(tasks: Tasks, i: usize) -> Tasks
-    requires { ⌜ (tasks .count ≤ 64) × (i < tasks .count) ⌝ }
+    requires { ⌜ (tasks .count ≤ tasksMost) × (i < tasks .count) ⌝ }
     ensures { λ r. ⌜ Lists r (removed i (listOf tasks)) ⌝ }
 {
     let last = tasks.count - 1;
@@ -108,7 +109,7 @@ pub fn close_up(tasks: Tasks, i: usize) -> Tasks
 
 // The list without the task of that name.
 pub fn remove(tasks: Tasks, name: Name) -> Tasks
-    requires { ⌜ (tasks .count ≤ 64) × (editFault (withdraw name) (listOf tasks) ≡ 0) ⌝ }
+    requires { ⌜ (tasks .count ≤ tasksMost) × (editFault (withdraw name) (listOf tasks) ≡ 0) ⌝ }
     ensures { λ r. ⌜ Lists r (edited byName (withdraw name) (listOf tasks)) ⌝ }
 {
     let k = place_of(name, tasks);

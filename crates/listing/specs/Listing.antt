@@ -24,10 +24,11 @@ use Rattle.demand.specs.Kinds.{kindOf}
 use Rattle.demand.specs.Answer.{chargedTime}
 use Rattle.task.specs.declared.Name.{Name}
 use Rattle.task.specs.declared.Tasks.{Tasks}
-use Rattle.task.specs.Tasks.{taskAt, tasksMost, coresMost}
+use Rattle.task.specs.Tasks.{taskAt, coresMost}
 use Rattle.plan.specs.declared.Stored.{Stored}
 use Rattle.plan.specs.declared.Layout.{Layout}
 use Rattle.plan.specs.declared.Plan.{Plan}
+use Rattle.plan.specs.Sizes.{rowMost}
 use Rattle.plan.specs.Layout.{keptPiece, blank}
 use Rattle.lines.specs.Lines.{bytesOf, tab}
 use Rattle.listing.specs.Text.{endedBy, textLine, decimal}
@@ -46,9 +47,8 @@ pub record Entry : Type 0 where
 abbrev pub spelling : Name → List ℕ
 spelling n = take (n .len) (n .bytes)
 
--- a core's row has 64 places
 unfoldable pub rowPieces : Layout → ℕ → List Stored
-rowPieces s q = map (λ i. getD (s .pieces) i blank) (take (getD (s .lens) q 0) (take tasksMost (drop (q * 64) (s .rows))))
+rowPieces s q = map (λ i. getD (s .pieces) i blank) (take (getD (s .lens) q 0) (take rowMost (drop (q * rowMost) (s .rows))))
 
 -- the stored piece s on core q, of a task named n, at the costs c
 abbrev pub entryWith : Costs → ℕ → List ℕ → Stored → Entry
@@ -112,4 +112,4 @@ planWith c ts l = record { machine = record { cores = 0; grain = 0 }; costs = c;
 
 unfoldable pub listedOn : List ℕ → ℕ → ℕ
 listedOn lens zero = 0
-listedOn lens (suc q) = listedOn lens q + min (getD lens q 0) tasksMost
+listedOn lens (suc q) = listedOn lens q + min (getD lens q 0) rowMost

@@ -5,10 +5,15 @@ use demand::Costs;
 use demand::Kind;
 use demand::charged_time;
 use plan::Layout;
+use plan::PIECES_MOST;
 use plan::Plan;
+use plan::ROW_MOST;
 use plan::Stored;
 use plan::stored_piece;
+use task::CORES_MOST;
+use task::NAME_MOST;
 use task::Name;
+use task::TASKS_MOST;
 use task::Tasks;
 use texts::put_bytes;
 use texts::put_name;
@@ -19,6 +24,8 @@ ghost use mathlib.Core.Path.{_≡_};
 ghost use Prim.Native.Nat.{_+_, _*_, _≤_, _<_};
 ghost use lib.Dec.{ltb};
 ghost use lib.ListN.{length};
+ghost use Rattle.task.specs.Tasks.{tasksMost, coresMost};
+ghost use Rattle.plan.specs.Sizes.{piecesMost, rowMost};
 ghost use Rattle.plan.specs.Layout.{blank};
 ghost use Rattle.lines.specs.Lines.{bytesOf};
 ghost use Rattle.listing.specs.Text.{Wrote, endedBy, textLine, decimal, over};
@@ -47,11 +54,11 @@ fn within(place: usize, top: usize) -> usize
     top - 1
 }
 
-// The stored piece with a number, of 79; the zeros that fill a plan, where it has none.
+// The stored piece with a number; the zeros that fill a plan, where it has none.
 fn numbered(number: usize, stored: Stored) -> Stored
-    ensures { λ r. ⌜ r ≡ cond (ltb number 79) stored blank ⌝ }
+    ensures { λ r. ⌜ r ≡ cond (ltb number piecesMost) stored blank ⌝ }
 {
-    if number < 79 {
+    if number < PIECES_MOST {
         return stored;
     }
     Stored {
@@ -66,16 +73,16 @@ fn numbered(number: usize, stored: Stored) -> Stored
     }
 }
 
-// The name of the task at a place, of 64; an empty one past the list.
+// The name of the task at a place; an empty one past the list.
 fn named(place: usize, name: Name) -> Name
-    ensures { λ r. ⌜ spelling r ≡ cond (ltb place 64) (spelling name) [] ⌝ }
+    ensures { λ r. ⌜ spelling r ≡ cond (ltb place tasksMost) (spelling name) [] ⌝ }
 {
-    if place < 64 {
+    if place < TASKS_MOST {
         return name;
     }
     Name {
         len: 0,
-        bytes: [0u8; 24],
+        bytes: [0u8; NAME_MOST],
     }
 }
 
@@ -105,7 +112,7 @@ fn put_piece(
     stored: Stored,
     costs: Costs,
 ) -> usize
-    requires { ⌜ (at ≤ 700000) × (core < 16) ⌝ }
+    requires { ⌜ (at ≤ 700000) × (core < coresMost) ⌝ }
     ensures { λ r. ⌜ (Wrote (now (buf .entry)) at (entryLine (entryWith costs core (spelling name) stored)) r (now (buf .exit))) × (r ≤ at + 142) ⌝ }
 {
     let piece = stored_piece(stored);
@@ -118,14 +125,14 @@ fn put_piece(
     put_figures(buf, d, stored, charged)
 }
 
-// How many places of a row are listed: it has 64.
+// How many places of a row are listed.
 fn seats(n: usize) -> usize
-    ensures { λ r. ⌜ (r ≤ n) × (r ≤ 64) × (r < n → r ≡ 64) ⌝ }
+    ensures { λ r. ⌜ (r ≤ n) × (r ≤ rowMost) × (r < n → r ≡ rowMost) ⌝ }
 {
-    if n < 64 {
+    if n < ROW_MOST {
         return n;
     }
-    64
+    ROW_MOST
 }
 
 // The first line, with how many tasks and pieces there are.
@@ -139,18 +146,18 @@ fn put_header(buf: &mut [u8], tasks: usize, pieces: usize) -> usize
 
 // All lines, the first and then each place of each core after another; the place behind them.
 fn put_plan(buf: &mut [u8], costs: Costs, tasks: Tasks, layout: Layout) -> usize
-    ensures { λ r. ⌜ (Wrote (now (buf .entry)) 0 (listingOf (planWith costs tasks layout)) r (now (buf .exit))) × (r ≤ 47 + 142 * listedOn (layout .lens) 16) ⌝ }
+    ensures { λ r. ⌜ (Wrote (now (buf .entry)) 0 (listingOf (planWith costs tasks layout)) r (now (buf .exit))) × (r ≤ 47 + 142 * listedOn (layout .lens) coresMost) ⌝ }
 {
     let mut k = put_header(buf, tasks.count, layout.count);
     let mut core: usize = 0;
     let mut i: usize = 0;
-    while core < 16 {
+    while core < CORES_MOST {
         if i < seats(layout.lens[core]) {
-            let number = layout.rows[core * 64 + i];
-            let j = within(number, 79);
+            let number = layout.rows[core * ROW_MOST + i];
+            let j = within(number, PIECES_MOST);
             let stored = numbered(number, layout.pieces[j]);
             let place = stored.task;
-            let t = within(place, 64);
+            let t = within(place, TASKS_MOST);
             let task = tasks.list[t];
             let name = named(place, task.name);
             k = put_piece(buf, k, core, name, stored, costs);
@@ -164,12 +171,12 @@ fn put_plan(buf: &mut [u8], costs: Costs, tasks: Tasks, layout: Layout) -> usize
 }
 
 // As many bytes as the listing of rows of these lengths may have.
-fn most_bytes(lens: [usize; 16]) -> usize
-    ensures { λ r. ⌜ r ≡ 47 + 142 * listedOn lens 16 ⌝ }
+fn most_bytes(lens: [usize; CORES_MOST]) -> usize
+    ensures { λ r. ⌜ r ≡ 47 + 142 * listedOn lens coresMost ⌝ }
 {
     let mut most: usize = 47;
     let mut core: usize = 0;
-    while core < 16 {
+    while core < CORES_MOST {
         most += 142 * seats(lens[core]);
         core += 1;
     }

@@ -2,12 +2,15 @@
 use crate::runs::nothing;
 use demand::Costs;
 use demand::Piece;
+use demand::RUN_MOST;
+use demand::RUN_NUMBERS;
 use demand::kind_of;
 use demand::put_record;
 ghost use mathlib.Core.Path.{_≡_};
 ghost use Prim.Native.Nat.{_+_, _*_, _≤_, _<_};
 ghost use lib.ListN.{length};
 ghost use Rattle.demand.specs.Records.{recordsOf};
+ghost use Rattle.demand.specs.Sizes.{runMost};
 ghost use Rattle.spardimple.specs.Bytes.{numberAt, pieceAt, piecesOf, costsSpelt};
 ghost use Rattle.spardimple.specs.ways.CopiedRun.{CopiedIn};
 
@@ -60,14 +63,14 @@ pub fn piece_at(s: &[u8], at: usize) -> Piece
 
 // n, where so many records fit into a run; else none is read.
 pub fn room_for(n: usize) -> usize
-    ensures { λ r. ⌜ (r ≤ 79) × (r ≤ n) × (n ≤ 79 → r ≡ n) ⌝ }
+    ensures { λ r. ⌜ (r ≤ runMost) × (r ≤ n) × (n ≤ runMost → r ≡ n) ⌝ }
 {
-    if n <= 79 { n } else { 0 }
+    if n <= RUN_MOST { n } else { 0 }
 }
 
 // The records that the bytes spell, put as numbers where there is room for all.
-pub fn read_records<'a>(records: &'a mut [u64; 553], s: &'a [u8])
-    requires { ⌜ length (now records) ≡ 553 ⌝ }
+pub fn read_records<'a>(records: &'a mut [u64; RUN_NUMBERS], s: &'a [u8])
+    requires { ⌜ length (now records) ≡ 7 * runMost ⌝ }
     ensures { λ r. ⌜ CopiedIn (piecesOf (now (s .entry))) (recordsOf (now (records .exit))) ⌝ }
 {
     let most = room_for(s.len() / 28);

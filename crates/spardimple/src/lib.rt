@@ -11,6 +11,7 @@ use bytes::read_records;
 use demand::Answer;
 use demand::Costs;
 use demand::Piece;
+use demand::RUN_NUMBERS;
 use listing::write_listing;
 use numbers::number_of;
 use numbers::numbered;
@@ -43,7 +44,7 @@ pub extern "C" fn verdict(records: &[u8], costs: &[u8]) -> u64
     if costs.len() != 36 {
         return numbered(108, 0);
     }
-    let mut run: [u64; 553] = [0; 553];
+    let mut run: [u64; RUN_NUMBERS] = [0; RUN_NUMBERS];
     read_records(&mut run, records);
     number_of(verdicts::judge_records(read_costs(costs), &run, records.len() / 28))
 }

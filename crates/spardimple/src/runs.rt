@@ -1,9 +1,11 @@
 // A lent run of piece records, copied into a `Run`.
 use demand::Kind;
 use demand::Piece;
+use demand::RUN_MOST;
 use demand::Run;
 ghost use mathlib.Core.Path.{_≡_};
 ghost use lib.ListN.{length, set};
+ghost use Rattle.demand.specs.Sizes.{runMost};
 ghost use Rattle.spardimple.specs.Bytes.{outside};
 ghost use Rattle.spardimple.specs.ways.CopiedRun.{Copied};
 
@@ -24,11 +26,11 @@ pub fn nothing() -> Piece
 
 // A run of n records, none of them put yet.
 pub fn empty(n: usize) -> Run
-    ensures { λ r. ⌜ (r .count ≡ n) × (length (r .pieces) ≡ 79) ⌝ }
+    ensures { λ r. ⌜ (r .count ≡ n) × (length (r .pieces) ≡ runMost) ⌝ }
 {
     Run {
         count: n,
-        pieces: [nothing(); 79],
+        pieces: [nothing(); RUN_MOST],
     }
 }
 
@@ -36,7 +38,7 @@ pub fn empty(n: usize) -> Run
 pub fn put(run: Run, i: usize, piece: Piece) -> Run
     ensures { λ r. ⌜ (r .count ≡ run .count) × (r .pieces ≡ set (run .pieces) i piece) ⌝ }
 {
-    if i < 79 {
+    if i < RUN_MOST {
         let mut next = run;
         next.pieces[i] = piece;
         next

@@ -68,6 +68,12 @@ pub const CHARGE_MOST: u64 = 2 * TIME_MOST;
 /// What no base of a wait is above.
 pub const WAIT_MOST: u64 = 10 * TIME_MOST;
 
+/// Over how many lengths one walk by the marks of their releases goes.
+pub const MARKS_MOST: usize = 1024;
+
+/// The last of their places.
+pub const MARKS_LAST: usize = MARKS_MOST - 1;
+
 /// Which figure of the pieces is summed: what they ask for within a length, and of that the interrupts and the jobs due alone; or what they ask of it as a busy length.
 pub enum Sum {
     Load,

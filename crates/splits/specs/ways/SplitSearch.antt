@@ -1,5 +1,5 @@
 -- What the functions of the split search promise one another, over the charged pieces qs of a core. It is a way and no meaning: what a
--- split means stands in `specs/Split.antt`, and `proofs/SearchLaws.antt` leads from here to there.
+-- split means stands in `specs/Split.antt`, and `proofs/SplitSearchLaws.antt` leads from here to there.
 --
 --   Weighs q               q is charged something
 --   Ready a n              n pieces lie in the array a, each fit to be counted with, and there is room for one more
