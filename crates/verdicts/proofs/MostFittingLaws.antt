@@ -5,8 +5,8 @@
 --   most-fitting-is, squeezed-is        from one to the other
 --   fitting-all, fitting-some           the greatest charge of which so many fit
 --   level-over, level-calls, level-fits what one length tells
---   lowers-none, look-less, lowers-to   what a step leaves: nothing, or what one or two lengths allow
---   passed-start, -step, -done          the walk down, one step more
+--   passed-start, passed-look, passed-done    the walk down, one look more
+--   lowers-none, lowers-look, lowers-below    what a look leaves: nothing; less, with a second look to come; or what goes on below
 use mathlib.Core.Bool.{Bool, true, false}
 use mathlib.Core.Path.{_≡_, refl, sym, ap, _∙_, subst}
 use mathlib.Core.List.{List, [], _∷_, _++_}
@@ -19,11 +19,11 @@ use borrow.Author.Tests.{lt-ltb, le-ltb, ltb-true, ltb-false}
 use lib.Dec.{ltb}
 use lib.ListN.{length, length-append}
 use Rattle.demand.specs.declared.Charged.{Charged}
-use Rattle.verdicts.specs.declared.most_fitting.Level.{Level}
+use Rattle.verdicts.specs.declared.most_fitting.Lowering.{Lowering}
 use Rattle.demand.specs.Sizes.{Each, Tells}
 use Rattle.demand.specs.Demand.{jobsDue, interrupts, largestWindow, demand}
 use Rattle.verdicts.specs.MostFitting.{beside, Squeezed, FitsIn, allFit, mostFitting}
-use Rattle.verdicts.specs.ways.ChargeWalk.{FitsInto, Levels, Lowers}
+use Rattle.verdicts.specs.ways.ChargeWalk.{FitsInto, Levels, Stands, Lowers, lastBelow}
 use Rattle.demand.proofs.DemandLaws.{Recurs, jobs-due-mono, interrupts-mono, demand-mono}
 use Rattle.verdicts.specs.declared.most_fitting.Look.{Look}
 
@@ -135,31 +135,6 @@ module _ (b : ℕ) (qs : List Charged) (q : Charged) where
         asks = λ some. level-at;
       }
 
-  -- ---- one step
-
-  pub lowers-none : (f a t : ℕ) (v : Look) → a ≤ t → v .charge ≡ 0 → Levels b qs q f t v → Lowers b qs q f a t (record { charge = 0; end = 0 })
-  lowers-none f a t v from none level = record {
-    most = zero-le;
-    caps = λ y le fits. omega (arith, level .caps y le (fits t from (omega arith)));
-    down = zero-le;
-    calm = λ some. absurd (omega arith);
-  }
-
-  -- what is asked for at t with less
-  pub look-less : (f t y : ℕ) (v : Look) → Levels b qs q f t v → y ≤ v .charge → v .rest + v .jobs * y ≤ t
-  look-less f t y v level less = omega (arith, level .fits, mul-le-mul-left (v .jobs) less)
-
-  module _ (f a t w y end : ℕ) (v : Look) (widest : w ≡ largestWindow qs) (next : (v .rest + v .jobs * y ≤ end) × (end ≤ t) × (w ≤ t → w ≤ end)) where
-    -- y is no less than what fits from a to t
-    pub lowers-to : a ≤ t → Levels b qs q f t v → y ≤ v .charge → ((z : ℕ) → z ≤ v .charge → FitsIn b qs q z a (t + 1) → z ≤ y)
-        → Lowers b qs q f a t (record { charge = y; end = end })
-    lowers-to from level less left = record {
-      most = omega (arith, level .most);
-      caps = λ z le fits. left z (level .caps z le (fits t from (omega arith))) fits;
-      down = next .1;
-      calm = λ some. (omega (arith, level .asks (omega arith) y, next .0), rw widest at (next .2));
-    }
-
   -- ---- the walk down
 
   -- the walk from e has come to `end`, and has left r of f
@@ -182,20 +157,83 @@ module _ (b : ℕ) (qs : List Charged) (q : Charged) where
   unfolding beside
   beside-less u h = omega (arith, mul-le-mul-left (jobsDue q u) h)
 
-  module _ (recurs : Each Recurs qs) (own : Recurs q) where
-    beside-mono : (f : ℕ) {t u : ℕ} → t ≤ u → (largestWindow qs ≤ u → largestWindow qs ≤ t) → beside b qs q f t ≤ beside b qs q f u
-    unfolding beside
-    beside-mono f {t} {u} h side =
-        omega (arith, demand-mono qs recurs b h side, interrupts-mono own h, mul-le-mul-right f (jobs-due-mono own h))
+  -- ---- one look
 
-    pub passed-step : (f a end e r : ℕ) (v : Level) → 1 ≤ end → end ≤ e → Passed f a end e r → Lowers b qs q r a (end - 1) v → Passed f a (v .end) e (v .charge)
-    passed-step f a end e r v some within passed low = record {
-      most = omega (arith, low .most, passed .most);
-      caps = λ y le fits. low .caps y (passed .caps y le fits) (λ u from below. fits u from (omega arith));
-      calm = λ one u from below. elim (decLt (end - 1) u) [
-        | yes above ↦ omega (arith, passed .calm (omega (arith, low .most)) u (omega arith) below, beside-less u (low .most))
-        | no under ↦
-            let calm = low .calm one in
-            omega (arith, calm .0, beside-mono (v .charge) {t = u} {u = end - 1} (omega arith) (λ w. omega (arith, calm .1 w)))
-      ];
+  pub stands-last : (a f end : ℕ) → Stands b qs q a (lastBelow f end)
+  stands-last a f end = record { within = λ h. (omega arith, omega arith); asks = λ h. absurd (omega arith); fits = λ h. absurd (omega arith) }
+
+  module _ (a : ℕ) (s : Lowering) (some : a < s .end) (stands : Stands b qs q a s) (v : Look) (level : Levels b qs q (s .charge) (s .look) v) where
+    looked : (y : ℕ) → y ≤ s .charge → FitsIn b qs q y a (s .end) → y ≤ v .charge
+    looked y le fits = level .caps y le (fits (s .look) (stands .within some .0) (stands .within some .1))
+
+    pub lowers-none : v .charge ≡ 0 → Lowers b qs q a s (lastBelow 0 0)
+    lowers-none none = record {
+      most = zero-le;
+      caps = λ y le fits. omega (arith, looked y le fits);
+      calm = λ one. absurd (omega arith);
+      down = zero-le;
+      less = omega arith;
+      stands = stands-last a 0 0;
     }
+
+    -- what is asked for at the last length: as it was held, or by the look itself
+    pub asked-before : s .look < s .end - 1 → s .rest + s .jobs * v .charge ≤ s .end - 1
+    asked-before early = omega (arith, stands .fits early, mul-le-mul-left (s .jobs) (level .most))
+
+    pub asked-last : s .end - 1 ≤ s .look → 1 ≤ v .charge → (y : ℕ) → beside b qs q y (s .end - 1) ≡ v .rest + v .jobs * y
+    asked-last last one y =
+        let is : s .end - 1 ≡ s .look = omega (arith, stands .within some .1) in
+        rw is (level .asks one y)
+
+    -- less of the charge fits at the last length
+    pub lowers-look : (x : ℕ) → s .end - 1 ≤ s .look → 1 ≤ v .charge → v .charge < s .charge → a ≤ x → x ≤ s .end - 1
+        → Lowers b qs q a s (record { charge = v .charge; end = s .end; look = x; rest = v .rest; jobs = v .jobs })
+    lowers-look x last one fewer low high = record {
+      most = level .most;
+      caps = looked;
+      calm = λ one u from below. absurd (omega arith);
+      down = omega arith;
+      less = omega arith;
+      stands = record {
+        within = λ h. (low, omega arith);
+        asks = λ early. asked-last last one;
+        fits = λ early. omega (arith, level .fits, stands .within some .1);
+      };
+    }
+
+    module _ (recurs : Each Recurs qs) (own : Recurs q) where
+      beside-mono : (f : ℕ) {t u : ℕ} → t ≤ u → (largestWindow qs ≤ u → largestWindow qs ≤ t) → beside b qs q f t ≤ beside b qs q f u
+      unfolding beside
+      beside-mono f {t} {u} h side =
+          omega (arith, demand-mono qs recurs b h side, interrupts-mono own h, mul-le-mul-right f (jobs-due-mono own h))
+
+      -- the walk goes on below `end`
+      module _ (w end rest jobs : ℕ) (widest : w ≡ largestWindow qs)
+          (next : (rest + jobs * v .charge ≤ end) × (end ≤ s .end - 1) × (w ≤ s .end - 1 → w ≤ end)) where
+        pub lowers-below : ((y : ℕ) → beside b qs q y (s .end - 1) ≡ rest + jobs * y) → Lowers b qs q a s (lastBelow (v .charge) end)
+        lowers-below asks = record {
+          most = level .most;
+          caps = looked;
+          calm = λ one u from below.
+              omega (
+                arith,
+                next .0,
+                asks (v .charge),
+                beside-mono (v .charge) {t = u} {u = s .end - 1} (omega arith) (λ wide. omega (arith, widest, next .2 (omega (arith, widest)))),
+              );
+          down = omega (arith, next .1);
+          less = omega (arith, next .1, level .most);
+          stands = stands-last a (v .charge) end;
+        }
+
+  -- ---- one look more
+
+  pub passed-look : (f a e : ℕ) (s r : Lowering) → s .end ≤ e → Passed f a (s .end) e (s .charge) → Lowers b qs q a s r → Passed f a (r .end) e (r .charge)
+  passed-look f a e s r within passed low = record {
+    most = omega (arith, low .most, passed .most);
+    caps = λ y le fits. low .caps y (passed .caps y le fits) (λ u from below. fits u from (omega arith));
+    calm = λ one u from below. elim (decLt u (s .end)) [
+      | yes under ↦ low .calm one u from under
+      | no above ↦ omega (arith, passed .calm (omega (arith, low .most)) u (omega arith) below, beside-less u (low .most))
+    ];
+  }

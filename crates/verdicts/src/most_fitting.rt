@@ -12,11 +12,11 @@ use demand::greater;
 use demand::less;
 use demand::lesser;
 ghost use mathlib.Core.Path.{_≡_};
-ghost use Prim.Native.Nat.{_+_, _≤_};
+ghost use Prim.Native.Nat.{_+_, _<_, _≤_};
 ghost use Rattle.demand.specs.Demand.{largestWindow};
 ghost use Rattle.verdicts.specs.ChargedArray.{chargedIn};
 ghost use Rattle.verdicts.specs.MostFitting.{mostFitting};
-ghost use Rattle.verdicts.specs.ways.ChargeWalk.{FitsInto, Levels, Lowers};
+ghost use Rattle.verdicts.specs.ways.ChargeWalk.{FitsInto, Levels, Stands, Lowers, lastBelow};
 ghost use Rattle.demand.specs.ways.Ranges.{Ranged, stallMost, chargeMost};
 ghost use Rattle.demand.specs.Sizes.{Each, lengthMost, timeMost, runMost};
 
@@ -27,10 +27,14 @@ pub struct Look {
     pub jobs: u64,
 }
 
-// What a step left: the charge, and the end below which the walk goes on.
-pub struct Level {
+// Where the walk stands: what is left of the charge, the end from which on that fits, and the length to look at next. Where that is not the last below the end, the charge
+// was lowered at the last, and the rest and the jobs are what is asked for there.
+pub struct Lowering {
     pub charge: u64,
     pub end: u64,
+    pub look: u64,
+    pub rest: u64,
+    pub jobs: u64,
 }
 
 // The greatest charge up to f whose jobs fit the room.
@@ -137,41 +141,57 @@ pub fn level_at(
     }
 }
 
-// One step down: what fits at t, and where that is less than f, what of it fits where the demand at t begins, since it fits least there. The walk goes on below
-// what is asked for at t with that.
+// The walk looks at the last length below the end.
+pub fn last_below(charge: u64, end: u64) -> Lowering
+    ensures { λ r. ⌜ r ≡ lastBelow charge end ⌝ }
+{
+    Lowering {
+        charge: charge,
+        end: end,
+        look: less(end, 1),
+        rest: 0,
+        jobs: 0,
+    }
+}
+
+// One look. Where what is left fits at the last length below the end, the walk goes on below what is asked for there. Where less of it fits, the next look is where the
+// demand at that length begins, since a charge fits least there; what that leaves goes on below what is asked for at the last. One call of `level_at` for both looks lets it be
+// compiled into the walk.
 pub fn lower(
     core: &[u64; CORE_NUMBERS],
     n: usize,
     b: u64,
     w: u64,
     q: Charged,
-    f: u64,
     a: u64,
-    t: u64,
-) -> Level
+    s: Lowering,
+) -> Lowering
     requires { ⌜ (n ≤ runMost) × Each Ranged (chargedIn (now core) n) ⌝ }
     requires { ⌜ Ranged q ⌝ }
-    requires { ⌜ (b ≤ stallMost) × (w ≡ largestWindow (chargedIn (now core) n)) × (f ≤ chargeMost) × (t ≤ lengthMost) ⌝ }
-    requires { ⌜ a ≤ t ⌝ }
-    ensures { λ r. ⌜ Lowers b (chargedIn (now (core .entry)) n) q f a t r ⌝ }
+    requires { ⌜ (b ≤ stallMost) × (w ≡ largestWindow (chargedIn (now core) n)) × (s .charge ≤ chargeMost) × (s .end ≤ lengthMost) ⌝ }
+    requires { ⌜ (a < s .end) × Stands b (chargedIn (now core) n) q a s ⌝ }
+    ensures { λ r. ⌜ Lowers b (chargedIn (now (core .entry)) n) q a s r ⌝ }
 {
-    let v = level_at(core, n, b, w, q, f, t);
+    let v = level_at(core, n, b, w, q, s.charge, s.look);
     if v.charge == 0 {
-        return Level { charge: 0, end: 0 };
+        return last_below(0, 0);
     }
-    if f <= v.charge {
-        let end = next_end(v.rest + v.jobs * f, w, t);
-        return Level {
-            charge: f,
-            end: end,
-        };
+    let t = s.end - 1;
+    if s.look < t {
+        let end = next_end(s.rest + s.jobs * v.charge, w, t);
+        return last_below(v.charge, end);
     }
-    let s = lesser(t, greater(a, stretch_start(core, n, q, t)));
-    let y = level_at(core, n, b, w, q, v.charge, s).charge;
-    let end = next_end(v.rest + v.jobs * y, w, t);
-    Level {
-        charge: y,
-        end: end,
+    if s.charge <= v.charge {
+        let end = next_end(v.rest + v.jobs * v.charge, w, t);
+        return last_below(v.charge, end);
+    }
+    let start = lesser(t, greater(a, stretch_start(core, n, q, t)));
+    Lowering {
+        charge: v.charge,
+        end: s.end,
+        look: start,
+        rest: v.rest,
+        jobs: v.jobs,
     }
 }
 
@@ -192,12 +212,9 @@ pub fn squeeze(
     ensures { λ r. ⌜ r ≡ mostFitting b (chargedIn (now (core .entry)) n) q a l f ⌝ }
 {
     let w = largest_window(core, n);
-    let mut r = f;
-    let mut end = a + l;
-    while a < end {
-        let v = lower(core, n, b, w, q, r, a, end - 1);
-        r = v.charge;
-        end = v.end;
+    let mut s = last_below(f, a + l);
+    while a < s.end {
+        s = lower(core, n, b, w, q, a, s);
     }
-    r
+    s.charge
 }

@@ -31,7 +31,12 @@ pub fn mark(marks: &mut [u64; MARKS_MOST], q: Charged, l: u64)
 }
 
 // Over marks that are all 0.
-pub fn mark_all<'a>(marks: &'a mut [u64; MARKS_MOST], core: &'a [u64; CORE_NUMBERS], n: usize, l: u64)
+pub fn mark_all<'a>(
+    marks: &'a mut [u64; MARKS_MOST],
+    core: &'a [u64; CORE_NUMBERS],
+    n: usize,
+    l: u64,
+)
     requires { ⌜ (n ≤ runMost) × Each Ranged (chargedIn (now core) n) ⌝ }
     requires { ⌜ (l ≤ busyMost) × (length (now marks) ≡ marksMost) × Under 0 (now marks) ⌝ }
     ensures { λ r. ⌜ Marks (busySum (chargedIn (now (core .entry)) n)) l (now (marks .exit)) × Under 200000000 (now (marks .exit)) ⌝ }

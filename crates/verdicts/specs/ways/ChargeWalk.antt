@@ -2,16 +2,15 @@
 --
 --   FitsInto f n m r       r is the greatest charge up to f of which n fit into m
 --   Levels b qs q f t v   what the length t told: v's charge is the greatest up to f that fits at t, or 0; v's rest and jobs are what is asked for
---   Lowers b qs q f a t v what a step from t left: some length from a to t lowered f to v's charge, and that fits from v's end to t
-use mathlib.Core.Bool.{Bool, true, false}
+--   lastBelow f end       the walk with the charge f that looks at the last length below the end
+--   Stands b qs q a s     what the walk s knows of its next look: it is from a on and below its end; before the last length, what is asked for at the last
+--   Lowers b qs q a s r   what a look leaves of the walk s: r's charge is what some length left of s's, and fits from r's end to s's
 use mathlib.Core.Path.{_≡_}
-use mathlib.Core.List.{List, [], _∷_, _++_}
-use Prim.Native.Nat.{ℕ, _+_, _*_, _≤_, _<_, zero, suc}
+use mathlib.Core.List.{List}
+use Prim.Native.Nat.{ℕ, _+_, _*_, _-_, _≤_, _<_}
 use Rattle.demand.specs.declared.Charged.{Charged}
-use Rattle.verdicts.specs.declared.most_fitting.Level.{Level}
-use Rattle.demand.specs.Demand.{largestWindow}
+use Rattle.verdicts.specs.declared.most_fitting.Lowering.{Lowering}
 use Rattle.verdicts.specs.MostFitting.{beside, FitsIn}
-use lib.Dec.{ltb}
 use Rattle.verdicts.specs.declared.most_fitting.Look.{Look}
 
 pub record FitsInto (f jobs room r : ℕ) : Type 0 where
@@ -25,8 +24,18 @@ pub record Levels (b : ℕ) (qs : List Charged) (q : Charged) (f t : ℕ) (v : L
   pub fits : v .rest + v .jobs * v .charge ≤ t
   pub asks : 1 ≤ v .charge → (y : ℕ) → beside b qs q y t ≡ v .rest + v .jobs * y
 
-pub record Lowers (b : ℕ) (qs : List Charged) (q : Charged) (f a t : ℕ) (v : Level) : Type 0 where
-  pub most : v .charge ≤ f
-  pub caps : (y : ℕ) → y ≤ f → FitsIn b qs q y a (t + 1) → y ≤ v .charge
-  pub down : v .end ≤ t
-  pub calm : 1 ≤ v .charge → (beside b qs q (v .charge) t ≤ v .end) × (largestWindow qs ≤ t → largestWindow qs ≤ v .end)
+abbrev pub lastBelow : ℕ → ℕ → Lowering
+lastBelow f end = record { charge = f; end = end; look = end - 1; rest = 0; jobs = 0 }
+
+pub record Stands (b : ℕ) (qs : List Charged) (q : Charged) (a : ℕ) (s : Lowering) : Type 0 where
+  pub within : a < s .end → (a ≤ s .look) × (s .look < s .end)
+  pub asks : s .look < s .end - 1 → (y : ℕ) → beside b qs q y (s .end - 1) ≡ s .rest + s .jobs * y
+  pub fits : s .look < s .end - 1 → s .rest + s .jobs * s .charge ≤ s .end - 1
+
+pub record Lowers (b : ℕ) (qs : List Charged) (q : Charged) (a : ℕ) (s r : Lowering) : Type 0 where
+  pub most : r .charge ≤ s .charge
+  pub caps : (y : ℕ) → y ≤ s .charge → FitsIn b qs q y a (s .end) → y ≤ r .charge
+  pub calm : 1 ≤ r .charge → FitsIn b qs q (r .charge) (r .end) (s .end)
+  pub down : r .end ≤ s .end
+  pub less : r .end + r .charge < s .end + s .charge
+  pub stands : Stands b qs q a r
