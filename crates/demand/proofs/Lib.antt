@@ -1,5 +1,7 @@
 -- Laws that belong to no one function.
 pub mod Division
+pub mod Tests
+pub mod KindLaws
 pub mod Sums
 pub mod ArrayLaws
 pub mod PaddedLaws

@@ -2,7 +2,6 @@
 -- Assumes nothing.
 --
 --   records-length, records-at, records-read    79 of them, and each by its place
---   kind-back             a kind by its number
 --   put-length            a record written leaves the array as long as it was
 --   records-put           it stands there, behind those before it
 --   records-next          one record more, of those that are to be there
@@ -17,12 +16,12 @@ use borrow.Author.Tests.{le-leb, lt-leb}
 use lib.ListN.{length, take, drop, getD, replicate, length-replicate, drop-of-length-le}
 use lib.Seq.{sets, length-sets, take-all, take-suc, drop-cons}
 use Rattle.demand.specs.declared.Kind.{Kind}
-use Rattle.demand.specs.declared.Kind.the-variants.{Whole, First, Last}
 use Rattle.demand.specs.declared.Piece.{Piece}
 use Rattle.demand.specs.Kinds.{kindNumber, kindOf}
 use Rattle.demand.specs.Lists.{firsts}
 use Rattle.demand.specs.Records.{noRecord, recordAt, recordWithin, recordsOf, numbersOf, putRecord, putAll, lentOf}
 use Rattle.demand.specs.Sizes.{runMost}
+use Rattle.demand.proofs.KindLaws.{kind-back}
 use Rattle.demand.proofs.ArrayLaws.{firsts-length, firsts-at, firsts-take, firsts-same, sets-before, sets-there}
 
 -- ---- all places
@@ -44,11 +43,6 @@ unfolding recordsOf
 records-take a i h = firsts-take (recordAt a) runMost i h
 
 -- ---- a record
-
-pub kind-back : (k : Kind) → kindOf (kindNumber k) ≡ k
-kind-back Whole = refl
-kind-back First = refl
-kind-back Last = refl
 
 pub record-past : (a : List ℕ) (i : ℕ) → runMost ≤ i → recordWithin a i ≡ noRecord
 unfolding recordWithin

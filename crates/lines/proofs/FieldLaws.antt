@@ -23,16 +23,8 @@ use Rattle.lines.specs.Lines.{isDigit, every, unled, isNumber, valueFrom
 use Rattle.demand.specs.Lists.{padded}
 use Rattle.task.specs.Names.{nameMost}
 use Rattle.lines.specs.ways.NumbersRead.{noNumber, numberOf}
+use Rattle.demand.proofs.Tests.{both-left, both-right}
 use Rattle.demand.proofs.PaddedLaws.{padded-put, padded-cut}
-
-pub both-left : (a b : Bool) → (a && b) ≡ true → a ≡ true
-both-left true b e = refl
-both-left false b e = e
-
-pub both-right : (a b : Bool) → (a && b) ≡ true → b ≡ true
-both-right true b e = e
-both-right false true e = refl
-both-right false false e = e
 
 -- ---- digits, one on
 

@@ -23,7 +23,7 @@ use Rattle.lines.specs.Forms.{noLine, machineLine, costLine, partLine, f
 use Rattle.lines.specs.ways.NumbersRead.{numbersMost, noNumbers, numbersIn}
 use Rattle.demand.proofs.PaddedLaws.{padded-at}
 use Rattle.lines.proofs.LineLaws.{rest, run-take, run-whole, run-last, run-more}
-use Rattle.lines.proofs.FieldLaws.{both-left, both-right}
+use Rattle.demand.proofs.Tests.{both-left, both-right}
 
 -- ---- numbers
 

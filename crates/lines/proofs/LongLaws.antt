@@ -20,7 +20,7 @@ use Rattle.task.specs.Tasks.{taskOf}
 use Rattle.lines.specs.Forms.{untimed, noLine, partLine, timesOf, numbered, values, partForm}
 use Rattle.lines.specs.declared.Order.{Order}
 use Rattle.lines.specs.Orders.{noOrder, forPart, timedForm, withdrawForm, listForm, deedOf, orderForm, orderOf}
-use Rattle.lines.proofs.FieldLaws.{both-left, both-right}
+use Rattle.demand.proofs.Tests.{both-left, both-right}
 use Rattle.lines.proofs.SaysLaws.{name-short}
 
 abbrev pub orderMost : ℕ

@@ -22,7 +22,7 @@ use Rattle.lines.specs.Lines.{bytesOf, tab, upTo, beyond, fields, nameOf
 use Rattle.demand.specs.Lists.{padded}
 use Rattle.lines.specs.Forms.{noLine, machineLine, machineOf, costLine, costsOf, partLine, fitLine, timesOf, numbered, values, machineForm, costForm, partForm, fitForm, wordOf, formOf, lineOf}
 use Rattle.demand.proofs.PaddedLaws.{padded-length, padded-take}
-use Rattle.lines.proofs.FieldLaws.{both-left, both-right}
+use Rattle.demand.proofs.Tests.{both-left, both-right}
 
 -- ---- words
 

@@ -12,14 +12,15 @@ use mathlib.Core.List.{List, [], _∷_, _++_}
 use Prim.Native.Nat.{ℕ, zero, suc, _+_, _*_, _≤_, _<_}
 use native.Mathlib.Nat.{not-suc-le-zero, le-of-suc-le-suc}
 use native.Mathlib.Omega.{arith}
-use borrow.Author.Tests.{lt-ltb}
+use borrow.Author.Tests.{lt-ltb, leb-true}
 use lib.Dec.{leb}
 use lib.ListN.{length, take, length-append}
 use Rattle.demand.specs.declared.Kind.{Kind}
-use Rattle.demand.specs.declared.Kind.the-variants.{Whole, First, Last}
 use Rattle.demand.specs.declared.Costs.{Costs}
 use Rattle.demand.specs.Sizes.{SizedCosts, Each}
 use Rattle.demand.specs.Charge.{charge, charged}
+use Rattle.demand.proofs.Tests.{both-left, both-right}
+use Rattle.demand.proofs.KindLaws.{every-kind}
 use Rattle.demand.proofs.ChargeLaws.{charged-ranged, sized-countable}
 use Rattle.demand.proofs.Sums.{each-map}
 use Rattle.task.specs.declared.Name.{Name}
@@ -29,7 +30,6 @@ use Rattle.task.specs.Names.{nameByte, fitsAt, speltFrom, spelt, formed}
 use Rattle.task.specs.Tasks.{taskAt, faultOf, firstFault, orElse, stateFault}
 use Rattle.task.proofs.TaskLaws.{state-sane, fault-form}
 use Rattle.lines.specs.Lines.{bytesOf, newline, tab}
-use Rattle.lines.proofs.FieldLaws.{both-left, both-right}
 use Rattle.walks.specs.Way.{Placed, fine, onCore}
 use Rattle.walks.specs.Halves.{Stand}
 use Rattle.walks.proofs.ListLaws.{each-join}
@@ -115,9 +115,7 @@ line-short e short =
     )
   where
     word-short : (k : Kind) → length (kindWord k) ≤ 5
-    word-short Whole = omega arith
-    word-short First = omega arith
-    word-short Last = omega arith
+    word-short k = leb-true (length (kindWord k)) 5 (every-kind (λ k. leb (length (kindWord k)) 5) refl k)
 
 lines-short : (es : List Entry) → Each (λ e. length (e .task) ≤ 24) es → length (entryLines es) ≤ 142 * length es
 lines-short [] short = omega arith

@@ -11,20 +11,22 @@
 --   Readable e             what an entry needs to be read back
 --   lines-alike            the lines of such entries determine them
 --   listing-alike          and two listings that are equal are so in their first lines' numbers and in the lines below
-use mathlib.Core.Path.{_≡_, refl, sym, _∙_}
-use mathlib.Core.Bool.{true, false, not}
+use mathlib.Core.Path.{_≡_, refl, sym, ap, _∙_}
+use mathlib.Core.Bool.{Bool, true, false, not, cond}
 use mathlib.Core.List.{List, [], _∷_, _++_, append-assoc}
 use Prim.Native.Nat.{ℕ, _^_, _<_}
 use native.Mathlib.Omega.{arith}
-use borrow.Author.Tests.{eq-eqb}
+use borrow.Author.Tests.{eq-eqb, eqb-true}
 use lib.Dec.{eqb}
-use lib.ListN.{length}
+use lib.ListN.{length, getD}
 use Rattle.demand.specs.declared.Kind.{Kind}
-use Rattle.demand.specs.declared.Kind.the-variants.{Whole, First, Last}
+use Rattle.demand.specs.Kinds.{kindNumber}
 use Rattle.demand.specs.Sizes.{Each}
+use Rattle.demand.proofs.Tests.{both-left, both-right}
+use Rattle.demand.proofs.KindLaws.{kind-one, allKinds, every-kind}
 use Rattle.plan.specs.declared.Plan.{Plan}
 use Rattle.lines.specs.Lines.{bytesOf, tab, newline, isDigit, every}
-use Rattle.lines.proofs.FieldLaws.{both-left, both-right, digit-low}
+use Rattle.lines.proofs.FieldLaws.{digit-low}
 use Rattle.listing.specs.Text.{decimal}
 use Rattle.listing.specs.Listing.{Entry, kindWord, entryLine, entryLines, entries, header, listingOf}
 use Rattle.listing.proofs.DigitLaws.{decimal-digits, decimal-one}
@@ -75,20 +77,20 @@ pub decimal-lacks : (b : ℕ) → b < 48 → (n : ℕ) → Lacks b (decimal n)
 decimal-lacks b low n = digits-lack b low (decimal n) (decimal-digits n)
 
 pub word-lacks : (k : Kind) → Lacks tab (kindWord k)
-word-lacks Whole = lacks-by tab (bytesOf "whole") refl
-word-lacks First = lacks-by tab (bytesOf "first") refl
-word-lacks Last = lacks-by tab (bytesOf "last") refl
+word-lacks k = lacks-by tab (kindWord k) (every-kind (λ k. every (λ a. not (eqb a tab)) (kindWord k)) refl k)
+
+-- their first letters tell them apart
+abbrev letter : Kind → ℕ
+letter k = getD (kindWord k) 0 0
+
+abbrev told-by-letter : Kind → Kind → Bool
+told-by-letter k l = cond (eqb (letter k) (letter l)) (eqb (kindNumber k) (kindNumber l)) true
 
 pub word-one : (k l : Kind) → kindWord k ≡ kindWord l → k ≡ l
-word-one Whole Whole e = refl
-word-one Whole First e = let z : _≡_ {A = ℕ} 119 102 = cc in absurd (omega arith)
-word-one Whole Last e = let z : _≡_ {A = ℕ} 119 108 = cc in absurd (omega arith)
-word-one First Whole e = let z : _≡_ {A = ℕ} 102 119 = cc in absurd (omega arith)
-word-one First First e = refl
-word-one First Last e = let z : _≡_ {A = ℕ} 102 108 = cc in absurd (omega arith)
-word-one Last Whole e = let z : _≡_ {A = ℕ} 108 119 = cc in absurd (omega arith)
-word-one Last First e = let z : _≡_ {A = ℕ} 108 102 = cc in absurd (omega arith)
-word-one Last Last e = refl
+word-one k l e =
+    let told = every-kind (told-by-letter k) (every-kind (λ k. allKinds (told-by-letter k)) refl k) l in
+    let alike : eqb (letter k) (letter l) ≡ true = eq-eqb (letter k) (letter l) (ap (λ (w : List ℕ). getD w 0 0) e) in
+    kind-one k l (eqb-true (kindNumber k) (kindNumber l) (rw alike at told))
 
 pub line-cut : (fs gs : List (List ℕ)) (n m : ℕ) (r s : List ℕ) → length fs ≡ length gs → Each (Lacks tab) fs → Each (Lacks tab) gs
     → fieldsOn fs (decimal n ++ (newline ∷ r)) ≡ fieldsOn gs (decimal m ++ (newline ∷ s)) → (fs ≡ gs) × (decimal n ≡ decimal m) × (r ≡ s)

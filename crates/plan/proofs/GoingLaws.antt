@@ -29,7 +29,7 @@ use Rattle.demand.specs.declared.Split.the-variants.{Cut, Nowhere}
 use Rattle.demand.specs.Sizes.{Each}
 use Rattle.demand.specs.Split.{firstPiece, lastPiece, passes, greatestSplit}
 use Rattle.demand.specs.Verdict.{verdictOf}
-use Rattle.demand.proofs.RecordLaws.{kind-back}
+use Rattle.demand.proofs.KindLaws.{kind-back}
 use Rattle.demand.proofs.Sums.{each-snoc, each-imp}
 use Rattle.demand.proofs.Verdict as verdict-type
 use Rattle.plan.specs.declared.Going.{Going}

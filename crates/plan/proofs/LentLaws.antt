@@ -22,7 +22,7 @@ use Rattle.demand.specs.declared.Piece.{Piece}
 use Rattle.demand.specs.Kinds.{kindNumber, kindOf}
 use Rattle.demand.specs.Sizes.{Each}
 use Rattle.demand.proofs.ArrayLaws.{firsts-length, firsts-same, sets-before, sets-there}
-use Rattle.demand.proofs.RecordLaws.{kind-back}
+use Rattle.demand.proofs.KindLaws.{kind-back}
 use Rattle.demand.proofs.Sums.{each-front, each-last}
 use Rattle.task.specs.declared.Times.{Times}
 use Rattle.task.specs.declared.Task.{Task}

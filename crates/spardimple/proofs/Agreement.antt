@@ -11,15 +11,17 @@ use mathlib.Core.List.{List, [], _∷_, _++_}
 use Prim.Native.Nat.{ℕ, zero, suc, _+_, _*_, _/_, _%_, _≤_, _<_}
 use native.Mathlib.Nat.{suc-add, not-suc-le-zero, le-of-suc-le-suc}
 use native.Mathlib.Omega.{arith}
+use borrow.Author.Tests.{leb-true}
+use lib.Dec.{leb}
 use lib.ListN.{length, take, getD, List·getD-append}
 use lib.Seq.{take-suc, take-length, getD-append-add}
 use Rattle.demand.specs.declared.Kind.{Kind}
-use Rattle.demand.specs.declared.Kind.the-variants.{Whole, First, Last}
 use Rattle.demand.specs.declared.Piece.{Piece}
 use Rattle.demand.specs.declared.Costs.{Costs}
 use Rattle.demand.specs.Sizes.{Each}
 use Rattle.demand.specs.Answer.{answerOf, told}
 use Rattle.demand.specs.Kinds.{kindNumber, kindOf}
+use Rattle.demand.proofs.KindLaws.{kind-back, every-kind}
 use Rattle.spardimple.specs.Bytes.{numberAt, outside, sevenAt, pieceAt, firstPieces, piecesOf, costsSpelt}
 use Rattle.spardimple.specs.Numbers.{number, verdictNumber, said}
 use Rattle.spardimple.specs.Spelling.{fourBytes, sevenNumbers, runNumbers, nineNumbers, spell, Narrow}
@@ -72,15 +74,8 @@ run-at (p ∷ ps) (suc j) f d h k =
     let e : 7 * suc j + f ≡ 7 + (7 * j + f) = omega arith in
     ap (λ (i : ℕ). getD (runNumbers (p ∷ ps)) i 0) e ∙ (getD-append-add (sevenNumbers p) (runNumbers ps) (7 * j + f) 0 ∙ run-at ps j f d (le-of-suc-le-suc h) k)
 
-kind-read : (k : Kind) → kindOf (kindNumber k) ≡ k
-kind-read Whole = refl
-kind-read First = refl
-kind-read Last = refl
-
 kind-narrow : (k : Kind) → kindNumber k ≤ 2
-kind-narrow Whole = omega arith
-kind-narrow First = omega arith
-kind-narrow Last = omega arith
+kind-narrow k = leb-true (kindNumber k) 2 (every-kind (λ k. leb (kindNumber k) 2) refl k)
 
 module _ (ps : List Piece) (narrow : Each Narrow (runNumbers ps)) where
   field-at : (j f at : ℕ) → j < length ps → f < 7 → at ≡ 4 * (7 * j + f) → numberAt (spell (runNumbers ps)) at ≡ getD (sevenNumbers (getD ps j outside)) f 0
@@ -93,7 +88,7 @@ module _ (ps : List Piece) (narrow : Each Narrow (runNumbers ps)) where
       let kind = field-at j 0 (28 * j) h (omega arith) (omega arith) in
       piece-named (spell (runNumbers ps)) (28 * j) (omega (arith, kind, kind-narrow (getD ps j outside .kind)))
       ∙ λ i. record {
-        kind = (ap kindOf kind ∙ kind-read (getD ps j outside .kind)) i;
+        kind = (ap kindOf kind ∙ kind-back (getD ps j outside .kind)) i;
         budget = field-at j 1 (28 * j + 4) h (omega arith) (omega arith) i;
         window = field-at j 2 (28 * j + 8) h (omega arith) (omega arith) i;
         period = field-at j 3 (28 * j + 12) h (omega arith) (omega arith) i;

@@ -14,6 +14,7 @@ use borrow.Author.Tests.{eq-eqb, ne-eqb, eqb-true, le-leb, lt-leb}
 use lib.Dec.{eqb}
 use lib.ListN.{length, drop, getD, drop-of-length-le}
 use lib.Seq.{drop-cons}
+use Rattle.demand.proofs.Tests.{both-left, both-right}
 use Rattle.task.specs.declared.Name.{Name}
 use Rattle.task.specs.Names.{fitsAt, speltFrom, spelt, sameBytes, sameName}
 
@@ -47,15 +48,6 @@ module _ (as′ bs : List ℕ) (i : ℕ) (room : i < length as′) (other : i < 
 
 pub same-end : (as′ bs : List ℕ) (i : ℕ) → length as′ ≤ i → length bs ≤ i → sameBytes (drop i as′) (drop i bs) ≡ true
 same-end as′ bs i short shorter = rw (drop-of-length-le as′ {i = i} short, drop-of-length-le bs {i = i} shorter)
-
-both-left : (a b : Bool) → (a && b) ≡ true → a ≡ true
-both-left true b e = refl
-both-left false b e = e
-
-both-right : (a b : Bool) → (a && b) ≡ true → b ≡ true
-both-right true b e = e
-both-right false true e = refl
-both-right false false e = e
 
 pub bytes-exact : (as′ bs : List ℕ) → sameBytes as′ bs ≡ true → as′ ≡ bs
 bytes-exact [] [] e = refl
