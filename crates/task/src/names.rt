@@ -11,7 +11,7 @@ ghost use Prim.Native.Nat.{_≤_};
 ghost use lib.ListN.{take};
 ghost use Rattle.demand.specs.Sizes.{sized};
 ghost use Rattle.task.specs.Names.{between, nameByte, fitsAt, spelt, formed, sameBytes};
-ghost use Rattle.task.specs.Tasks.{wholePiece, rule, firstFault};
+ghost use Rattle.task.specs.Tasks.{tasksMost, wholePiece, rule, firstFault};
 
 // Whether a byte lies between two others.
 pub fn inside(b: u8, low: u8, high: u8) -> bool
@@ -101,7 +101,7 @@ pub fn task_fault(task: Task, twins: u64) -> u64
 
 // The first fault down the list. A task's name is held to those before it, place by place: 4, where one is the same.
 pub fn first_fault(tasks: Tasks) -> u64
-    requires { ⌜ tasks .count ≤ 64 ⌝ }
+    requires { ⌜ tasks .count ≤ tasksMost ⌝ }
     ensures { λ r. ⌜ r ≡ firstFault [] (take (tasks .count) (tasks .list)) ⌝ }
 {
     let mut i: usize = 0;
