@@ -1,24 +1,30 @@
--- How much an answer carries: a length or a place, and each is small.
+-- What an answer says of a run, in both directions; and how much it carries: a length or a place, and each is small.
 -- Assumes nothing.
 --
+--   answer-judged         a run is judged exactly where it breaks no rule, with the verdict on its pieces
+--   answer-passes, answer-overloaded, answer-undecided     each verdict comes exactly where no rule is broken and its meaning holds
+--   split-best            and so does a split, of a run and a task
 --   start-within          the judged span starts at 1,000,000 at the most
 --   overloaded-within     an overloaded length is below the busy length limit and a window
 --   first-bad-within      a bad record's place is among the records' places
 --   answer-carries        so no answer carries more than the longest length
-use mathlib.Core.Path.{_≡_, refl}
+use mathlib.Core.Path.{_≡_, refl, sym, ap, _∙_, subst}
 use mathlib.Core.Bool.{Bool, true, false, cond}
-use mathlib.Core.List.{List, [], _∷_}
-use mathlib.Core.Logic.{_⊎_}
+use mathlib.Core.List.{List, [], _∷_, _++_}
+use mathlib.Core.Logic.{_⊎_, _↔_}
 use Prim.Native.Nat.{ℕ, zero, suc, _+_, _≤_}
 use native.Mathlib.Omega.{arith}
 use borrow.Author.Tests.{leb-true}
 use lib.Dec.{leb}
-use lib.ListN.{length, take, length-take}
+use lib.ListN.{length, take, length-take, length-append}
+use lib.Seq.{take-all}
 use Rattle.demand.specs.declared.Piece.{Piece}
 use Rattle.demand.specs.declared.Costs.{Costs}
 use Rattle.demand.specs.declared.Charged.{Charged}
 use Rattle.demand.specs.declared.Verdict.{Verdict}
 use Rattle.demand.specs.declared.Verdict.the-variants.{Passes, Overloaded, Undecided}
+use Rattle.demand.specs.declared.Split.{Split}
+use Rattle.demand.specs.declared.Splitting.the-variants.{Best, Denied}
 use Rattle.demand.specs.declared.Refusal.{Refusal}
 use Rattle.demand.specs.declared.Refusal.the-variants.{TooMany, BadCosts, BadRecord}
 use Rattle.demand.specs.declared.Check.{Check}
@@ -26,15 +32,85 @@ use Rattle.demand.specs.declared.Check.the-variants.{Fine, Bad}
 use Rattle.demand.specs.declared.Answer.{Answer}
 use Rattle.demand.specs.declared.Answer.the-variants.{Judged, Refused}
 use Rattle.demand.specs.Sizes.{timeMost, runMost, lengthMost, Sized, Each, sized, sizedCosts}
-use Rattle.demand.specs.Charge.{charged, coreOf}
+use Rattle.demand.specs.Charge.{charged, coreOf, stall}
 use Rattle.demand.specs.Demand.{Live}
 use Rattle.demand.specs.Busy.{Least}
-use Rattle.demand.specs.Verdict.{verdictOf}
-use Rattle.demand.specs.Answer.{firstBad, badRecord, checkRun, answerOf, told}
+use Rattle.demand.specs.Verdict.{Means, Bounded, KeepsUp, verdictOf}
+use Rattle.demand.specs.Answer.{Taken, firstBad, badRecord, checkRun, answerOf, splitted, splitOf, told}
+use Rattle.demand.specs.Split.{Splits, greatestSplit}
 use Rattle.demand.proofs.DemandLaws.{jobs-due-some}
 use Rattle.demand.proofs.BusyLaws.{least-le}
-use Rattle.demand.proofs.RunLaws.{check-taken, answer-fine, answer-bad}
-use Rattle.demand.proofs.Judgement.{overloaded-worst}
+use Rattle.demand.proofs.RunLaws.{check-taken, taken-check, taken-answer, answer-fine, answer-bad, split-fine, split-bad}
+use Rattle.demand.proofs.Sums.{each-front, each-last}
+use Rattle.demand.proofs.SplitLaws.{split-means, split-is}
+use Rattle.demand.proofs.Judgement.{overloaded-worst, passes-means, overloaded-means, undecided-means}
+
+-- ---- in both directions
+
+module _ (c : Costs) (n : ℕ) (ps : List Piece) where
+  pub answer-judged : (v : Verdict) → (answerOf c n ps ≡ Judged v) ↔ (Taken c n ps × (verdictOf c (take n ps) ≡ v))
+  answer-judged v = ((λ is. by is (checkRun c n ps) refl), λ h. taken-answer c n ps (h .0) ∙ ap (λ (w : Verdict). Judged w) (h .1))
+    where
+      by : answerOf c n ps ≡ Judged v → (k : Check) → checkRun c n ps ≡ k → Taken c n ps × (verdictOf c (take n ps) ≡ v)
+      by is Fine e = (
+        check-taken c n ps e,
+        (let h : Judged (verdictOf c (take n ps)) ≡ Judged v = sym (answer-fine c n ps e) ∙ is in cc),
+      )
+      by is (Bad r) e = let h : Refused r ≡ Judged v = sym (answer-bad c n ps r e) ∙ is in let z : _≡_ {A = ℕ} 0 1 = cc in absurd (omega arith)
+
+  -- a verdict by its meaning
+  meaning : (v : Verdict) (M : Type 0) → (Each Sized (take n ps) → (verdictOf c (take n ps) ≡ v) ↔ M) → (answerOf c n ps ≡ Judged v) ↔ (Taken c n ps × M)
+  meaning v M means = (
+    (λ is. (let h = answer-judged v .0 is in (h .0, means (h .0 .each) .0 (h .1)))),
+    λ h. answer-judged v .1 (h .0, means (h .0 .each) .1 (h .1)),
+  )
+
+  pub answer-passes : (answerOf c n ps ≡ Judged Passes) ↔ (Taken c n ps × Bounded (coreOf c (take n ps)) × KeepsUp (stall c) (coreOf c (take n ps)))
+  answer-passes =
+      let h = meaning Passes (Bounded (coreOf c (take n ps)) × KeepsUp (stall c) (coreOf c (take n ps))) (λ sizes. passes-means c (take n ps) sizes) in
+      ((λ is. (let k = h .0 is in (k .0, k .1 .0, k .1 .1))), λ k. h .1 (k .0, (k .1, k .2)))
+
+  pub answer-overloaded : (t : ℕ) → (answerOf c n ps ≡ Judged (Overloaded t)) ↔ (Taken c n ps × Means (stall c) (coreOf c (take n ps)) (Overloaded t))
+  answer-overloaded t = meaning (Overloaded t) (Means (stall c) (coreOf c (take n ps)) (Overloaded t)) (λ sizes. overloaded-means c (take n ps) sizes t)
+
+  pub answer-undecided : (answerOf c n ps ≡ Judged Undecided) ↔ (Taken c n ps × Means (stall c) (coreOf c (take n ps)) Undecided)
+  answer-undecided = meaning Undecided (Means (stall c) (coreOf c (take n ps)) Undecided) (λ sizes. undecided-means c (take n ps) sizes)
+
+-- ---- a split
+
+module _ (c : Costs) (n : ℕ) (ps : List Piece) (p : Piece) (g : ℕ) where
+  -- the run with the task behind it
+  all : List Piece
+  all = take n ps ++ (p ∷ [])
+
+  each-all : Taken c (n + 1) all → Each Sized all
+  unfolding all
+  each-all ok = rw (take-all (n + 1) (take n ps ++ (p ∷ [])) (omega (arith, length-append (take n ps) (p ∷ []), length-take n ps))) at (ok .each)
+
+  own-split : Taken c (n + 1) all → (s : Split) → (greatestSplit c g (take n ps) p ≡ s) ↔ Splits c g (take n ps) p s
+  unfolding all
+  own-split ok s =
+      let each = each-front Sized (take n ps) p (each-all ok) in
+      let own = each-last Sized (take n ps) p (each-all ok) in (
+        (λ e. subst (Splits c g (take n ps) p) e (split-means c g (take n ps) p each own)),
+        λ h. sym (split-is c g (take n ps) p each own s h),
+      )
+
+  pub split-best : (s : Split) → (splitOf c n ps p g ≡ Best s) ↔ (Taken c (n + 1) (take n ps ++ (p ∷ [])) × Splits c g (take n ps) p s)
+  unfolding splitOf all
+  split-best s = (
+    (λ is. by is (checkRun c (n + 1) all) refl),
+    λ h. ap (λ (k : Check). splitted k (greatestSplit c g (take n ps) p)) (taken-check c (n + 1) all (h .0)) ∙ ap (λ (z : Split). Best z) (own-split (h .0) s .1 (h .1)),
+  )
+    where
+      by : splitOf c n ps p g ≡ Best s → (k : Check) → checkRun c (n + 1) all ≡ k → Taken c (n + 1) all × Splits c g (take n ps) p s
+      by is Fine e =
+          let ok = check-taken c (n + 1) all e in
+          let h : Best (greatestSplit c g (take n ps) p) ≡ Best s = split-fine (checkRun c (n + 1) all) (greatestSplit c g (take n ps) p) e ∙ is in
+          (ok, own-split ok s .0 (cc))
+      by is (Bad r) e =
+          let h : Denied r ≡ Best s = split-bad (checkRun c (n + 1) all) (greatestSplit c g (take n ps) p) r e ∙ is in
+          let z : _≡_ {A = ℕ} 0 1 = cc in absurd (omega arith)
 
 -- ---- an overloaded length
 

@@ -3,28 +3,43 @@
 --
 --   verdict-right         the executable definition satisfies the meaning
 --   verdict-one           two verdicts that satisfy the meaning coincide
+--   passes-means, overloaded-means, undecided-means     each verdict comes exactly where its meaning holds
 --   passes-all            "passes": no live length, however long, asks for more than itself
 --   passes-busy           "passes": there are no pieces, or the busy length is within the limit
 --   overloaded-worst      "overloaded": the length it carries is the greatest overloaded one of the judged span
 --   overloaded-live       "overloaded": that length is live, and asks for more than itself
 --   undecided-only        "undecided": there is no busy length up to the limit
 --   undecided-then        no busy length up to the limit: "undecided"
-use mathlib.Core.Path.{_≡_, subst}
-use mathlib.Core.List.{List, []}
-use mathlib.Core.Logic.{_⊎_, ⊎-elim, inl, inr}
+use mathlib.Core.Path.{_≡_, refl, subst}
+use mathlib.Core.List.{List, [], _∷_}
+use mathlib.Core.Logic.{_⊎_, _↔_, ⊎-elim, inl, inr}
 use Prim.Native.Nat.{ℕ, _≤_, _<_}
 use Rattle.demand.specs.declared.Piece.{Piece}
 use Rattle.demand.specs.declared.Costs.{Costs}
+use Rattle.demand.specs.declared.Charged.{Charged}
 use Rattle.demand.specs.declared.Verdict.{Verdict}
 use Rattle.demand.specs.declared.Verdict.the-variants.{Passes, Overloaded, Undecided}
 use Rattle.demand.specs.Sizes.{Sized, Each, busyMost}
 use Rattle.demand.specs.Charge.{coreOf, stall}
-use Rattle.demand.specs.Demand.{demand, Live}
+use Rattle.demand.specs.Demand.{demand, Live, leastLive}
 use Rattle.demand.specs.Busy.{Least, Holds, busySum}
-use Rattle.demand.specs.Verdict.{Judged, Worst, Means, verdictOf}
+use Rattle.demand.specs.Verdict.{Judged, Worst, Means, Bounded, KeepsUp, verdictOf}
 use Rattle.demand.proofs.ChargeLaws.{core-recurs, all-countable}
-use Rattle.demand.proofs.DemandLaws.{Recurs, live-mono}
+use Rattle.demand.proofs.DemandLaws.{Recurs, live-mono, least-live-least}
 use Rattle.demand.proofs.VerdictLaws.{verdict-means, verdict-unique, passes-forever}
+
+-- what keeps up at every live length is calm over the judged span
+passing : (b : ℕ) (qs : List Charged) → Each Recurs qs → Bounded qs → KeepsUp b qs → Means b qs Passes
+passing b [] recurs bounded up = inl refl
+passing b (q ∷ qs) recurs (inl none) up = inl none
+passing b (q ∷ qs) recurs (inr (l, busy, within)) up =
+    let start = least-live-least q qs in
+    inr (
+      leastLive (q ∷ qs),
+      l,
+      record { start = start; busy = busy; within = within },
+      λ u from below. up u (live-mono (q ∷ qs) recurs from (start .here)),
+    )
 
 module _ (c : Costs) (ps : List Piece) (sizes : Each Sized ps) where
   recurs : Each Recurs (coreOf c ps)
@@ -59,3 +74,17 @@ module _ (c : Costs) (ps : List Piece) (sizes : Each Sized ps) where
 
   pub undecided-then : ((l : ℕ) → l ≤ busyMost → Holds (busySum (coreOf c ps)) l → ⊥) → verdictOf c ps ≡ Undecided
   undecided-then none = verdict-one (verdictOf c ps) Undecided verdict-right none
+
+  -- ---- in both directions
+
+  pub passes-means : (verdictOf c ps ≡ Passes) ↔ (Bounded (coreOf c ps) × KeepsUp (stall c) (coreOf c ps))
+  passes-means = (
+    (λ e. (passes-busy e, passes-all e)),
+    λ h. verdict-one (verdictOf c ps) Passes verdict-right (passing (stall c) (coreOf c ps) recurs (h .0) (h .1)),
+  )
+
+  pub overloaded-means : (t : ℕ) → (verdictOf c ps ≡ Overloaded t) ↔ Means (stall c) (coreOf c ps) (Overloaded t)
+  overloaded-means t = (meant (Overloaded t), λ h. verdict-one (verdictOf c ps) (Overloaded t) verdict-right h)
+
+  pub undecided-means : (verdictOf c ps ≡ Undecided) ↔ Means (stall c) (coreOf c ps) Undecided
+  undecided-means = (undecided-only, undecided-then)

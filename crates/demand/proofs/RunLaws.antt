@@ -36,7 +36,7 @@ use Rattle.demand.specs.declared.Split.{Split}
 use Rattle.demand.specs.declared.Splitting.the-variants.{Best, Denied}
 use Rattle.demand.specs.Charge.{coreOf}
 use Rattle.demand.specs.Verdict.{verdictOf}
-use Rattle.demand.specs.Answer.{firstBad, badRecord, checkRun, answerOf, figured, splitted}
+use Rattle.demand.specs.Answer.{Taken, firstBad, badRecord, checkRun, answerOf, figured, splitted}
 use Rattle.demand.proofs.Sums.{each-front, each-last}
 use Rattle.demand.proofs.ChargeLaws.{all-countable, core-ranged}
 use Rattle.demand.proofs.SizeLaws.{first-bad-good, first-bad-here, first-bad-none, first-bad-behind}
@@ -78,12 +78,6 @@ module _ (c : Costs) (n : ℕ) (ps : List Piece) where
 pub bad-record-some : (k : ℕ) → (k ≡ 0 → ⊥) → badRecord k ≡ Bad (BadRecord k)
 bad-record-some zero h = absurd (h refl)
 bad-record-some (suc k) h = refl
-
--- what is known of a run that is not refused
-pub record Taken (c : Costs) (n : ℕ) (ps : List Piece) : Type 0 where
-  pub few : n ≤ runMost
-  pub costs : SizedCosts c
-  pub each : Each Sized (take n ps)
 
 pub taken-countable : (c : Costs) (n : ℕ) (ps : List Piece) → Taken c n ps → Each Countable (take n ps)
 taken-countable c n ps ok = all-countable (take n ps) (ok .each)

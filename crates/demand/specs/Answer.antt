@@ -4,11 +4,12 @@
 --   firstBad k ps         the place of the first record outside the sizes, counted from k, or 0
 --   checkRun c n ps       6, then 2, then 3 with the record's place
 --   answerOf c n ps       the refusal, else the verdict
+--   Taken c n ps          the run breaks no rule: `proofs/AnswerLaws.antt` has that it is judged exactly then
 --   chargedTime c p       C', or 0 where the costs or the piece are outside the sizes
 --   told a                document 01's number for each case, with what it carries
 use mathlib.Core.Bool.{cond, _&&_}
 use mathlib.Core.List.{List, [], _∷_, _++_}
-use Prim.Native.Nat.{ℕ, zero, suc, _+_}
+use Prim.Native.Nat.{ℕ, zero, suc, _+_, _≤_}
 use lib.Dec.{leb}
 use lib.ListN.{take}
 use Rattle.demand.specs.declared.Piece.{Piece}
@@ -28,7 +29,7 @@ use Rattle.demand.specs.declared.Figure.the-variants.{Of, Barred}
 use Rattle.demand.specs.declared.Split.{Split}
 use Rattle.demand.specs.declared.Splitting.{Splitting}
 use Rattle.demand.specs.declared.Splitting.the-variants.{Best, Denied}
-use Rattle.demand.specs.Sizes.{runMost, lengthMost, sizedCosts, sized}
+use Rattle.demand.specs.Sizes.{runMost, lengthMost, SizedCosts, Sized, sizedCosts, sized, Each}
 use Rattle.demand.specs.Charge.{charge, coreOf, stall}
 use Rattle.demand.specs.Demand.{demand}
 use Rattle.demand.specs.Busy.{busyLength, tightWindow}
@@ -52,6 +53,11 @@ answered (Bad r) v = Refused r
 
 unfoldable pub answerOf : Costs → ℕ → List Piece → Answer
 answerOf c n ps = answered (checkRun c n ps) (verdictOf c (take n ps))
+
+pub record Taken (c : Costs) (n : ℕ) (ps : List Piece) : Type 0 where
+  pub few : n ≤ runMost
+  pub costs : SizedCosts c
+  pub each : Each Sized (take n ps)
 
 -- ---- the charged time of a piece
 

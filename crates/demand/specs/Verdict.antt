@@ -5,6 +5,8 @@
 --   Calm b qs a e         no length from a, below e, is overloaded
 --   Worst b qs t₀ l t     t is the greatest overloaded length of the span
 --   Means b qs v          the verdict v is right for the core
+--   Bounded qs            there is no piece, or a busy length within the limit
+--   KeepsUp b qs          no length at which a job is due, however long, asks for more than itself
 --   verdict b qs          the right verdict
 --   verdictOf c ps        the verdict on the pieces ps at the costs c
 use mathlib.Core.Bool.{true, false}
@@ -49,6 +51,13 @@ abbrev pub Means : ℕ → List Charged → Verdict → Type 0
 Means b qs Passes = (qs ≡ []) ⊎ ((t₀ : ℕ) × (l : ℕ) × Judged qs t₀ l × Calm b qs t₀ (t₀ + l))
 Means b qs (Overloaded t) = (t₀ : ℕ) × (l : ℕ) × Judged qs t₀ l × Worst b qs t₀ l t
 Means b qs Undecided = (l : ℕ) → l ≤ busyMost → Holds (busySum qs) l → ⊥
+
+-- "passes" in full: `proofs/Judgement.antt` has that these two say the same as its meaning over the judged span
+abbrev pub Bounded : List Charged → Type 0
+Bounded qs = (qs ≡ []) ⊎ ((l : ℕ) × Least (Holds (busySum qs)) l × (l ≤ busyMost))
+
+abbrev pub KeepsUp : ℕ → List Charged → Type 0
+KeepsUp b qs = (t : ℕ) → Live qs t → demand b qs t ≤ t
 
 -- from the greatest of the k lengths from a down
 abbrev pub scan : ℕ → List Charged → ℕ → ℕ → Verdict

@@ -23,7 +23,7 @@
 --   words-show            a core's word has bit k set exactly when the task at place k has a piece there, and its ones are its pieces
 use mathlib.Core.Path.{_≡_, refl, sym, ap, _∙_, subst}
 use mathlib.Core.Logic.{_⊎_, inl, inr, _↔_}
-use mathlib.Core.List.{List, map}
+use mathlib.Core.List.{List, [], _++_, map}
 use Prim.Native.Nat.{ℕ, zero, suc, _+_, _-_, _≤_, _<_}
 use native.Mathlib.Omega.{arith}
 use lib.ListN.{length, take, getD, length-take, length-map}
@@ -46,19 +46,18 @@ use Rattle.task.proofs.TaskLaws.{Sane, state-sane}
 use Rattle.walks.specs.Lists.{Chain, sumBy}
 use Rattle.walks.specs.Order.{Precedes}
 use Rattle.walks.specs.Way.{Placed, placedAs, Ending, fine, stuck, onCore, rowOf}
-use Rattle.walks.specs.Shares.{Divides}
 use Rattle.walks.specs.Halves.{Stand, Shared, splitCount}
 use Rattle.walks.proofs.ListLaws.{each-middle, sum-map}
 use Rattle.walks.proofs.OrderLaws.{pack-every, pack-ranked}
 use Rattle.walks.proofs.DenserLaws.{denser-lawful}
 use Rattle.walks.proofs.WayLaws.{SticksAt, sticks-at, walk-items}
-use Rattle.walks.proofs.SoundLaws.{Planned, Has, share-of, spots-within, few-on-core, apart-on, pieces-each}
+use Rattle.walks.proofs.SoundLaws.{Planned, Has, Divided, share-of, spots-within, few-on-core, apart-on, pieces-each}
 use Rattle.walks.proofs.HalvesLaws.{shared-firsts, shares-firsts, shared-free}
 use Rattle.plan.specs.declared.Reply.{Reply}
 use Rattle.plan.specs.Walk.{wholeAt, placeWay, upto, walked}
 use Rattle.plan.specs.Layout.{layoutOn, none, blank}
 use Rattle.plan.specs.Plan.{refused, finished, unlessFault, planOf}
-use Rattle.plan.specs.Places.{byPlace, denserAt, packed, Rearranged, ofTask}
+use Rattle.plan.specs.Places.{byPlace, denserAt, packed, Rearranged, ofTask, TaskPlaced}
 use Rattle.plan.specs.Shows.{LayoutShows, WordShows}
 use Rattle.plan.proofs.WalkLaws.{whole-kind, claims, walk-planned, only-seven}
 use Rattle.plan.proofs.PlanLaws.{sized-at, upto-each, fault-seven}
@@ -195,15 +194,23 @@ module _ (m : Machine) (c : Costs) (n : ℕ) (ts : List Task) (faultless : state
     facts = walk-planned m c timesOf (sane .costs) (sane .cores-some) (packed (take n ts)) sized-order s l planned
 
     -- a task's share
-    share : (k : ℕ) → k < length (take n ts) → Has byPlace place-exact (λ a l. Divides (m .cores) (wholeAt (take n ts) a) l × claims m c timesOf .Share a l) k l
+    share : (k : ℕ) → k < length (take n ts)
+        → Has byPlace place-exact (Divided (m .cores) (wholeAt (take n ts)) (claims m c timesOf .Share)) [] k l
     share k low =
-        (let order = packing-order (take n ts) in share-of byPlace place-exact (λ a l. Divides (m .cores) (wholeAt (take n ts) a) l
-        × claims m c timesOf .Share a l) k (facts .shares) (order .once) (order .every k low))
+        let order = packing-order (take n ts) in
+        share-of byPlace place-exact (Divided (m .cores) (wholeAt (take n ts)) (claims m c timesOf .Share)) k (facts .shares) (order .once) (order .every k low)
 
-    pub all-placed : (k : ℕ) → k < length (take n ts) → Shared c (m .grain) (wholeAt (take n ts) k) k (ofTask k l)
+    pub all-placed : (k : ℕ) → k < length (take n ts) → TaskPlaced m c (take n ts) k l
     all-placed k low =
-        (let h = share k low in rw (h .is)
-        (subst (λ (j : ℕ). Shared c (m .grain) (wholeAt (take n ts) j) j (map (placedAs (h .item)) (h .spots))) (h .own) (h .has .1)))
+        let h = share k low in
+        record {
+          past = h .past;
+          later = h .later;
+          order = h .order ∙ ap (λ (z : List (Placed ℕ)). h .past ++ (z ++ h .later)) (sym (h .is));
+          shared =
+              rw (h .is)
+              (subst (λ (j : ℕ). Shared c (m .grain) (wholeAt (take n ts) j) (h .past) j (map (placedAs (h .item)) (h .spots))) (h .own) (h .has .1));
+        }
 
     -- what is summed over a task's pieces
     sum-of : (f : Piece → ℕ) (k : ℕ) (low : k < length (take n ts)) → sumBy (λ e. f (e .piece)) (ofTask k l) ≡ sumBy (λ e. f (e .piece)) (share k low .spots)
@@ -224,7 +231,9 @@ module _ (m : Machine) (c : Costs) (n : ℕ) (ts : List Task) (faultless : state
 
     pub free-is-budget : (k : ℕ) → k < length (take n ts) → Free c (wholeAt (take n ts) k)
         → Each (λ e. e .piece .kind ≡ First → e .piece .window ≡ e .piece .budget) (ofTask k l)
-    free-is-budget k low free = shared-free c (m .grain) (wholeAt (take n ts) k) k (sized-place k low) free (whole-kind (timesOf k)) (all-placed k low)
+    free-is-budget k low free =
+        let h = all-placed k low in
+        shared-free c (m .grain) (wholeAt (take n ts) k) (h .past) k (sized-place k low) free (whole-kind (timesOf k)) (h .shared)
 
     pub placed-places : Each (λ e. e .item < length (take n ts)) l
     unfolding walked
@@ -246,7 +255,9 @@ module _ (m : Machine) (c : Costs) (n : ℕ) (ts : List Task) (faultless : state
     -- ---- numbers
 
     pub task-pieces : (k : ℕ) → k < length (take n ts) → length (ofTask k l) ≡ 1 + splitCount (ofTask k l)
-    task-pieces k low = shared-firsts c (m .grain) (wholeAt (take n ts) k) k (whole-kind (timesOf k)) (all-placed k low)
+    task-pieces k low =
+        let h = all-placed k low in
+        shared-firsts c (m .grain) (wholeAt (take n ts) k) (h .past) k (whole-kind (timesOf k)) (h .shared)
 
     pub plan-counts : Counted (m .cores) (length (take n ts)) l
     plan-counts =

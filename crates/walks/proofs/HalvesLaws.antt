@@ -131,6 +131,9 @@ passes-is Passes e = refl
 passes-is (Overloaded t) e = let z : _≡_ {A = ℕ} 0 1 = cc in absurd (omega arith)
 passes-is Undecided e = let z : _≡_ {A = ℕ} 0 1 = cc in absurd (omega arith)
 
+passes-not : (v : Verdict) → passes v ≡ false → v ≡ Passes → ⊥
+passes-not v e is = let z : _≡_ {A = ℕ} 0 1 = cc in omega arith
+
 pub record Fit {A : Type 0} (m : ℕ) (done : List A) (s : Stand) (log : List (Placed A)) : Type 0 where
   pub here : rowOf (s .core) log ≡ s .row
   pub ahead : (q : ℕ) → s .core < q → rowOf q log ≡ []
@@ -143,13 +146,13 @@ halves c g m whole = record {
   whole = whole;
   Good = λ a. Right (whole a);
   Row = Fine c;
-  Share = λ a l. Shared c g (whole a) a (map (placedAs a) l);
+  Share = λ past a l. Shared c g (whole a) past a (map (placedAs a) l);
   Faithful = Fit m;
 }
 
 module _ {A : Type 0} (c : Costs) (g m : ℕ) (costs : SizedCosts c) (w : Piece) (right : Right w) (a : A) (done : List A) (log : List (Placed A)) where
   abbrev Kept : Stand → List Spot → Type 0
-  Kept t l = Fit m (done ++ (a ∷ [])) t (log ++ map (placedAs a) l) × Divides m w l × Shared c g w a (map (placedAs a) l)
+  Kept t l = Fit m (done ++ (a ∷ [])) t (log ++ map (placedAs a) l) × Divides m w l × Shared c g w log a (map (placedAs a) l)
       × Each (λ e. Fine c (rowOf (e .on) (log ++ map (placedAs a) l))) l
 
   row-here : (q : ℕ) (row : List Piece) (x : Piece) → rowOf q log ≡ row → rowOf q (log ++ (record { on = q; item = a; piece = x } ∷ [])) ≡ row ++ (x ∷ [])
@@ -175,7 +178,7 @@ module _ {A : Type 0} (c : Costs) (g m : ℕ) (costs : SizedCosts c) (w : Piece)
       budgets = omega arith;
       windows = omega arith;
     },
-    one-piece,
+    one-piece {p = p} (rw (h .here) (passes-is (verdictOf c (row ++ (w ∷ []))) e)),
     (
       rw (row-here p row w (h .here))
           (record { sizes = each-snoc Sized row w (has .sizes) (right .size); passing = passes-is (verdictOf c (row ++ (w ∷ []))) e }),
@@ -184,8 +187,8 @@ module _ {A : Type 0} (c : Costs) (g m : ℕ) (costs : SizedCosts c) (w : Piece)
   )
 
   keeps-two : (p : ℕ) (row : List Piece) (x v : ℕ) → Fit m done (record { core = p; row = row }) log → suc p < m → Fine c row
-      → greatestSplit c g row w ≡ Cut x v → IfLands Kept (inTwo c g w p x v)
-  keeps-two p row x v h next has e =
+      → passes (verdictOf c (row ++ (w ∷ []))) ≡ false → greatestSplit c g row w ≡ Cut x v → IfLands Kept (inTwo c g w p x v)
+  keeps-two p row x v h next has never e =
       let parts = split-parts c g row w costs (has .sizes) (right .size) x v e in
       let f = firstPiece w x v in
       let l = lastPiece c w x v in
@@ -200,7 +203,8 @@ module _ {A : Type 0} (c : Costs) (g m : ℕ) (costs : SizedCosts c) (w : Piece)
           count = simp length-append (omega (arith, h .count));
         },
         halved p x v next parts,
-        two-pieces row (has .sizes) (has .passing) e,
+        two-pieces {p = p} {x = x} {v = v} (rw (h .here) (passes-not (verdictOf c (row ++ (w ∷ []))) never))
+            (rw (h .here) (subst (Splits c g row w) e (split-means c g row w (has .sizes) (right .size)))),
         (
           rw on-first (record { sizes = each-snoc Sized row f (has .sizes) (parts .first-sized); passing = parts .first-passes }),
           (rw on-next (record { sizes = (parts .last-sized, tt); passing = parts .last-passes }), tt),
@@ -238,7 +242,7 @@ module _ {A : Type 0} (c : Costs) (g m : ℕ) (costs : SizedCosts c) (w : Piece)
             | false ↦ (elim u [ Cut x v ↦ inTwo c g w p x v | Nowhere ↦ fromCore c g w n (suc p) [] ])
           ])
       by true e u s rec = keeps-one p row h has e
-      by false e (Cut x v) s rec = keeps-two p row x v h (omega arith) has s
+      by false e (Cut x v) s rec = keeps-two p row x v h (omega arith) has e s
       by false e Nowhere s rec = rec
 
 pub halving-sound : {A : Type 0} (c : Costs) (g m : ℕ) (whole : A → Piece) → SizedCosts c → 1 ≤ m → Sound (halving c g m whole) (halves c g m whole)
@@ -252,35 +256,36 @@ halving-sound c g m whole costs some = record {
 
 -- ---- C=D's share of an item
 
-module _ {A : Type 0} (c : Costs) (g : ℕ) (w : Piece) (a : A) where
-  pub shared-firsts : w .kind ≡ Whole → {l : List (Placed A)} → Shared c g w a l → length l ≡ 1 + splitCount l
+module _ {A : Type 0} (c : Costs) (g : ℕ) (w : Piece) (past : List (Placed A)) (a : A) where
+  pub shared-firsts : w .kind ≡ Whole → {l : List (Placed A)} → Shared c g w past a l → length l ≡ 1 + splitCount l
   unfolding firstPiece lastPiece pieceOf
-  shared-firsts plain one-piece = rw plain
-  shared-firsts plain (two-pieces row sizes pass cut) = refl
+  shared-firsts plain (one-piece pass) = rw plain
+  shared-firsts plain (two-pieces never cut) = refl
 
   module _ (size : Sized w) where
-    cut-free : Free c w → (row : List Piece) → Each Sized row → (x v : ℕ) → greatestSplit c g row w ≡ Cut x v → v ≡ x
-    cut-free free row sizes x v cut =
-        let s = subst (λ (r : Split). Splits c g row w r) cut (split-means c g row w sizes size) in
+    cut-free : Free c w → (row : List Piece) (x v : ℕ) → Splits c g row w (Cut x v) → v ≡ x
+    cut-free free row x v s =
         omega (arith, s .2, free .jitter-none, least-unique (s .1 .allowed .tight) (tight-is-budget c row w free x (s .1 .candidate .some)))
 
-    pub shared-free : Free c w → w .kind ≡ Whole → {l : List (Placed A)} → Shared c g w a l
+    pub shared-free : Free c w → w .kind ≡ Whole → {l : List (Placed A)} → Shared c g w past a l
         → Each (λ e. e .piece .kind ≡ First → e .piece .window ≡ e .piece .budget) l
     unfolding firstPiece lastPiece pieceOf
-    shared-free free plain one-piece = ((λ e. let z : _≡_ {A = ℕ} 0 1 = cc in absurd (omega arith)), tt)
-    shared-free free plain (two-pieces {x = x} {v = v} row sizes pass
-        cut) = ((λ e. cut-free free row sizes x v cut), ((λ e. let z : _≡_ {A = ℕ} 0 1 = cc in absurd (omega arith)), tt))
+    shared-free free plain (one-piece pass) = ((λ e. let z : _≡_ {A = ℕ} 0 1 = cc in absurd (omega arith)), tt)
+    shared-free free plain (two-pieces {p = p} {x = x} {v = v} never cut) = (
+      (λ e. cut-free free (rowOf p past) x v cut),
+      ((λ e. let z : _≡_ {A = ℕ} 0 1 = cc in absurd (omega arith)), tt),
+    )
 
 -- so there is a piece for each item, and one more for each split
 module _ {A : Type 0} (c : Costs) (g m : ℕ) (w : A → Piece) (plain : (a : A) → w a .kind ≡ Whole) where
-  pub shares-firsts : {xs : List A} {log : List (Placed A)}
-      → Shares (λ a l. Divides m (w a) l × Shared c g (w a) a (map (placedAs a) l)) xs log → length log ≡ length xs + splitCount log
+  pub shares-firsts : {past : List (Placed A)} {xs : List A} {log : List (Placed A)}
+      → Shares (λ past a l. Divides m (w a) l × Shared c g (w a) past a (map (placedAs a) l)) past xs log → length log ≡ length xs + splitCount log
   shares-firsts nil = refl
-  shares-firsts (more {a = a} {k = k} {l = l} s r) =
+  shares-firsts (more {past = past} {a = a} {k = k} {l = l} s r) =
       omega (
         arith,
         length-append (map (placedAs a) k) l,
         sum-append (λ (e : Placed A). cond (departs (e .piece .kind)) 1 0) (map (placedAs a) k) l,
         shares-firsts r,
-        shared-firsts c g (w a) a (plain a) (s .1),
+        shared-firsts c g (w a) past a (plain a) (s .1),
       )

@@ -15,7 +15,7 @@
 use mathlib.Core.Path.{_≡_, refl, sym, ap, _∙_, subst}
 use mathlib.Core.Bool.{Bool, true, false}
 use mathlib.Core.Logic.{_⊎_, inl, inr, ⊎-elim}
-use mathlib.Core.List.{List, [], _∷_, _++_, append-nil, map-append, map}
+use mathlib.Core.List.{List, [], _∷_, _++_, append-nil, append-assoc, map-append, map}
 use Prim.Native.Nat.{ℕ, _<_, _≤_}
 use native.Mathlib.Omega.{arith}
 use borrow.Author.Tests.{eqb-true, eq-eqb, ne-eqb}
@@ -93,19 +93,19 @@ pub record Claim (A S : Type 0) : Type 1 where
   pub whole : A → Piece
   pub Good : A → Type 0
   pub Row : List Piece → Type 0
-  pub Share : A → List Spot → Type 0
+  pub Share : List (Placed A) → A → List Spot → Type 0
   pub Faithful : List A → S → List (Placed A) → Type 0
 
 pub record Sound {A : Type 0} (W : Way A) (C : Claim A (W .State)) : Type 0 where
   pub empty : C .Row []
   pub begins : C .Faithful [] (W .begin) []
   pub step : (done : List A) (s : W .State) (log : List (Placed A)) (a : A) → C .Good a → C .Faithful done s log → ((q : ℕ) → C .Row (rowOf q log)) →
-      IfLands (λ t l. C .Faithful (done ++ (a ∷ [])) t (log ++ map (placedAs a) l) × Divides (C .cores) (C .whole a) l × C .Share a l
+      IfLands (λ t l. C .Faithful (done ++ (a ∷ [])) t (log ++ map (placedAs a) l) × Divides (C .cores) (C .whole a) l × C .Share log a l
       × Each (λ e. C .Row (rowOf (e .on) (log ++ map (placedAs a) l))) l) (W .place s a)
 
 pub record Planned {A S : Type 0} (C : Claim A S) (items : List A) (s : S) (log : List (Placed A)) : Type 0 where
   pub faithful : C .Faithful items s log
-  pub shares : Shares (λ a l. Divides (C .cores) (C .whole a) l × C .Share a l) items log
+  pub shares : Shares (λ past a l. Divides (C .cores) (C .whole a) l × C .Share past a l) [] items log
   pub rows : (q : ℕ) → C .Row (rowOf q log)
 
 module _ {A : Type 0} (W : Way A) (C : Claim A (W .State)) (sound : Sound W C) where
@@ -124,12 +124,12 @@ module _ {A : Type 0} (W : Way A) (C : Claim A (W .State)) (sound : Sound W C) w
   plan-step done s log a good h = by (W .place s a) (sound .step done s log a good (h .faithful) (h .rows))
     where
       by : (o : Landing (W .State))
-          → IfLands (λ t l. C .Faithful (done ++ (a ∷ [])) t (log ++ map (placedAs a) l) × Divides (C .cores) (C .whole a) l × C .Share a l
+          → IfLands (λ t l. C .Faithful (done ++ (a ∷ [])) t (log ++ map (placedAs a) l) × Divides (C .cores) (C .whole a) l × C .Share log a l
           × Each (λ e. C .Row (rowOf (e .on) (log ++ map (placedAs a) l))) l) o
           → IfLands (λ t l. Planned C (done ++ (a ∷ [])) t (log ++ map (placedAs a) l)) o
       by (lands t l) g = record {
         faithful = g .0;
-        shares = shares-snoc (λ b r. Divides (C .cores) (C .whole b) r × C .Share b r) a l
+        shares = shares-snoc (λ past b r. Divides (C .cores) (C .whole b) r × C .Share past b r) a l
             (h .shares) (g .1, g .2);
         rows = rows-more log a l (h .rows) (g .3);
       }
@@ -140,16 +140,19 @@ module _ {A : Type 0} (W : Way A) (C : Claim A (W .State)) (sound : Sound W C) w
 
 -- ---- what is placed of one item
 
-module _ {A K : Type 0} (N : Keyed A K) (exact : Exact N) (Q : A → List Spot → Type 0) where
-  -- an item has the key k, and all that is placed of the key is its share
-  pub record Has (k : K) (log : List (Placed A)) : Type 0 where
+module _ {A K : Type 0} (N : Keyed A K) (exact : Exact N) (Q : List (Placed A) → A → List Spot → Type 0) where
+  -- an item has the key k, and all that is placed of the key is its share: behind `past`, and before `later`
+  pub record Has (begun : List (Placed A)) (k : K) (log : List (Placed A)) : Type 0 where
     pub item : A
     pub own : N .key item ≡ k
+    pub past : List (Placed A)
     pub spots : List Spot
+    pub later : List (Placed A)
+    pub order : begun ++ log ≡ past ++ (map (placedAs item) spots ++ later)
     pub is : ofKey N k log ≡ map (placedAs item) spots
-    pub has : Q item spots
+    pub has : Q past item spots
 
-  none-of : (k : K) {xs : List A} {log : List (Placed A)} → Shares Q xs log → Lacks (N .key) k xs → ofKey N k log ≡ []
+  none-of : (k : K) {past : List (Placed A)} {xs : List A} {log : List (Placed A)} → Shares Q past xs log → Lacks (N .key) k xs → ofKey N k log ≡ []
   none-of k nil lacks = refl
   none-of k (more {a = a} {k = x} {l = l} s r) lacks =
       only-append (λ e. N .same k (N .key (e .item))) (map (placedAs a) x) l
@@ -159,12 +162,15 @@ module _ {A K : Type 0} (N : Keyed A K) (exact : Exact N) (Q : A → List Spot �
         none-of k r (lacks .1),
       )
 
-  pub share-of : (k : K) {xs : List A} {log : List (Placed A)} → Shares Q xs log → Apart (N .key) xs → Among N k xs → Has k log
+  pub share-of : (k : K) {past : List (Placed A)} {xs : List A} {log : List (Placed A)} → Shares Q past xs log → Apart (N .key) xs → Among N k xs → Has past k log
   share-of k nil apart among = absurd among
-  share-of k (more {a = a} {k = x} {l = l} {rest = rest} s r) apart (inl own) = record {
+  share-of k {past = past} (more {a = a} {k = x} {l = l} {rest = rest} s r) apart (inl own) = record {
     item = a;
     own = own;
+    past = past;
     spots = x;
+    later = l;
+    order = refl;
     is = only-append (λ e. N .same k (N .key (e .item))) (map (placedAs a) x) l
         ∙ rw (
           only-all (λ e. N .same k (N .key (e .item))) (map (placedAs a) x) (placed-each (λ b. N .same k (N .key b) ≡ true) a
@@ -174,13 +180,16 @@ module _ {A K : Type 0} (N : Keyed A K) (exact : Exact N) (Q : A → List Spot �
         );
     has = s;
   }
-  share-of k (more {a = a} {k = x} {l = l} {rest = rest} s r) apart (inr among) =
+  share-of k {past = past} (more {a = a} {k = x} {l = l} {rest = rest} s r) apart (inr among) =
       let h = share-of k r (apart .1) among in
       let differs : k ≡ N .key a → ⊥ = among-key N (λ j. j ≡ N .key a → ⊥) rest among (apart .0) in
       record {
         item = h .item;
         own = h .own;
+        past = h .past;
         spots = h .spots;
+        later = h .later;
+        order = sym (append-assoc past (map (placedAs a) x) l) ∙ h .order;
         is = only-append (λ e. N .same k (N .key (e .item))) (map (placedAs a) x) l
             ∙ (rw (only-none (λ e. N .same k (N .key (e .item))) (map (placedAs a) x)
             (placed-each (λ b. N .same k (N .key b) ≡ false) a (same-other N exact k (N .key a) differs) x)) (h .is));
@@ -189,9 +198,9 @@ module _ {A K : Type 0} (N : Keyed A K) (exact : Exact N) (Q : A → List Spot �
 
 -- ---- how many, and where
 
-module _ {A : Type 0} (m : ℕ) (whole : A → Piece) (R : A → List Spot → Type 0) where
-  abbrev pub Divided : A → List Spot → Type 0
-  Divided a l = Divides m (whole a) l × R a l
+module _ {A : Type 0} (m : ℕ) (whole : A → Piece) (R : List (Placed A) → A → List Spot → Type 0) where
+  abbrev pub Divided : List (Placed A) → A → List Spot → Type 0
+  Divided past a l = Divides m (whole a) l × R past a l
 
   apart-as : (a : A) (l : List Spot) → Apart (λ e. e .on) l → Apart (λ e. e .on) (map (placedAs a) l)
   apart-as a [] h = tt
@@ -201,26 +210,26 @@ module _ {A : Type 0} (m : ℕ) (whole : A → Piece) (R : A → List Spot → T
     apart-as a l (h .1),
   )
 
-  pub spots-within : {xs : List A} {log : List (Placed A)} → Shares Divided xs log → Each (λ e. e .on < m) log
+  pub spots-within : {past : List (Placed A)} {xs : List A} {log : List (Placed A)} → Shares Divided past xs log → Each (λ e. e .on < m) log
   spots-within nil = tt
   spots-within (more {a = a} {k = k} {l = l} s r) =
       each-join (λ e. e .on < m) (map (placedAs a) k) l
       (each-map (λ (e : Spot). e .on < m) (λ (e : Placed A). e .on < m) (placedAs a) (λ e low. low) k (s .0 .within)) (spots-within r)
 
   module _ (q : ℕ) where
-    pub few-on-core : {xs : List A} {log : List (Placed A)} → Shares Divided xs log → length (onCore q log) ≤ length xs
+    pub few-on-core : {past : List (Placed A)} {xs : List A} {log : List (Placed A)} → Shares Divided past xs log → length (onCore q log) ≤ length xs
     few-on-core nil = omega arith
     few-on-core (more {a = a} {k = k} {l = l} s r) =
         rw (on-append q (map (placedAs a) k) l, length-append)
         (omega (arith, on-one q (map (placedAs a) k) (apart-as a k (s .0 .apart)), few-on-core r))
 
     module _ {K : Type 0} (key : A → K) where
-      items-on : (P : A → Type 0) {xs : List A} {log : List (Placed A)} → Shares Divided xs log → Each P xs → Each (λ e. P (e .item)) log
+      items-on : (P : A → Type 0) {past : List (Placed A)} {xs : List A} {log : List (Placed A)} → Shares Divided past xs log → Each P xs → Each (λ e. P (e .item)) log
       items-on P nil all = tt
       items-on P (more {a = a} {k = k} {l = l} s r) all =
           each-join (λ e. P (e .item)) (map (placedAs a) k) l (placed-each P a (all .0) k) (items-on P r (all .1))
 
-      pub apart-on : {xs : List A} {log : List (Placed A)} → Shares Divided xs log → Apart key xs → Apart (λ e. key (e .item)) (onCore q log)
+      pub apart-on : {past : List (Placed A)} {xs : List A} {log : List (Placed A)} → Shares Divided past xs log → Apart key xs → Apart (λ e. key (e .item)) (onCore q log)
       apart-on nil apart = tt
       apart-on (more {a = a} {k = k} {l = l} s r) apart =
           rw (on-append q (map (placedAs a) k) l)

@@ -179,12 +179,14 @@ module _ {A : Type 0} (W : Way A) (Good : A → Type 0) (I : List A → W .State
 
 -- ---- item by item
 
-module _ {A : Type 0} (Q : A → List Spot → Type 0) where
-  pub shares-snoc : {xs : List A} {log : List (Placed A)} (a : A) (l : List Spot) → Shares Q xs log → Q a l
-      → Shares Q (xs ++ (a ∷ [])) (log ++ map (placedAs a) l)
-  shares-snoc a l nil h = subst (Shares Q (a ∷ [])) (append-nil (map (placedAs a) l)) (more h nil)
-  shares-snoc a l (more {a = b} {k = k} {l = r} {rest = rest} g t) h =
-      subst (Shares Q (b ∷ (rest ++ (a ∷ [])))) (sym (append-assoc (map (placedAs b) k) r (map (placedAs a) l))) (more g (shares-snoc a l t h))
+module _ {A : Type 0} (Q : List (Placed A) → A → List Spot → Type 0) where
+  pub shares-snoc : {past : List (Placed A)} {xs : List A} {log : List (Placed A)} (a : A) (l : List Spot) → Shares Q past xs log → Q (past ++ log) a l
+      → Shares Q past (xs ++ (a ∷ [])) (log ++ map (placedAs a) l)
+  shares-snoc {past = past} a l nil h =
+      subst (Shares Q past (a ∷ [])) (append-nil (map (placedAs a) l)) (more (subst (λ (z : List (Placed A)). Q z a l) (append-nil past) h) nil)
+  shares-snoc {past = past} a l (more {a = b} {k = k} {l = r} {rest = rest} g t) h =
+      let later : Q ((past ++ map (placedAs b) k) ++ r) a l = subst (λ (z : List (Placed A)). Q z a l) (sym (append-assoc past (map (placedAs b) k) r)) h in
+      subst (Shares Q past (b ∷ (rest ++ (a ∷ [])))) (sym (append-assoc (map (placedAs b) k) r (map (placedAs a) l))) (more g (shares-snoc a l t later))
 
 -- what is placed is of the items walked
 module _ {A : Type 0} (P : A → Type 0) (a : A) (good : P a) where

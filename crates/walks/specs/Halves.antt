@@ -5,7 +5,8 @@
 --   inOne, inTwo           a task placed whole on a core, and one by a split on a core and the next
 --   fromCore c g w n p row the whole piece w from core p on, with n cores after it and that row on it: the four rules
 --   halving c g m whole    the way on m cores, at the costs c and the grain g, for items of which each has its whole piece
---   Shared c g w a l       l is all of an item a with the whole piece w: whole on a core, or by a greatest split on a core and the next
+--   Shared c g w past a l  l is all of an item a with the whole piece w, where past was placed before it: whole on a core that passes with it; or, where one does
+--                          not, by a greatest split beside what stood there, on that core and the next
 --   splitCount l           how many pieces depart: a split makes one
 use mathlib.Core.Path.{_≡_}
 use mathlib.Core.Bool.{Bool, true, false, cond}
@@ -17,11 +18,10 @@ use Rattle.demand.specs.declared.Piece.{Piece}
 use Rattle.demand.specs.declared.Costs.{Costs}
 use Rattle.demand.specs.declared.Verdict.the-variants.{Passes}
 use Rattle.demand.specs.declared.Split.the-variants.{Cut, Nowhere}
-use Rattle.demand.specs.Sizes.{Sized, Each}
 use Rattle.demand.specs.Verdict.{verdictOf}
-use Rattle.demand.specs.Split.{firstPiece, lastPiece, passes, greatestSplit}
+use Rattle.demand.specs.Split.{firstPiece, lastPiece, passes, greatestSplit, Splits}
 use Rattle.walks.specs.Lists.{sumBy}
-use Rattle.walks.specs.Way.{Landing, lands, refuses, Way, Placed}
+use Rattle.walks.specs.Way.{Landing, lands, refuses, Way, Placed, rowOf}
 
 unfoldable pub denser : Piece → Piece → Bool
 denser p q = ltb (q .budget * p .window) (p .budget * q .window)
@@ -53,10 +53,9 @@ halving c g m whole = record {
   place = λ s a. fromCore c g (whole a) (m - 1 - s .core) (s .core) (s .row);
 }
 
--- row is what the split is taken beside: within the sizes, and passing
-pub data Shared {A : Type 0} (c : Costs) (g : ℕ) (w : Piece) (a : A) : List (Placed A) → Type 0 where
-  one-piece : {p : ℕ} → Shared c g w a (record { on = p; item = a; piece = w } ∷ [])
-  two-pieces : {p x v : ℕ} (row : List Piece) → Each Sized row → verdictOf c row ≡ Passes → greatestSplit c g row w ≡ Cut x v → Shared c g w a (record { on = p; item = a; piece = firstPiece w x v } ∷ record { on = suc p; item = a; piece = lastPiece c w x v } ∷ [])
+pub data Shared {A : Type 0} (c : Costs) (g : ℕ) (w : Piece) (past : List (Placed A)) (a : A) : List (Placed A) → Type 0 where
+  one-piece : {p : ℕ} → verdictOf c (rowOf p past ++ (w ∷ [])) ≡ Passes → Shared c g w past a (record { on = p; item = a; piece = w } ∷ [])
+  two-pieces : {p x v : ℕ} → (verdictOf c (rowOf p past ++ (w ∷ [])) ≡ Passes → ⊥) → Splits c g (rowOf p past) w (Cut x v) → Shared c g w past a (record { on = p; item = a; piece = firstPiece w x v } ∷ record { on = suc p; item = a; piece = lastPiece c w x v } ∷ [])
 
 abbrev pub splitCount : {A : Type 0} → List (Placed A) → ℕ
 splitCount l = sumBy (λ e. cond (departs (e .piece .kind)) 1 0) l
