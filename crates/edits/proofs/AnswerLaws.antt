@@ -35,7 +35,7 @@ use Rattle.task.proofs.TaskLaws.{state-sane, tasks-listed}
 use Rattle.plan.specs.Plan.{refused, finished, unlessFault, planOf}
 use Rattle.plan.proofs.Theorems.{plan-faultless, plan-or-stuck}
 use Rattle.edits.proofs.FaultLaws.{rightful-known, rightful-faultless}
-use Rattle.edits.specs.Edits.{byName, TaskEdit, tasksHeld, editFault, givenBack, backAt, settled, replanned, editOf, accepted, Held}
+use Rattle.edits.specs.Edits.{byName, TaskEdit, tasksHeld, editFault, givenBack, backAt, settled, replanned, editOf, accepted, Afresh}
 
 pub plan-same : (m : Machine) (c : Costs) (n : ℕ) (xs ys : List Task) → take n xs ≡ take n ys → planOf m c n xs ≡ planOf m c n ys
 unfolding planOf stateFault
@@ -47,12 +47,12 @@ pub record Made (m : Machine) (c : Costs) (ts : List Task) (s : Plan) : Type 0 w
   pub machine-is : s .machine ≡ m
   pub costs-is : s .costs ≡ c
   pub tasks-are : tasksHeld s ≡ ts
-  pub held : Held s
+  pub held : Afresh s
 
 module _ (m : Machine) (c : Costs) (ts : List Task) where
   made-of : length ts ≤ tasksMost → (st : Stand) (l : List (Placed ℕ)) → planOf m c (length ts) ts ≡ finished m c ts (fine st l)
       → Made m c ts (finished m c ts (fine st l) .plan)
-  unfolding Held
+  unfolding Afresh
   made-of few st l e = record {
     machine-is = refl;
     costs-is = refl;
@@ -79,15 +79,15 @@ module _ (m : Machine) (c : Costs) (ts : List Task) where
       by (inr r) = absurd (omega (arith, sym number ∙ ap (λ (z : Reply). z .number) (r .2)))
 
 -- the plan of the first n of a list is the plan of those
-plan-cut : (m : Machine) (c : Costs) (n : ℕ) (ts : List Task) → stateFault m c n ts ≡ 0 → planOf m c (length (take n ts)) (take n ts) ≡ planOf m c n ts
+pub plan-cut : (m : Machine) (c : Costs) (n : ℕ) (ts : List Task) → stateFault m c n ts ≡ 0 → planOf m c (length (take n ts)) (take n ts) ≡ planOf m c n ts
 unfolding planOf
 plan-cut m c n ts faultless = rw (rightful-faultless m c (take n ts) (rightful-known m c n ts faultless), faultless, take-length (take n ts))
 
-pub plan-holds : (m : Machine) (c : Costs) (n : ℕ) (ts : List Task) → planOf m c n ts .number ≡ 0 → Held (planOf m c n ts .plan)
+pub plan-holds : (m : Machine) (c : Costs) (n : ℕ) (ts : List Task) → planOf m c n ts .number ≡ 0 → Afresh (planOf m c n ts .plan)
 plan-holds m c n ts number =
     let same = plan-cut m c n ts (plan-faultless m c n ts number) in
     let made = plan-made m c (take n ts) (ap (λ (r : Reply). r .number) same ∙ number) in
-    subst (λ (r : Reply). Held (r .plan)) (sym (made .1) ∙ same) (made .2 .held)
+    subst (λ (r : Reply). Afresh (r .plan)) (sym (made .1) ∙ same) (made .2 .held)
 
 -- ---- the two ways that an edit ends
 
@@ -135,13 +135,13 @@ edit-back e s some = by (edit-answered e s)
 
 -- whatever it answers
 pub edit-keeps : (e : TaskEdit) (s : Plan)
-    → (editOf e s .plan .machine ≡ s .machine) × (editOf e s .plan .costs ≡ s .costs) × (Held s → Held (editOf e s .plan))
+    → (editOf e s .plan .machine ≡ s .machine) × (editOf e s .plan .costs ≡ s .costs) × (Afresh s → Afresh (editOf e s .plan))
 edit-keeps e s = by (edit-answered e s)
   where
     by : Answered s (edited byName e (tasksHeld s)) (editOf e s)
-        → (editOf e s .plan .machine ≡ s .machine) × (editOf e s .plan .costs ≡ s .costs) × (Held s → Held (editOf e s .plan))
+        → (editOf e s .plan .machine ≡ s .machine) × (editOf e s .plan .costs ≡ s .costs) × (Afresh s → Afresh (editOf e s .plan))
     by (inl r) = (r .1 .machine-is, r .1 .costs-is, λ h. r .1 .held)
-    by (inr r) = (ap (λ (z : Plan). z .machine) (r .1), ap (λ (z : Plan). z .costs) (r .1), λ h. subst Held (sym (r .1)) h)
+    by (inr r) = (ap (λ (z : Plan). z .machine) (r .1), ap (λ (z : Plan). z .costs) (r .1), λ h. subst Afresh (sym (r .1)) h)
 
 -- ---- only 7 comes of the walk
 

@@ -33,9 +33,9 @@ use Rattle.plan.specs.Walk.{taskWay, walked}
 use Rattle.plan.specs.Layout.{none, putOf}
 use Rattle.plan.specs.Plan.{noPlan, planOf}
 use Rattle.demand.specs.Lists.{padded}
-use Rattle.edits.specs.Edits.{byName, TaskEdit, tasksHeld, editFault, editOf, Held}
+use Rattle.edits.specs.Edits.{byName, TaskEdit, tasksHeld, editFault, editOf, Afresh}
 use Rattle.edits.specs.Kept.{inOrder, Keeps, Ahead}
-use Rattle.edits.proofs.Theorems.{plan-held, edit-does, edit-before, edit-after}
+use Rattle.edits.proofs.Theorems.{plan-afresh, edit-does, edit-before, edit-after}
 
 -- a name of one letter, and a task that has it
 unfoldable pub letter : ℕ → Name
@@ -103,9 +103,9 @@ computed =
 
 -- ---- by the theorems
 
-held : Held state
+held : Afresh state
 unfolding state
-held = plan-held machine costs 4 tasks (computed .planned)
+held = plan-afresh machine costs 4 tasks (computed .planned)
 
 after : tasksHeld (editOf change state .plan) ≡ changed
 after = edit-does change state (computed .taken) ∙ (ap (edited byName change) (computed .holds) ∙ computed .replaces)

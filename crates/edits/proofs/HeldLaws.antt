@@ -37,7 +37,7 @@ use Rattle.plan.specs.Layout.{blank, keptPiece}
 use Rattle.plan.specs.Shows.{storedOf, numbersOn, LayoutShows}
 use Rattle.plan.proofs.GoingLaws.{piece-stored}
 use Rattle.plan.proofs.Theorems.{plan-faultless, plan-comes, plan-shows, placed-places}
-use Rattle.edits.specs.Edits.{byName, tasksHeld, Held}
+use Rattle.edits.specs.Edits.{byName, tasksHeld, Afresh}
 use Rattle.edits.specs.Kept.{ofPlace, piecesOn}
 use Rattle.edits.proofs.NameSets.{place-name, faults-known}
 
@@ -91,8 +91,8 @@ pub record Told (s : Plan) : Type 0 where
   pub shows : (n : Name) (q : ℕ) → q < 16 → piecesOn s n q ≡ shareOn byName n q log
   pub sorts : Sorts byName Timed (tasksHeld s)
 
-pub held-told : (s : Plan) → Held s → Told s
-unfolding Held piecesOn
+pub held-told : (s : Plan) → Afresh s → Told s
+unfolding Afresh piecesOn
 held-told s held =
     let m = s .machine in
     let c = s .costs in

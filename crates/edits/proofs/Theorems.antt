@@ -1,18 +1,19 @@
 -- The theorems about edits, for any edit and any state: document 01, "Edits on a held plan", and demand 3.
 -- Assumes nothing.
 --
---   plan-held              a plan that comes of a machine, costs and a task list is a held plan
+--   plan-afresh            a plan that comes of a machine, costs and a task list is the one worked out afresh from what it holds
 --   edit-refused           a refusal gives the state back
 --   edit-does              an accepted edit holds the tasks after it: one more at the end, one less, or one with other times in its place
 --   edit-same              no edit changes the machine or the costs
---   edit-held              an accepted edit yields a held plan, whatever the state's rows and words were
+--   edit-afresh            an accepted edit yields the plan worked out afresh, whatever the state's rows and words were
 --   edit-faultless         where the state and the edit break no rule, the tasks after it break none
 --   edit-or-stuck          so the edit is accepted, or the walk over them sticks and the answer is 7 with the place of the task that it sticks at
---   after-edits            after any sequence of edits, refusals among them, a held plan is held, of the same machine and costs
+--   after-edits            after any sequence of edits, refusals among them, a plan worked out afresh is one, of the same machine and costs
 --   after-edits-afresh     so it equals the plan worked out afresh from the tasks then held
 --   edit-before            an accepted edit keeps the pieces of each task before the edited one in each packing order, old and new, that holds it
 --   edit-after             and where at a later task in each of those the walks come to the same state, of that task and all later ones
 --   same-stand             a state is a core and the row on it: two walks that stand at the same core with the same row come to the same state
+-- `HeldTheorems` has the same of every held plan, whatever lies past its counts.
 use mathlib.Core.Path.{_≡_, refl, sym, ap, _∙_, subst}
 use mathlib.Core.Logic.{_⊎_}
 use mathlib.Core.List.{List, [], _∷_}
@@ -34,15 +35,15 @@ use Rattle.walks.proofs.EditLaws.{edit-around}
 use Rattle.walks.proofs.HalvesLaws.{stands-meet}
 use Rattle.plan.specs.Walk.{wholeOf, taskWay, walked}
 use Rattle.plan.specs.Plan.{planOf}
-use Rattle.edits.specs.Edits.{byName, TaskEdit, tasksHeld, editFault, givenBack, editOf, accepted, Held, played}
+use Rattle.edits.specs.Edits.{byName, TaskEdit, tasksHeld, editFault, givenBack, editOf, accepted, Afresh, played}
 use Rattle.edits.specs.Kept.{inOrder, Keeps, editedName, Ahead}
 use Rattle.edits.proofs.NameSets.{name-exact}
 use Rattle.edits.proofs.HeldLaws.{Timed, Told, held-told}
 use Rattle.edits.proofs.AnswerLaws.{plan-holds, edit-made, edit-back, edit-keeps, Ends, replanned-ends, edit-goes}
 use Rattle.edits.proofs.FaultLaws.{rightful-known, rightful-faultless, edited-rightful}
 
-pub plan-held : (m : Machine) (c : Costs) (n : ℕ) (ts : List Task) → planOf m c n ts .number ≡ 0 → Held (planOf m c n ts .plan)
-plan-held m c n ts made = plan-holds m c n ts made
+pub plan-afresh : (m : Machine) (c : Costs) (n : ℕ) (ts : List Task) → planOf m c n ts .number ≡ 0 → Afresh (planOf m c n ts .plan)
+plan-afresh m c n ts made = plan-holds m c n ts made
 
 -- ---- one edit
 
@@ -55,8 +56,8 @@ edit-does e s taken = edit-made e s taken .tasks-are
 pub edit-same : (e : TaskEdit) (s : Plan) → (editOf e s .plan .machine ≡ s .machine) × (editOf e s .plan .costs ≡ s .costs)
 edit-same e s = (edit-keeps e s .0, edit-keeps e s .1)
 
-pub edit-held : (e : TaskEdit) (s : Plan) → editOf e s .number ≡ 0 → Held (editOf e s .plan)
-edit-held e s taken = edit-made e s taken .held
+pub edit-afresh : (e : TaskEdit) (s : Plan) → editOf e s .number ≡ 0 → Afresh (editOf e s .plan)
+edit-afresh e s taken = edit-made e s taken .held
 
 -- ---- where no rule is broken
 
@@ -76,15 +77,15 @@ edit-or-stuck e s faultless right =
 
 -- ---- any sequence of edits
 
-pub after-edits : (es : List TaskEdit) (s : Plan) → Held s → Held (played es s) × (played es s .machine ≡ s .machine) × (played es s .costs ≡ s .costs)
+pub after-edits : (es : List TaskEdit) (s : Plan) → Afresh s → Afresh (played es s) × (played es s .machine ≡ s .machine) × (played es s .costs ≡ s .costs)
 after-edits [] s held = (held, refl, refl)
 after-edits (e ∷ es) s held =
     let next = after-edits es (editOf e s .plan) (edit-keeps e s .2 held) in
     (next .0, next .1 ∙ edit-same e s .0, next .2 ∙ edit-same e s .1)
 
-pub after-edits-afresh : (es : List TaskEdit) (s : Plan) → Held s
+pub after-edits-afresh : (es : List TaskEdit) (s : Plan) → Afresh s
     → planOf (s .machine) (s .costs) (played es s .tasks .count) (played es s .tasks .list) ≡ accepted (played es s)
-unfolding Held
+unfolding Afresh
 after-edits-afresh es s held =
     let now = after-edits es s held in
     let n = played es s .tasks .count in
@@ -97,12 +98,12 @@ pub same-stand : (m : Machine) (c : Costs) (p p′ : List Task) (s s′ : Stand)
     ≡ fine s l → walkOver (taskWay m c) p′ ≡ fine s′ l′ → s .core ≡ s′ .core → s .row ≡ s′ .row → Meet (taskWay m c) p p′
 same-stand m c = stands-meet c (m .grain) (m .cores) wholeOf
 
-module _ (e : TaskEdit) (s : Plan) (held : Held s) (taken : editOf e s .number ≡ 0) where
+module _ (e : TaskEdit) (s : Plan) (held : Afresh s) (taken : editOf e s .number ≡ 0) where
   was : Told s
   was = held-told s held
 
   is : Told (editOf e s .plan)
-  is = held-told (editOf e s .plan) (edit-held e s taken)
+  is = held-told (editOf e s .plan) (edit-afresh e s taken)
 
   around : Around byName (editedName e) (tasksHeld s) (tasksHeld (editOf e s .plan))
   around = subst (Around byName (editedName e) (tasksHeld s)) (sym (edit-does e s taken)) (edit-around byName name-exact e (tasksHeld s))

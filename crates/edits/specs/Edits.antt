@@ -5,23 +5,29 @@
 --   tasksHeld s          the tasks that the state s holds
 --   editFault e ts       what is wrong with the edit e of the tasks ts before any walk: 8, then 3, then 4 or 5, then 6; or 0
 --   editOf e s           the answer: the state's own faults first, then the edit's, then 7; each gives the state back; else the new plan
---   Held s               a held plan: exactly what the walk over its own machine, costs and task list gives
+--   afresh s             the plan worked out afresh from the state's machine, costs and task list
+--   Afresh s             the state is that plan, also past its counts: so is every plan that is answered
+--   rowIn s q            the pieces on core q of the plan s, from 0, as it keeps them, in placement order
+--   Held s               a held plan: its rows and words are exactly those of that plan, whatever lies past its counts
 --   played es s          the state after the edits es, refusals among them
 use mathlib.Core.Path.{_≡_}
 use mathlib.Core.Bool.{Bool, cond, not}
-use mathlib.Core.List.{List, [], _∷_}
-use Prim.Native.Nat.{ℕ, zero, suc}
+use mathlib.Core.List.{List, [], _∷_, map}
+use Prim.Native.Nat.{ℕ, zero, suc, _<_}
 use lib.Dec.{eqb, ltb}
-use lib.ListN.{length}
+use lib.ListN.{length, getD}
 use Rattle.demand.specs.Sizes.{sized}
 use Rattle.task.specs.declared.Name.{Name}
 use Rattle.task.specs.declared.Task.{Task}
 use Rattle.task.specs.Names.{formed, sameName}
-use Rattle.task.specs.Tasks.{tasksMost, wholePiece, listOf, placeOf, rule, stateFault}
+use Rattle.task.specs.Tasks.{coresMost, tasksMost, wholePiece, listOf, placeOf, rule, stateFault}
 use Rattle.walks.specs.Edits.{Keyed, Edit, add, withdraw, retime, edited}
+use Rattle.plan.specs.declared.Stored.{Stored}
 use Rattle.plan.specs.declared.Plan.{Plan}
 use Rattle.plan.specs.declared.Reply.{Reply}
+use Rattle.plan.specs.Layout.{blank}
 use Rattle.plan.specs.Plan.{planOf}
+use Rattle.plan.specs.Shows.{numbersOn}
 
 abbrev pub byName : Keyed Task Name
 byName = record { key = λ t. t .name; same = sameName }
@@ -83,8 +89,19 @@ editOf e s =
 abbrev pub accepted : Plan → Reply
 accepted s = record { number = 0; carries = 0; plan = s }
 
-unfoldable pub Held : Plan → Type 0
-Held s = planOf (s .machine) (s .costs) (s .tasks .count) (s .tasks .list) ≡ accepted s
+abbrev pub afresh : Plan → Reply
+afresh s = planOf (s .machine) (s .costs) (s .tasks .count) (s .tasks .list)
+
+unfoldable pub Afresh : Plan → Type 0
+Afresh s = afresh s ≡ accepted s
+
+abbrev pub rowIn : Plan → ℕ → List Stored
+rowIn s q = map (λ i. getD (s .layout .pieces) i blank) (numbersOn (s .layout) q)
+
+pub record Held (s : Plan) : Type 0 where
+  pub comes : afresh s .number ≡ 0
+  pub rows : (q : ℕ) → q < coresMost → rowIn s q ≡ rowIn (afresh s .plan) q
+  pub words : (q : ℕ) → q < coresMost → getD (s .layout .words) q 0 ≡ getD (afresh s .plan .layout .words) q 0
 
 abbrev pub played : List TaskEdit → Plan → Plan
 played [] s = s

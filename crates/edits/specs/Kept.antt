@@ -3,7 +3,6 @@
 -- `proofs/Theorems.antt` shows it of every accepted edit.
 --
 --   inOrder ts            the tasks in packing order
---   rowIn s q             the pieces on core q of the plan s, from 0, as it keeps them, in placement order
 --   piecesOn s n q        those of the task named n, as the verdict sees them
 --   Keeps s s′ n          the task named n has exactly the same pieces on each core in both plans
 --   editedName e          the name that an edit is about
@@ -12,11 +11,10 @@ use mathlib.Core.Path.{_≡_}
 use mathlib.Core.List.{List, map}
 use Prim.Native.Nat.{ℕ, suc, _<_}
 use lib.Dec.{eqb}
-use lib.ListN.{getD}
 use Rattle.demand.specs.declared.Piece.{Piece}
 use Rattle.task.specs.declared.Name.{Name}
 use Rattle.task.specs.declared.Task.{Task}
-use Rattle.task.specs.Tasks.{placeOf}
+use Rattle.task.specs.Tasks.{coresMost, placeOf}
 use Rattle.walks.specs.Lists.{only}
 use Rattle.walks.specs.Order.{pack}
 use Rattle.walks.specs.Edits.{editedKey}
@@ -25,15 +23,11 @@ use Rattle.walks.specs.Halves.{denser}
 use Rattle.plan.specs.declared.Stored.{Stored}
 use Rattle.plan.specs.declared.Plan.{Plan}
 use Rattle.plan.specs.Walk.{wholeOf}
-use Rattle.plan.specs.Layout.{blank, keptPiece}
-use Rattle.plan.specs.Shows.{numbersOn}
-use Rattle.edits.specs.Edits.{byName, TaskEdit, tasksHeld}
+use Rattle.plan.specs.Layout.{keptPiece}
+use Rattle.edits.specs.Edits.{byName, TaskEdit, tasksHeld, rowIn}
 
 abbrev pub inOrder : List Task → List Task
 inOrder ts = pack (λ a b. denser (wholeOf a) (wholeOf b)) ts
-
-abbrev pub rowIn : Plan → ℕ → List Stored
-rowIn s q = map (λ i. getD (s .layout .pieces) i blank) (numbersOn (s .layout) q)
 
 -- those of the task at a place, from 1
 abbrev pub ofPlace : ℕ → List Stored → List Stored
@@ -43,7 +37,7 @@ unfoldable pub piecesOn : Plan → Name → ℕ → List Piece
 piecesOn s n q = map keptPiece (ofPlace (placeOf 1 n (tasksHeld s)) (rowIn s q))
 
 unfoldable pub Keeps : Plan → Plan → Name → Type 0
-Keeps s s′ n = (q : ℕ) → q < 16 → piecesOn s n q ≡ piecesOn s′ n q
+Keeps s s′ n = (q : ℕ) → q < coresMost → piecesOn s n q ≡ piecesOn s′ n q
 
 abbrev pub editedName : TaskEdit → Name
 editedName e = editedKey byName e
