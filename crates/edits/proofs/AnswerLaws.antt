@@ -4,7 +4,7 @@
 --   plan-same              a plan is made of the first n of a list
 --   Made m c ts s          s is a held plan of the machine m, the costs c and the tasks ts
 --   plan-made              a plan that comes is one
---   plan-holds             so a plan that comes is held, of whatever list it is made
+--   plan-is, plan-holds    so a plan that comes is one, and worked out afresh, of whatever list it is made
 --   Answered, edit-answered      the two ways that an edit ends
 --   Ends, replanned-ends   a list that breaks no rule is planned, or refused with 7 and the place of the task that has none
 --   edit-goes              an edit of a state that breaks no rule, and breaks none itself, is the walk over the tasks after it
@@ -79,15 +79,18 @@ module _ (m : Machine) (c : Costs) (ts : List Task) where
       by (inr r) = absurd (omega (arith, sym number ∙ ap (λ (z : Reply). z .number) (r .2)))
 
 -- the plan of the first n of a list is the plan of those
-pub plan-cut : (m : Machine) (c : Costs) (n : ℕ) (ts : List Task) → stateFault m c n ts ≡ 0 → planOf m c (length (take n ts)) (take n ts) ≡ planOf m c n ts
+plan-cut : (m : Machine) (c : Costs) (n : ℕ) (ts : List Task) → stateFault m c n ts ≡ 0 → planOf m c (length (take n ts)) (take n ts) ≡ planOf m c n ts
 unfolding planOf
 plan-cut m c n ts faultless = rw (rightful-faultless m c (take n ts) (rightful-known m c n ts faultless), faultless, take-length (take n ts))
 
-pub plan-holds : (m : Machine) (c : Costs) (n : ℕ) (ts : List Task) → planOf m c n ts .number ≡ 0 → Afresh (planOf m c n ts .plan)
-plan-holds m c n ts number =
+pub plan-is : (m : Machine) (c : Costs) (n : ℕ) (ts : List Task) → planOf m c n ts .number ≡ 0 → Made m c (take n ts) (planOf m c n ts .plan)
+plan-is m c n ts number =
     let same = plan-cut m c n ts (plan-faultless m c n ts number) in
     let made = plan-made m c (take n ts) (ap (λ (r : Reply). r .number) same ∙ number) in
-    subst (λ (r : Reply). Afresh (r .plan)) (sym (made .1) ∙ same) (made .2 .held)
+    subst (λ (r : Reply). Made m c (take n ts) (r .plan)) (sym (made .1) ∙ same) (made .2)
+
+pub plan-holds : (m : Machine) (c : Costs) (n : ℕ) (ts : List Task) → planOf m c n ts .number ≡ 0 → Afresh (planOf m c n ts .plan)
+plan-holds m c n ts number = plan-is m c n ts number .held
 
 -- ---- the two ways that an edit ends
 

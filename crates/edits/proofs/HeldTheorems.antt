@@ -30,18 +30,12 @@ use Rattle.plan.specs.Walk.{taskWay}
 use Rattle.plan.specs.Layout.{keptPiece}
 use Rattle.plan.specs.Plan.{planOf}
 use Rattle.plan.proofs.Theorems.{plan-faultless}
-use Rattle.edits.specs.Edits.{byName, TaskEdit, tasksHeld, editFault, backAt, settled, editOf, accepted, afresh, Afresh, rowIn, Held, played}
+use Rattle.edits.specs.Edits.{byName, TaskEdit, tasksHeld, editFault, backAt, settled, editOf, SameAnswer, afresh, Afresh, rowIn, Held, played}
 use Rattle.edits.specs.Kept.{inOrder, ofPlace, piecesOn, Keeps, editedName, Ahead}
-use Rattle.edits.proofs.AnswerLaws.{Made, Answered, plan-cut, plan-made, plan-holds, edit-answered, edit-keeps}
+use Rattle.edits.proofs.AnswerLaws.{Made, Answered, plan-is, edit-answered}
 use Rattle.edits.proofs.Theorems.{edit-before, edit-after, edit-same}
 
 -- ---- what an edit relies on
-
--- two answers are the same, but for the state that a refusal gives back
-pub record SameAnswer (x y : Reply) : Type 0 where
-  pub number : x .number ≡ y .number
-  pub carries : x .carries ≡ y .carries
-  pub plan : x .number ≡ 0 → x .plan ≡ y .plan
 
 answered-by : (f e : ℕ) (r : Reply) (s t : Plan) → SameAnswer (backAt f s (backAt e s (settled s r))) (backAt f t (backAt e t (settled t r)))
 answered-by (suc f) e r s t = record { number = refl; carries = refl; plan = λ z. absurd (omega arith) }
@@ -109,10 +103,7 @@ module _ (s : Plan) (held : Held s) where
   faultless = plan-faultless (s .machine) (s .costs) (s .tasks .count) (s .tasks .list) (held .comes)
 
   made : Made (s .machine) (s .costs) (tasksHeld s) (afresh s .plan)
-  made =
-      let same = plan-cut (s .machine) (s .costs) (s .tasks .count) (s .tasks .list) faultless in
-      let r = plan-made (s .machine) (s .costs) (tasksHeld s) (ap (λ (r : Reply). r .number) same ∙ held .comes) in
-      subst (λ (z : Reply). Made (s .machine) (s .costs) (tasksHeld s) (z .plan)) (sym (r .1) ∙ same) (r .2)
+  made = plan-is (s .machine) (s .costs) (s .tasks .count) (s .tasks .list) (held .comes)
 
   -- what the state shows is what the plan worked out afresh does
   shows : (b : Name) (q : ℕ) → q < coresMost → piecesOn s b q ≡ piecesOn (afresh s .plan) b q
@@ -132,15 +123,15 @@ module _ (s : Plan) (held : Held s) where
     accepted-too : editOf e (afresh s .plan) .number ≡ 0
     accepted-too = alike .number ∙ taken
 
-    plan-is : editOf e (afresh s .plan) .plan ≡ editOf e s .plan
-    plan-is = alike .plan accepted-too
+    same-plan : editOf e (afresh s .plan) .plan ≡ editOf e s .plan
+    same-plan = alike .plan accepted-too
 
     pub held-before : (b : Name) → Ahead (editedName e) b (tasksHeld s) → Ahead (editedName e) b (tasksHeld (editOf e s .plan)) → Keeps s (editOf e s .plan) b
     unfolding Keeps
     held-before b old new q low =
         let kept = edit-before e (afresh s .plan) (made .held) accepted-too b (subst (Ahead (editedName e) b) (sym (made .tasks-are)) old)
-        (subst (λ (u : Plan). Ahead (editedName e) b (tasksHeld u)) (sym plan-is) new) q low in
-        shows b q low ∙ (kept ∙ ap (λ (u : Plan). piecesOn u b q) plan-is)
+        (subst (λ (u : Plan). Ahead (editedName e) b (tasksHeld u)) (sym same-plan) new) q low in
+        shows b q low ∙ (kept ∙ ap (λ (u : Plan). piecesOn u b q) same-plan)
 
     pub held-after : {p r p′ r′ : List Task} {b b′ : Task} → Behind byName (editedName e) (inOrder (tasksHeld s)) p b r
         → Behind byName (editedName e) (inOrder (tasksHeld (editOf e s .plan))) p′ b′ r′ → b .name ≡ b′ .name
@@ -148,8 +139,8 @@ module _ (s : Plan) (held : Held s) where
     unfolding Keeps
     held-after {p} {r} {p′} {r′} {b} {b′} old new names meet d among q low =
         let before = subst (λ (l : List Task). Behind byName (editedName e) (inOrder l) p b r) (sym (made .tasks-are)) old in
-        let after = subst (λ (u : Plan). Behind byName (editedName e) (inOrder (tasksHeld u)) p′ b′ r′) (sym plan-is) new in
+        let after = subst (λ (u : Plan). Behind byName (editedName e) (inOrder (tasksHeld u)) p′ b′ r′) (sym same-plan) new in
         let meets = subst (λ (c : Costs). Meet (taskWay (afresh s .plan .machine) c) p p′) (sym (made .costs-is))
         (subst (λ (m : Machine). Meet (taskWay m (s .costs)) p p′) (sym (made .machine-is)) meet) in
         let kept = edit-after e (afresh s .plan) (made .held) accepted-too before after names meets d among q low in
-        shows d q low ∙ (kept ∙ ap (λ (u : Plan). piecesOn u d q) plan-is)
+        shows d q low ∙ (kept ∙ ap (λ (u : Plan). piecesOn u d q) same-plan)

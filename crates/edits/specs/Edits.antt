@@ -5,6 +5,7 @@
 --   tasksHeld s          the tasks that the state s holds
 --   editFault e ts       what is wrong with the edit e of the tasks ts before any walk: 8, then 3, then 4 or 5, then 6; or 0
 --   editOf e s           the answer: the state's own faults first, then the edit's, then 7; each gives the state back; else the new plan
+--   SameAnswer x y       the answers x and y are the same, and so are their plans where they are accepted
 --   afresh s             the plan worked out afresh from the state's machine, costs and task list
 --   Afresh s             the state is that plan, also past its counts: so is every plan that is answered
 --   rowIn s q            the pieces on core q of the plan s, from 0, as it keeps them, in placement order
@@ -83,6 +84,12 @@ editOf e s =
     backAt (stateFault (s .machine) (s .costs) (s .tasks .count) (s .tasks .list)) s
     (backAt (editFault e (tasksHeld s)) s
     (replanned s (edited byName e (tasksHeld s))))
+
+-- two answers are the same, but for the state that a refusal gives back
+pub record SameAnswer (x y : Reply) : Type 0 where
+  pub number : x .number ≡ y .number
+  pub carries : x .carries ≡ y .carries
+  pub plan : x .number ≡ 0 → x .plan ≡ y .plan
 
 -- ---- held plans
 

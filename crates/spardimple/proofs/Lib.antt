@@ -5,5 +5,6 @@ pub mod NumberLaws
 pub mod SheetLaws
 pub mod PaperLaws
 pub mod JudgedLaws
+pub mod HeldPlans
 pub mod Agreement
 pub mod Promises

@@ -26,34 +26,41 @@
 --   kept-before, kept-after         what an accepted edit keeps
 --   same-state                      where kept-after asks for the same state, that is the same core with the same row
 -- Assumes nothing.
-use mathlib.Core.Path.{_≡_, refl, sym, _∙_}
-use mathlib.Core.Logic.{_⊎_, _↔_}
+use mathlib.Core.Path.{_≡_, refl, sym, ap, _∙_, subst}
+use mathlib.Core.Logic.{_↔_}
 use mathlib.Core.List.{List, [], _∷_, _++_, map}
-use Prim.Native.Nat.{ℕ, suc, _≤_, _<_}
-use lib.ListN.{length, drop}
+use Prim.Native.Nat.{ℕ, suc, _+_, _*_, _^_, _≤_, _<_}
+use lib.ListN.{length, take, drop, getD}
+use Rattle.demand.specs.declared.Piece.{Piece}
+use Rattle.demand.specs.declared.Costs.{Costs}
+use Rattle.demand.specs.declared.Split.{Split}
+use Rattle.demand.specs.declared.Splitting.the-variants.{Best}
 use Rattle.demand.specs.declared.Verdict.the-variants.{Passes, Overloaded, Undecided}
 use Rattle.demand.specs.declared.Answer.the-variants.{Judged}
-use Rattle.demand.specs.Sizes.{Each, busyMost}
+use Rattle.demand.specs.Sizes.{Each}
 use Rattle.demand.specs.Charge.{coreOf, stall}
-use Rattle.demand.specs.Demand.{demand, Live}
-use Rattle.demand.specs.Busy.{Least, Holds, busySum}
-use Rattle.demand.specs.Verdict.{Judged as Span, Worst, verdictOf}
-use Rattle.demand.proofs.Judgement.{passes-all, passes-busy, overloaded-live, overloaded-worst, undecided-only}
-use Rattle.demand.specs.declared.Costs.{Costs}
+use Rattle.demand.specs.Verdict.{Means, Bounded, KeepsUp}
+use Rattle.demand.specs.Split.{Splits}
+use Rattle.demand.specs.Answer.{Taken, answerOf, splitOf}
+use Rattle.demand.proofs.AnswerLaws.{answer-passes, answer-overloaded, answer-undecided, split-best}
 use Rattle.task.specs.declared.Name.{Name}
 use Rattle.task.specs.declared.Task.{Task}
 use Rattle.task.specs.declared.Machine.{Machine}
-use Rattle.task.specs.Tasks.{taskAt}
-use Rattle.walks.specs.Lists.{sumBy}
+use Rattle.task.specs.Tasks.{coresMost, taskAt}
+use Rattle.walks.specs.Lists.{Chain, sumBy}
+use Rattle.walks.specs.Order.{Precedes}
 use Rattle.walks.specs.Way.{Placed, fine, stuck, walkOver, onCore, rowOf}
 use Rattle.walks.specs.Edits.{edited}
 use Rattle.walks.specs.Kept.{Among, Behind, Meet}
-use Rattle.walks.specs.Halves.{Stand, Shared}
+use Rattle.walks.specs.Halves.{Stand}
 use Rattle.plan.specs.declared.Plan.{Plan}
-use Rattle.plan.specs.Walk.{wholeAt, taskWay, walked}
+use Rattle.plan.specs.declared.Reply.{Reply}
+use Rattle.plan.specs.Walk.{placeWay, taskWay, walked}
+use Rattle.plan.specs.Layout.{tasksOn}
 use Rattle.plan.specs.Plan.{planOf}
-use Rattle.plan.specs.Places.{ofTask}
-use Rattle.plan.proofs.Theorems.{plan-comes, all-placed, budgets-add, windows-add, cores-pass, cores-keep-up}
+use Rattle.plan.specs.Places.{denserAt, packed, Rearranged, ofTask, TaskPlaced}
+use Rattle.plan.specs.Shows.{storedOf, WordShows}
+use Rattle.plan.proofs.Theorems.{plan-faultless, plan-comes, packing-order, packing-ranked, all-placed, budgets-add, windows-add, plan-counts, plan-shows, words-show}
 use Rattle.sheet.specs.Sheet.{top, sheetMost, readOf}
 use Rattle.sheet.specs.Fitted.{Fitted, linesOf}
 use Rattle.sheet.specs.Refusing.{tailOf, Refusing}
@@ -63,17 +70,20 @@ use Rattle.sheet.proofs.RuleLaws.{breaks-no-rule}
 use Rattle.listing.specs.Listing.{rowEntries, entries, listingOf}
 use Rattle.listing.specs.Placed.{placedEntry}
 use Rattle.listing.proofs.Theorems.{listing-placed, header-counts, listing-determines}
-use Rattle.edits.specs.Edits.{byName, TaskEdit, tasksHeld, editOf, accepted, Held, played}
+use Rattle.edits.specs.Edits.{byName, TaskEdit, tasksHeld, editOf, SameAnswer, accepted, afresh, Afresh, rowIn, Held, played}
 use Rattle.edits.specs.Kept.{inOrder, Keeps, editedName, Ahead}
-use Rattle.edits.proofs.Theorems.{plan-held, edit-refused, edit-does, after-edits-afresh, edit-before, edit-after, same-stand}
+use Rattle.edits.proofs.AnswerLaws.{plan-is}
+use Rattle.edits.proofs.Theorems.{edit-refused, edit-does, edit-afresh, after-edits-afresh, same-stand}
+use Rattle.edits.proofs.HeldTheorems.{edit-relies, afresh-held, after-held, held-before, held-after}
 use Rattle.spardimple.specs.Bytes.{piecesOf, costsSpelt}
-use Rattle.spardimple.specs.Numbers.{said, replyOf, verdictNumber}
+use Rattle.spardimple.specs.Numbers.{replyOf, verdictNumber, Spelt}
 use Rattle.spardimple.specs.Sheets.{refused, written, machineIn, costsIn, tasksIn, planIn, paperOf, refusal, toldPaper, listingNumber, listingLeft}
 use Rattle.spardimple.proofs.NumberLaws.{verdict-number-one}
 use Rattle.spardimple.proofs.PaperLaws.{listing-number-one, paper-nine, paper-seven, paper-ten, paper-read}
 use Rattle.spardimple.proofs.PaperLaws.{paper-comes, paper-alike, buffer-refused, buffer-written}
 use Rattle.spardimple.proofs.SheetLaws.{paper-unread}
-use Rattle.spardimple.proofs.JudgedLaws.{judged-sized, judged-verdict}
+use Rattle.spardimple.proofs.JudgedLaws.{verdict-passes, verdict-overloaded, verdict-undecided}
+use Rattle.spardimple.proofs.HeldPlans.{walks-are, cores-bounded, ones-are}
 
 -- ---- demand 1: each input answered
 
@@ -113,75 +123,126 @@ refused-state e s = edit-refused e s
 
 -- ---- demand 2: the verdict
 
+-- on the first n of the records ps, at the costs c, for every asker
+module _ (c : Costs) (n : ℕ) (ps : List Piece) where
+  pub passes : (answerOf c n ps ≡ Judged Passes) ↔ (Taken c n ps × Bounded (coreOf c (take n ps)) × KeepsUp (stall c) (coreOf c (take n ps)))
+  passes = answer-passes c n ps
+
+  pub overloaded : (t : ℕ) → (answerOf c n ps ≡ Judged (Overloaded t)) ↔ (Taken c n ps × Means (stall c) (coreOf c (take n ps)) (Overloaded t))
+  overloaded = answer-overloaded c n ps
+
+  pub undecided : (answerOf c n ps ≡ Judged Undecided) ↔ (Taken c n ps × Means (stall c) (coreOf c (take n ps)) Undecided)
+  undecided = answer-undecided c n ps
+
+  pub split : (p : Piece) (g : ℕ) (s : Split) → (splitOf c n ps p g ≡ Best s) ↔ (Taken c (n + 1) (take n ps ++ (p ∷ [])) × Splits c g (take n ps) p s)
+  split p g s = split-best c n ps p g s
+
+-- and on lent bytes, by the number that is given back
 module _ (rs cs : List ℕ) where
-  pub passes : replyOf rs cs ≡ said (Judged Passes)
-      → ((coreOf (costsSpelt cs) (piecesOf rs) ≡ []) ⊎ ((l : ℕ) × Least (Holds (busySum (coreOf (costsSpelt cs) (piecesOf rs)))) l × (l ≤ busyMost)))
-      × ((t : ℕ) → Live (coreOf (costsSpelt cs) (piecesOf rs)) t → demand (stall (costsSpelt cs)) (coreOf (costsSpelt cs) (piecesOf rs)) t ≤ t)
-  passes is =
-      let sizes = judged-sized rs cs Passes is in
-      let so = judged-verdict rs cs Passes is in
-      (passes-busy (costsSpelt cs) (piecesOf rs) sizes so, passes-all (costsSpelt cs) (piecesOf rs) sizes so)
+  pub passes-told : (verdictNumber rs cs ≡ 2 ^ 32 * 0 + 0)
+      ↔ (Spelt rs cs × Bounded (coreOf (costsSpelt cs) (piecesOf rs)) × KeepsUp (stall (costsSpelt cs)) (coreOf (costsSpelt cs) (piecesOf rs)))
+  passes-told = verdict-passes rs cs
 
-  pub overloaded : (t : ℕ) → replyOf rs cs ≡ said (Judged (Overloaded t))
-      → Live (coreOf (costsSpelt cs) (piecesOf rs)) t × (t < demand (stall (costsSpelt cs)) (coreOf (costsSpelt cs) (piecesOf rs)) t)
-      × ((t₀ : ℕ) × (l : ℕ) × Span (coreOf (costsSpelt cs) (piecesOf rs)) t₀ l × Worst (stall (costsSpelt cs)) (coreOf (costsSpelt cs) (piecesOf rs)) t₀ l t)
-  overloaded t is =
-      let sizes = judged-sized rs cs (Overloaded t) is in
-      let so = judged-verdict rs cs (Overloaded t) is in
-      let shown = overloaded-live (costsSpelt cs) (piecesOf rs) sizes t so in
-      (shown .0, shown .1, overloaded-worst (costsSpelt cs) (piecesOf rs) sizes t so)
+  pub overloaded-told : (t : ℕ) → t < 2 ^ 32 → (verdictNumber rs cs ≡ 2 ^ 32 * 1 + t)
+      ↔ (Spelt rs cs × Means (stall (costsSpelt cs)) (coreOf (costsSpelt cs) (piecesOf rs)) (Overloaded t))
+  overloaded-told = verdict-overloaded rs cs
 
-  pub undecided : replyOf rs cs ≡ said (Judged Undecided) → (l : ℕ) → l ≤ busyMost → Holds (busySum (coreOf (costsSpelt cs) (piecesOf rs))) l → ⊥
-  undecided is = undecided-only (costsSpelt cs) (piecesOf rs) (judged-sized rs cs Undecided is) (judged-verdict rs cs Undecided is)
+  pub undecided-told : (verdictNumber rs cs ≡ 2 ^ 32 * 2 + 0)
+      ↔ (Spelt rs cs × Means (stall (costsSpelt cs)) (coreOf (costsSpelt cs) (piecesOf rs)) Undecided)
+  undecided-told = verdict-undecided rs cs
 
 -- ---- demand 2: the plan
 
 pub fits-above : (sheet : List ℕ) → readOf sheet .number ≡ 0 → Each (Fitted (linesOf sheet)) (tasksIn sheet)
 fits-above sheet whole = first-arrow sheet whole
 
--- what a plan P of the tasks ts, on the machine m and at the costs c, is: what the walk gives, and listed so
-pub record Promised (m : Machine) (c : Costs) (ts : List Task) (P : Plan) : Type 0 where
+-- what a held plan is: what the walk over its tasks in packing order gives
+pub record Promised (s : Plan) : Type 0 where
+  pub once : Rearranged (length (tasksHeld s)) (packed (tasksHeld s))
+  pub ranked : Chain (Precedes (denserAt (tasksHeld s)) (λ i j. i < j)) (packed (tasksHeld s))
   pub stand : Stand
   pub log : List (Placed ℕ)
-  pub walks : walked m c ts ≡ fine stand log
-  pub placed : (k : ℕ) → k < length ts → Shared c (m .grain) (wholeAt ts k) k (ofTask k log)
-  pub budgets : (k : ℕ) → k < length ts → sumBy (λ e. e .piece .budget) (ofTask k log) ≡ taskAt ts k .times .worst
-  pub windows : (k : ℕ) → k < length ts → sumBy (λ e. e .piece .window) (ofTask k log) ≡ taskAt ts k .times .deadline
-  pub cores : (q : ℕ) → verdictOf c (rowOf q log) ≡ Passes
-  pub ever : (q t : ℕ) → Live (coreOf c (rowOf q log)) t → demand (stall c) (coreOf c (rowOf q log)) t ≤ t
-  pub lists : (q : ℕ) → q < 16 → rowEntries P q ≡ map (placedEntry c ts) (onCore q log)
-  pub pieces-counted : P .layout .count ≡ length (entries P)
-  pub tasks-counted : P .tasks .count ≡ length ts
+  pub walks : walkOver (placeWay (s .machine) (s .costs) (tasksHeld s)) (packed (tasksHeld s)) ≡ fine stand log
+  pub placed : (k : ℕ) → k < length (tasksHeld s) → TaskPlaced (s .machine) (s .costs) (tasksHeld s) k log
+  pub budgets : (k : ℕ) → k < length (tasksHeld s) → sumBy (λ e. e .piece .budget) (ofTask k log) ≡ taskAt (tasksHeld s) k .times .worst
+  pub windows : (k : ℕ) → k < length (tasksHeld s) → sumBy (λ e. e .piece .window) (ofTask k log) ≡ taskAt (tasksHeld s) k .times .deadline
+  pub cores : (q : ℕ) → Bounded (coreOf (s .costs) (rowOf q log)) × KeepsUp (stall (s .costs)) (coreOf (s .costs) (rowOf q log))
+  pub within : Each (λ e. e .on < s .machine .cores) log
+  pub rows : (q : ℕ) → q < coresMost → rowIn s q ≡ map storedOf (onCore q log)
+  pub words : (q : ℕ) → q < coresMost → WordShows (getD (s .layout .words) q 0) (onCore q log)
+  pub ones : (q : ℕ) → q < coresMost → tasksOn (s .layout) q ≡ length (onCore q log)
+
+pub held-promised : (s : Plan) → Held s → Promised s
+held-promised s held =
+    let m = s .machine in
+    let c = s .costs in
+    let n = s .tasks .count in
+    let ts = s .tasks .list in
+    let good = plan-faultless m c n ts (held .comes) in
+    let walk = plan-comes m c n ts good .0 (held .comes) in
+    let t = walk .0 in
+    let l = walk .1 in
+    let so = walk .2 in
+    let word : (q : ℕ) → q < coresMost → WordShows (getD (s .layout .words) q 0) (onCore q l) =
+    (λ q low. rw (held .words q low) (words-show m c n ts good t l so q low)) in
+    record {
+      once = packing-order (tasksHeld s);
+      ranked = packing-ranked m c n ts good;
+      stand = t;
+      log = l;
+      walks = walks-are m c (tasksHeld s) t l so;
+      placed = all-placed m c n ts good t l so;
+      budgets = budgets-add m c n ts good t l so;
+      windows = windows-add m c n ts good t l so;
+      cores = λ q. cores-bounded m c n ts good t l so q;
+      within = plan-counts m c n ts good t l so .cores;
+      rows = λ q low. held .rows q low ∙ plan-shows m c n ts good t l so .numbers q low;
+      words = word;
+      ones = λ q low. ones-are (s .layout) q low ∙ word q low .count;
+    }
+
+-- and what its listing shows of it, where it is the plan worked out afresh: a sheet's plan is, and every plan that an edit yields
+pub record Listed (s : Plan) : Type 0 where
+  pub stand : Stand
+  pub log : List (Placed ℕ)
+  pub walks : walked (s .machine) (s .costs) (tasksHeld s) ≡ fine stand log
+  pub lists : (q : ℕ) → q < coresMost → rowEntries s q ≡ map (placedEntry (s .costs) (tasksHeld s)) (onCore q log)
+  pub pieces-counted : s .layout .count ≡ length (entries s)
+  pub tasks-counted : s .tasks .count ≡ length (tasksHeld s)
+
+pub afresh-listed : (s : Plan) → Afresh s → Listed s
+unfolding Afresh
+afresh-listed s is =
+    let m = s .machine in
+    let c = s .costs in
+    let n = s .tasks .count in
+    let ts = s .tasks .list in
+    let comes = ap (λ (r : Reply). r .number) is in
+    let good = plan-faultless m c n ts comes in
+    let walk = plan-comes m c n ts good .0 comes in
+    let counts = header-counts m c n ts good (walk .0) (walk .1) (walk .2) in
+    let own : afresh s .plan ≡ s = ap (λ (r : Reply). r .plan) is in
+    record {
+      stand = walk .0;
+      log = walk .1;
+      walks = walk .2;
+      lists =
+          λ q low. ap (λ (u : Plan). rowEntries u q) (sym own) ∙ listing-placed m c n ts good (walk .0) (walk .1) (walk .2) q low;
+      pieces-counted = subst (λ (u : Plan). u .layout .count ≡ length (entries u)) own (counts .0);
+      tasks-counted = ap (λ (u : Plan). u .tasks .count) (sym own) ∙ counts .1;
+    }
 
 pub listing-promised : (sheet text : List ℕ) → paperOf sheet ≡ written text
-    → (text ≡ listingOf (planIn sheet)) × Promised (machineIn sheet) (costsIn sheet) (tasksIn sheet) (planIn sheet)
+    → (text ≡ listingOf (planIn sheet)) × Afresh (planIn sheet)
+    × (planIn sheet .machine ≡ machineIn sheet) × (planIn sheet .costs ≡ costsIn sheet) × (tasksHeld (planIn sheet) ≡ tasksIn sheet)
 listing-promised sheet text is =
     let read = paper-read sheet text is in
     let m = machineIn sheet in
     let c = costsIn sheet in
     let n = readOf sheet .sheet .tasks .count in
     let ts = readOf sheet .sheet .tasks .list in
-    let good = breaks-no-rule sheet (read .0) in
-    let walk = plan-comes m c n ts good .0 (read .1) in
-    let s = walk .0 in
-    let l = walk .1 in
-    let so = walk .2 in
-    let counts = header-counts m c n ts good s l so in (
-      read .2,
-      record {
-        stand = s;
-        log = l;
-        walks = so;
-        placed = all-placed m c n ts good s l so;
-        budgets = budgets-add m c n ts good s l so;
-        windows = windows-add m c n ts good s l so;
-        cores = cores-pass m c n ts good s l so;
-        ever = cores-keep-up m c n ts good s l so;
-        lists = listing-placed m c n ts good s l so;
-        pieces-counted = counts .0;
-        tasks-counted = counts .1;
-      },
-    )
+    let made = plan-is m c n ts (read .1) in
+    (read .2, made .held, made .machine-is, made .costs-is, made .tasks-are)
 
 pub listing-comes : (sheet : List ℕ) → readOf sheet .number ≡ 0 → (s : Stand) (l : List (Placed ℕ))
     → walked (machineIn sheet) (costsIn sheet) (tasksIn sheet) ≡ fine s l → paperOf sheet ≡ written (listingOf (planIn sheet))
@@ -203,14 +264,23 @@ told-apart sheet sheet′ text is is′ =
 
 -- ---- demand 3: edits
 
-pub begun-held : (sheet text : List ℕ) → paperOf sheet ≡ written text → Held (planIn sheet)
-begun-held sheet text is =
-    plan-held (machineIn sheet) (costsIn sheet) (readOf sheet .sheet .tasks .count) (readOf sheet .sheet .tasks .list)
-    (paper-read sheet text is .1)
+pub begun-held : (s : Plan) → Afresh s → Held s
+begun-held s = afresh-held s
 
-pub afresh : (es : List TaskEdit) (s : Plan) → Held s
+pub after-any : (es : List TaskEdit) (s : Plan) → Held s
+    → Held (played es s) × (played es s .machine ≡ s .machine) × (played es s .costs ≡ s .costs)
+after-any es s = after-held es s
+
+pub after-any-afresh : (es : List TaskEdit) (s : Plan) → Afresh s
     → planOf (s .machine) (s .costs) (played es s .tasks .count) (played es s .tasks .list) ≡ accepted (played es s)
-afresh es s = after-edits-afresh es s
+after-any-afresh es s = after-edits-afresh es s
+
+pub edit-yields : (e : TaskEdit) (s : Plan) → editOf e s .number ≡ 0 → Afresh (editOf e s .plan)
+edit-yields e s = edit-afresh e s
+
+pub edit-looks-at : (e : TaskEdit) (s t : Plan) → s .machine ≡ t .machine → s .costs ≡ t .costs → tasksHeld s ≡ tasksHeld t
+    → s .tasks .count ≡ t .tasks .count → SameAnswer (editOf e s) (editOf e t)
+edit-looks-at e s t = edit-relies e s t
 
 pub edit-made : (e : TaskEdit) (s : Plan) → editOf e s .number ≡ 0 → tasksHeld (editOf e s .plan) ≡ edited byName e (tasksHeld s)
 edit-made e s = edit-does e s
@@ -222,9 +292,9 @@ same-state = same-stand
 
 module _ (e : TaskEdit) (s : Plan) (held : Held s) (taken : editOf e s .number ≡ 0) where
   pub kept-before : (b : Name) → Ahead (editedName e) b (tasksHeld s) → Ahead (editedName e) b (tasksHeld (editOf e s .plan)) → Keeps s (editOf e s .plan) b
-  kept-before = edit-before e s held taken
+  kept-before = held-before s held e taken
 
   pub kept-after : {p r p′ r′ : List Task} {b b′ : Task} → Behind byName (editedName e) (inOrder (tasksHeld s)) p b r
       → Behind byName (editedName e) (inOrder (tasksHeld (editOf e s .plan))) p′ b′ r′ → b .name ≡ b′ .name
       → Meet (taskWay (s .machine) (s .costs)) p p′ → (d : Name) → Among byName d (b ∷ r) → Keeps s (editOf e s .plan) d
-  kept-after = edit-after e s held taken
+  kept-after = held-after s held e taken
