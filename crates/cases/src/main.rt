@@ -5,12 +5,15 @@ mod runs;
 mod sheets;
 
 use demand::Kind;
+use demand::records_of;
 use plans::many;
 use plans::pair;
 use plans::show_plan;
 use print::show_busy;
 use print::show_demand;
+use print::show_records;
 use print::show_split;
+use print::show_split_beside;
 use print::show_tight;
 use print::show_verdict;
 use runs::costs;
@@ -91,6 +94,33 @@ fn refusals() {
     show_verdict(b"80 records", costs(0, 0, 0, 100001, 0, 0), many);
 }
 
+// Records that are lent as numbers, of which the eighth is the second one's kind.
+fn lent() {
+    let mut records = records_of(with(with(empty(), whole(1, 2, 4)), whole(1, 2, 4)));
+    show_records(b"two whole pieces", free(), &records, 2);
+    records[7] = 2;
+    show_records(b"the second a last piece", free(), &records, 2);
+    records[7] = 3;
+    show_records(b"the second of another kind", free(), &records, 2);
+    show_records(b"the first alone", free(), &records, 1);
+    show_split_beside(
+        b"beside another kind",
+        free(),
+        &records,
+        2,
+        whole(3, 4, 4),
+        1,
+    );
+    show_split_beside(
+        b"beside the first alone",
+        free(),
+        &records,
+        1,
+        whole(3, 4, 4),
+        1,
+    );
+}
+
 // The split of document 01's sheet, and the hole: with costs a smaller x is refused where a larger one is allowed. At x = 1 the last piece alone
 // does not pass, at x = 2 it does.
 fn splits() {
@@ -129,6 +159,7 @@ fn main() {
     figures();
     table_four();
     refusals();
+    lent();
     splits();
     whole_plans();
     whole_sheets();

@@ -4,6 +4,7 @@ use demand::Costs;
 use demand::Figure;
 use demand::Found;
 use demand::Piece;
+use demand::RUN_NUMBERS;
 use demand::Refusal;
 use demand::Run;
 use demand::Split;
@@ -78,9 +79,8 @@ fn figure(f: Figure) {
     }
 }
 
-pub fn show_verdict(case: &[u8], costs: Costs, run: Run) {
-    name(case);
-    match verdicts::judge(costs, run) {
+fn answer(a: Answer) {
+    match a {
         Answer::Judged(v) => {
             verdict(v);
         }
@@ -88,6 +88,17 @@ pub fn show_verdict(case: &[u8], costs: Costs, run: Run) {
             refusal(why);
         }
     }
+}
+
+pub fn show_verdict(case: &[u8], costs: Costs, run: Run) {
+    name(case);
+    answer(verdicts::judge(costs, run));
+}
+
+// The same of the first n records that are lent as numbers.
+pub fn show_records(case: &[u8], costs: Costs, records: &[u64; RUN_NUMBERS], n: usize) {
+    name(case);
+    answer(verdicts::judge_records(costs, records, n));
 }
 
 pub fn show_busy(case: &[u8], costs: Costs, run: Run) {
@@ -115,13 +126,24 @@ pub fn show_tight(case: &[u8], costs: Costs, run: Run) {
     figure(verdicts::tight_window(costs, &records, n));
 }
 
-// The first piece's budget and its window.
 pub fn show_split(case: &[u8], costs: Costs, run: Run, task: Piece, grain: u64) {
-    name(case);
-    io::write_all(STDOUT_FILENO, b"split");
     let records = demand::records_of(run);
     let n = run.count;
-    match splits::split_records(costs, &records, n, task, grain) {
+    show_split_beside(case, costs, &records, n, task, grain);
+}
+
+// The first piece's budget and its window, beside the first n records that are lent as numbers.
+pub fn show_split_beside(
+    case: &[u8],
+    costs: Costs,
+    records: &[u64; RUN_NUMBERS],
+    n: usize,
+    task: Piece,
+    grain: u64,
+) {
+    name(case);
+    io::write_all(STDOUT_FILENO, b"split");
+    match splits::split_records(costs, records, n, task, grain) {
         Splitting::Denied(why) => {
             io::write_all(STDOUT_FILENO, b"\t");
             refusal(why);

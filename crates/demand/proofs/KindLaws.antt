@@ -5,11 +5,15 @@
 --   kind-one         no two kinds have the same number
 --   allKinds t       whether the test t holds of every kind
 --   every-kind       then it holds of each
+--   kind-narrow      no kind's number is past the greatest
 use mathlib.Core.Bool.{Bool, true, _&&_}
 use mathlib.Core.Path.{_≡_, refl, sym, ap, _∙_}
+use Prim.Native.Nat.{_≤_}
+use borrow.Author.Tests.{leb-true}
+use lib.Dec.{leb}
 use Rattle.demand.specs.declared.Kind.{Kind}
 use Rattle.demand.specs.declared.Kind.the-variants.{Whole, First, Last}
-use Rattle.demand.specs.Kinds.{kindNumber, kindOf}
+use Rattle.demand.specs.Kinds.{kindNumber, kindMost, kindOf}
 use Rattle.demand.proofs.Tests.{both-left, both-right}
 
 pub kind-back : (k : Kind) → kindOf (kindNumber k) ≡ k
@@ -27,3 +31,6 @@ pub every-kind : (t : Kind → Bool) → allKinds t ≡ true → (k : Kind) → 
 every-kind t all Whole = both-left (t Whole) (t First && t Last) all
 every-kind t all First = both-left (t First) (t Last) (both-right (t Whole) (t First && t Last) all)
 every-kind t all Last = both-right (t First) (t Last) (both-right (t Whole) (t First && t Last) all)
+
+pub kind-narrow : (k : Kind) → kindNumber k ≤ kindMost
+kind-narrow k = leb-true (kindNumber k) kindMost (every-kind (λ k. leb (kindNumber k) kindMost) refl k)

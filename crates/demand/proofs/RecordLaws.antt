@@ -1,12 +1,16 @@
 -- Laws of a run of records that lies in an array.
 -- Assumes nothing.
 --
---   records-length, records-at, records-read    79 of them, and each by its place
+--   records-length, records-at, records-read, records-take    79 of them, each by its place, and the first ones
+--   record-named, record-other    a record by its kind's number
+--   kind-outside          a record of another kind is outside the sizes
+--   first-same            the first n records, by the first 7 · n numbers
+--   record-back           the seven numbers of a record spell it
 --   put-length            a record written leaves the array as long as it was
 --   records-put           it stands there, behind those before it
---   records-next          one record more, of those that are to be there
 --   put-all-next, lent-records    records written one by one are those that are read
 use mathlib.Core.Path.{_≡_, refl, sym, ap, _∙_}
+use mathlib.Core.Bool.{false}
 use mathlib.Core.List.{List, [], _∷_, _++_, append-nil, append-assoc}
 use Prim.Native.Nat.{ℕ, suc, _+_, _*_, _≤_, _<_}
 use native.Mathlib.Nat.{add-zero}
@@ -14,14 +18,14 @@ use native.Mathlib.Numerals.{add-one}
 use native.Mathlib.Omega.{arith}
 use borrow.Author.Tests.{le-leb, lt-leb}
 use lib.ListN.{length, take, drop, getD, replicate, length-replicate, drop-of-length-le}
-use lib.Seq.{sets, length-sets, take-all, take-suc, drop-cons}
+use lib.Seq.{sets, length-sets, take-all, drop-cons}
 use Rattle.demand.specs.declared.Kind.{Kind}
 use Rattle.demand.specs.declared.Piece.{Piece}
-use Rattle.demand.specs.Kinds.{kindNumber, kindOf}
+use Rattle.demand.specs.Kinds.{kindNumber, kindMost, kindOf}
 use Rattle.demand.specs.Lists.{firsts}
-use Rattle.demand.specs.Records.{noRecord, recordAt, recordWithin, recordsOf, numbersOf, putRecord, putAll, lentOf}
-use Rattle.demand.specs.Sizes.{runMost}
-use Rattle.demand.proofs.KindLaws.{kind-back}
+use Rattle.demand.specs.Records.{outside, recordAt, recordWithin, recordsOf, numbersOf, putRecord, putAll, lentOf}
+use Rattle.demand.specs.Sizes.{runMost, sized}
+use Rattle.demand.proofs.KindLaws.{kind-back, kind-narrow}
 use Rattle.demand.proofs.ArrayLaws.{firsts-length, firsts-at, firsts-take, firsts-same, sets-before, sets-there}
 
 -- ---- all places
@@ -38,13 +42,13 @@ records-at a i d h = firsts-at (recordAt a) runMost i d h
 pub records-read : (a : List ℕ) (i : ℕ) (p d : Piece) → i < runMost → p ≡ recordAt a i → getD (recordsOf a) i d ≡ p
 records-read a i p d h read = records-at a i d h ∙ sym read
 
-records-take : (a : List ℕ) (i : ℕ) → i ≤ runMost → take i (recordsOf a) ≡ firsts (recordAt a) i
+pub records-take : (a : List ℕ) (i : ℕ) → i ≤ runMost → take i (recordsOf a) ≡ firsts (recordAt a) i
 unfolding recordsOf
 records-take a i h = firsts-take (recordAt a) runMost i h
 
 -- ---- a record
 
-pub record-past : (a : List ℕ) (i : ℕ) → runMost ≤ i → recordWithin a i ≡ noRecord
+pub record-past : (a : List ℕ) (i : ℕ) → runMost ≤ i → recordWithin a i ≡ outside
 unfolding recordWithin
 record-past a i h = simp (le-leb runMost i h)
 
@@ -52,8 +56,8 @@ pub record-within : (a : List ℕ) (i : ℕ) → i < runMost → recordWithin a 
 unfolding recordWithin
 record-within a i h = simp (lt-leb runMost i h)
 
--- seven reads make a record
-pub record-read : (a : List ℕ) (i : ℕ) (k : Kind) → k ≡ kindOf (getD a (7 * i) 0)
+-- seven reads make a record, where the first is a kind's number
+pub record-named : (a : List ℕ) (i : ℕ) (k : Kind) → getD a (7 * i) 0 ≤ kindMost → k ≡ kindOf (getD a (7 * i) 0)
     → record {
       kind = k;
       budget = getD a (7 * i + 1) 0;
@@ -64,7 +68,15 @@ pub record-read : (a : List ℕ) (i : ℕ) (k : Kind) → k ≡ kindOf (getD a (
       migrate = getD a (7 * i + 6) 0;
     } ≡ recordAt a i
 unfolding recordAt
-record-read a i k e = rw e
+record-named a i k named e = simp (le-leb (getD a (7 * i) 0) kindMost named, e)
+
+pub record-other : (a : List ℕ) (i : ℕ) → kindMost < getD a (7 * i) 0 → recordAt a i ≡ outside
+unfolding recordAt
+record-other a i other = simp (lt-leb (getD a (7 * i) 0) kindMost other)
+
+pub kind-outside : (a : List ℕ) (i : ℕ) → kindMost < getD a (7 * i) 0 → sized (recordAt a i) ≡ false
+unfolding sized
+kind-outside a i other = rw (record-other a i other)
 
 record-same : (a b : List ℕ) (i : ℕ) → ((k : ℕ) → k < 7 * i + 7 → getD a k 0 ≡ getD b k 0) → recordAt a i ≡ recordAt b i
 unfolding recordAt
@@ -79,25 +91,28 @@ record-same a b i same =
       same (7 * i + 6) (omega arith),
     )
 
-record-there : (a : List ℕ) (i : ℕ) (p : Piece) → 7 * i + 7 ≤ length a → recordAt (sets a (7 * i) (numbersOf p)) i ≡ p
-unfolding recordAt
-record-there a i p room =
-    let b = sets a (7 * i) (numbersOf p) in
-    let at : (k : ℕ) → k < 7 → getD b (7 * i + k) 0 ≡ getD (numbersOf p) k 0 = sets-there a (7 * i) (numbersOf p) room in
-    let head : getD b (7 * i) 0 ≡ kindNumber (p .kind) = rw add-zero at (at 0 (omega arith)) in
-    let kind : kindOf (getD b (7 * i) 0) ≡ p .kind = rw head (kind-back (p .kind)) in
-    let e : recordAt b i
-    ≡ record {
+-- the first n records, by the first 7 · n numbers
+pub first-same : (a b : List ℕ) (n : ℕ) → ((k : ℕ) → k < 7 * n → getD a k 0 ≡ getD b k 0) → firsts (recordAt a) n ≡ firsts (recordAt b) n
+first-same a b n same = firsts-same (recordAt a) (recordAt b) n (λ i under. record-same a b i (λ k low. same k (omega arith)))
+
+-- the seven numbers of a record spell it
+pub record-back : (a : List ℕ) (i : ℕ) (p : Piece) → ((k : ℕ) → k < 7 → getD a (7 * i + k) 0 ≡ getD (numbersOf p) k 0) → recordAt a i ≡ p
+record-back a i p at =
+    let head : getD a (7 * i) 0 ≡ kindNumber (p .kind) = rw add-zero at (at 0 (omega arith)) in
+    let kind : p .kind ≡ kindOf (getD a (7 * i) 0) = rw head (sym (kind-back (p .kind))) in
+    sym (record-named a i (p .kind) (omega (arith, head, kind-narrow (p .kind))) kind)
+    ∙ λ j. record {
       kind = p .kind;
-      budget = p .budget;
-      window = p .window;
-      period = p .period;
-      jitter = p .jitter;
-      preempt = p .preempt;
-      migrate = p .migrate;
-    } =
-    cc (kind, at 1 (omega arith), at 2 (omega arith), at 3 (omega arith), at 4 (omega arith), at 5 (omega arith), at 6 (omega arith)) in
-    e
+      budget = at 1 (omega arith) j;
+      window = at 2 (omega arith) j;
+      period = at 3 (omega arith) j;
+      jitter = at 4 (omega arith) j;
+      preempt = at 5 (omega arith) j;
+      migrate = at 6 (omega arith) j;
+    }
+
+record-there : (a : List ℕ) (i : ℕ) (p : Piece) → 7 * i + 7 ≤ length a → recordAt (sets a (7 * i) (numbersOf p)) i ≡ p
+record-there a i p room = record-back (sets a (7 * i) (numbersOf p)) i p (sets-there a (7 * i) (numbersOf p) room)
 
 pub put-here : (a : List ℕ) (i : ℕ) (p : Piece) → i < runMost → putRecord a i p ≡ sets a (7 * i) (numbersOf p)
 unfolding putRecord
@@ -115,19 +130,12 @@ pub records-put : (a : List ℕ) (i : ℕ) (p : Piece) → i < runMost → lengt
 records-put a i p h long =
     let b = sets a (7 * i) (numbersOf p) in
     let room : 7 * i + 7 ≤ length a = omega arith in
-    let before : firsts (recordAt b) i ≡ firsts (recordAt a) i =
-    firsts-same (recordAt b) (recordAt a) i (λ j under. record-same b a j (λ k low. sets-before a (7 * i) (numbersOf p) room k (omega arith))) in
+    let before : firsts (recordAt b) i ≡ firsts (recordAt a) i = first-same b a i (sets-before a (7 * i) (numbersOf p) room) in
     let taken : take (i + 1) (recordsOf b) ≡ firsts (recordAt b) (suc i) = rw add-one (records-take b (suc i) h) in
     let ends : firsts (recordAt b) (suc i) ≡ firsts (recordAt a) i ++ (p ∷ []) = cc (before, record-there a i p room) in
     rw (put-here a i p h) (taken ∙ (ends ∙ ap (λ (l : List Piece). l ++ (p ∷ [])) (sym (records-take a i (omega arith)))))
 
 -- ---- records written one by one
-
-pub records-next : (a : List ℕ) (ps : List Piece) (i : ℕ) (p d : Piece) → i < runMost → length a ≡ 7 * runMost → i < length ps → p ≡ getD ps i d
-    → take i (recordsOf a) ≡ take i ps → take (i + 1) (recordsOf (putRecord a i p)) ≡ take (i + 1) ps
-records-next a ps i p d h long inside e so-far =
-    let more : take (i + 1) ps ≡ take i ps ++ (getD ps i d ∷ []) = rw add-one (take-suc ps i d inside) in
-    records-put a i p h long ∙ cc (so-far, e, more)
 
 -- one turn: the record at place i, and then those behind it
 pub put-all-next : (a : List ℕ) (ps : List Piece) (i : ℕ) (d : Piece) → i < length ps

@@ -1,8 +1,7 @@
 -- Laws of a run: the first n records of an array.
 -- Assumes nothing.
 --
---   nobody          what an array of pieces is said to hold past its end
---   length-mapped   how long that array is
+--   length-mapped   how long an array of structs is
 --   check-many, check-costs, check-record, check-all      the refusals in their order
 --   answer-fine, answer-bad, figure-fine, figure-bad      what is then answered
 --   taken-check, taken-answer      a run within the sizes is not refused
@@ -19,7 +18,6 @@ use borrow.Author.Tests.{le-leb, lt-leb, leb-true}
 use lib.Dec.{leb}
 use lib.ListN.{length, take, drop, getD, length-map, drop-of-length-le}
 use lib.Seq.{getD-take, length-take-le, take-append-add}
-use Rattle.demand.specs.declared.Kind.the-variants.{Whole}
 use Rattle.demand.specs.declared.Piece.{Piece}
 use Rattle.demand.specs.declared.Costs.{Costs}
 use Rattle.demand.specs.declared.Refusal.{Refusal}
@@ -41,9 +39,6 @@ use Rattle.demand.proofs.Sums.{each-front, each-last}
 use Rattle.demand.proofs.ChargeLaws.{all-countable, core-ranged}
 use Rattle.demand.proofs.SizeLaws.{first-bad-good, first-bad-here, first-bad-none, first-bad-behind}
 use Rattle.demand.proofs.SizeLaws.{first-bad-front, sized-costs-true, sized-is, sized-costs-is}
-
-abbrev pub nobody : Piece
-nobody = record { kind = Whole; budget = 0; window = 0; period = 0; jitter = 0; preempt = 0; migrate = 0 }
 
 -- the length of an array of structs that is a field of a struct, for `search`
 pub length-mapped : (X Y : Type 0) (f : X → Y) (l : List X) (n : ℕ) → length (map f l) ≡ n → length l ≡ n

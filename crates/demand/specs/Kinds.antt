@@ -4,7 +4,8 @@
 --   departs k            its task goes on elsewhere
 --   arrives k            it came from elsewhere
 --   kindNumber k         the number of a kind
---   kindOf n             the kind of a number; past 2 there is none, and who reads numbers from outside turns them away before
+--   kindMost             the greatest number of a kind: another kind is outside the sizes
+--   kindOf n             the kind of a number; past that there is none, and who reads numbers from outside turns them away before
 use mathlib.Core.Bool.{Bool, true, false, cond}
 use Prim.Native.Nat.{ℕ}
 use lib.Dec.{eqb}
@@ -25,6 +26,9 @@ abbrev pub kindNumber : Kind → ℕ
 kindNumber Whole = 0
 kindNumber First = 1
 kindNumber Last = 2
+
+abbrev pub kindMost : ℕ
+kindMost = 2
 
 abbrev pub kindOf : ℕ → Kind
 kindOf n = cond (eqb n 0) Whole (cond (eqb n 1) First Last)

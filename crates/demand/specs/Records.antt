@@ -1,6 +1,8 @@
--- How a run of piece records lies in one array of numbers, seven to a record in their order: kind, x, D, T, J, P, M. So it is lent.
+-- How a run of piece records lies in numbers, seven to a record in their order: kind, x, D, T, J, P, M. So it is lent: as one array of numbers, and
+-- as bytes that spell such numbers.
 --
---   recordAt a i         the record at place i
+--   outside              a piece that is outside the sizes
+--   recordAt a i         the record that the seven numbers at place i spell
 --   recordWithin a i     the same, and nothing but zeros past the last place
 --   recordsOf a          the records at all 79 places
 --   numbersOf p          the seven numbers of a record
@@ -15,26 +17,30 @@ use lib.ListN.{getD, replicate}
 use lib.Seq.{sets}
 use Rattle.demand.specs.declared.Kind.the-variants.{Whole}
 use Rattle.demand.specs.declared.Piece.{Piece}
-use Rattle.demand.specs.Kinds.{kindNumber, kindOf}
+use Rattle.demand.specs.Kinds.{kindNumber, kindMost, kindOf}
 use Rattle.demand.specs.Lists.{firsts}
 use Rattle.demand.specs.Sizes.{runMost}
 
-unfoldable pub recordAt : List ℕ → ℕ → Piece
-recordAt a i = record {
-  kind = kindOf (getD a (7 * i) 0);
-  budget = getD a (7 * i + 1) 0;
-  window = getD a (7 * i + 2) 0;
-  period = getD a (7 * i + 3) 0;
-  jitter = getD a (7 * i + 4) 0;
-  preempt = getD a (7 * i + 5) 0;
-  migrate = getD a (7 * i + 6) 0;
-}
+abbrev pub outside : Piece
+outside = record { kind = Whole; budget = 0; window = 0; period = 0; jitter = 0; preempt = 0; migrate = 0 }
 
-abbrev pub noRecord : Piece
-noRecord = record { kind = Whole; budget = 0; window = 0; period = 0; jitter = 0; preempt = 0; migrate = 0 }
+-- Another kind is outside the sizes, whatever the other six numbers are.
+unfoldable pub recordAt : List ℕ → ℕ → Piece
+recordAt a i =
+    cond (leb (getD a (7 * i) 0) kindMost)
+    (record {
+      kind = kindOf (getD a (7 * i) 0);
+      budget = getD a (7 * i + 1) 0;
+      window = getD a (7 * i + 2) 0;
+      period = getD a (7 * i + 3) 0;
+      jitter = getD a (7 * i + 4) 0;
+      preempt = getD a (7 * i + 5) 0;
+      migrate = getD a (7 * i + 6) 0;
+    })
+    outside
 
 unfoldable pub recordWithin : List ℕ → ℕ → Piece
-recordWithin a i = cond (leb runMost i) noRecord (recordAt a i)
+recordWithin a i = cond (leb runMost i) outside (recordAt a i)
 
 unfoldable pub recordsOf : List ℕ → List Piece
 recordsOf a = firsts (recordAt a) runMost

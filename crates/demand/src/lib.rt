@@ -34,6 +34,9 @@ pub const RUN_MOST: usize = 79;
 /// How many numbers a lent run of records is, seven to a record.
 pub const RUN_NUMBERS: usize = 7 * RUN_MOST;
 
+/// The greatest number of a kind: a record of another kind is outside the sizes.
+pub const KIND_MOST: u64 = 2;
+
 /// The most that a period, a window or a jitter is.
 pub const TIME_MOST: u64 = 1000000;
 

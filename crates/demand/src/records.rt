@@ -1,6 +1,7 @@
 // A run of piece records that is lent as numbers, seven to a record, and what is refused of it.
 use crate::Check;
 use crate::Costs;
+use crate::KIND_MOST;
 use crate::Kind;
 use crate::Piece;
 use crate::RUN_MOST;
@@ -16,28 +17,12 @@ ghost use mathlib.Core.List.{[], _∷_, _++_};
 ghost use Prim.Native.Nat.{_+_, _<_, _≤_};
 ghost use lib.ListN.{take};
 ghost use Rattle.demand.specs.Answer.{firstBad, checkRun};
-ghost use Rattle.demand.specs.Records.{noRecord, recordAt, recordWithin, recordsOf, putRecord, lentOf};
+ghost use Rattle.demand.specs.Records.{outside, recordAt, recordWithin, recordsOf, putRecord, lentOf};
 ghost use Rattle.demand.specs.Sizes.{runMost};
 
-// The record at place i.
-fn read_record(records: &[u64; RUN_NUMBERS], i: usize) -> Piece
-    requires { ⌜ i < runMost ⌝ }
-    ensures { λ r. ⌜ r ≡ recordAt (now (records .entry)) i ⌝ }
-{
-    let at = 7 * i;
-    Piece {
-        kind: kind_of(records[at]),
-        budget: records[at + 1],
-        window: records[at + 2],
-        period: records[at + 3],
-        jitter: records[at + 4],
-        preempt: records[at + 5],
-        migrate: records[at + 6],
-    }
-}
-
-fn no_record() -> Piece
-    ensures { λ r. ⌜ r ≡ noRecord ⌝ }
+// A piece outside the sizes.
+fn outside() -> Piece
+    ensures { λ r. ⌜ r ≡ outside ⌝ }
 {
     Piece {
         kind: Kind::Whole,
@@ -50,14 +35,35 @@ fn no_record() -> Piece
     }
 }
 
-/// The record at a place from 0 of a run that is lent as numbers; past its last place all numbers are 0.
+// The record at place i; one of another kind is outside the sizes.
+fn read_record(records: &[u64; RUN_NUMBERS], i: usize) -> Piece
+    requires { ⌜ i < runMost ⌝ }
+    ensures { λ r. ⌜ r ≡ recordAt (now (records .entry)) i ⌝ }
+{
+    let at = 7 * i;
+    let kind = records[at];
+    if KIND_MOST < kind {
+        return outside();
+    }
+    Piece {
+        kind: kind_of(kind),
+        budget: records[at + 1],
+        window: records[at + 2],
+        period: records[at + 3],
+        jitter: records[at + 4],
+        preempt: records[at + 5],
+        migrate: records[at + 6],
+    }
+}
+
+/// The record at a place from 0 of a run that is lent as numbers; zeros past its last place, and where the kind is none.
 pub fn record_at(records: &[u64; RUN_NUMBERS], i: usize) -> Piece
     ensures exact { λ r. ⌜ r ≡ recordWithin (now (records .entry)) i ⌝ }
 {
     if i < RUN_MOST {
         return read_record(records, i);
     }
-    no_record()
+    outside()
 }
 
 /// Writes a record, as its seven numbers, at a place from 0 of a run that is lent as numbers; past its last place nothing changes.

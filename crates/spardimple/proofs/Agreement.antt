@@ -11,21 +11,19 @@ use mathlib.Core.List.{List, [], _∷_, _++_}
 use Prim.Native.Nat.{ℕ, zero, suc, _+_, _*_, _/_, _%_, _≤_, _<_}
 use native.Mathlib.Nat.{suc-add, not-suc-le-zero, le-of-suc-le-suc}
 use native.Mathlib.Omega.{arith}
-use borrow.Author.Tests.{leb-true}
-use lib.Dec.{leb}
 use lib.ListN.{length, take, getD, List·getD-append}
 use lib.Seq.{take-suc, take-length, getD-append-add}
-use Rattle.demand.specs.declared.Kind.{Kind}
 use Rattle.demand.specs.declared.Piece.{Piece}
 use Rattle.demand.specs.declared.Costs.{Costs}
 use Rattle.demand.specs.Sizes.{Each}
 use Rattle.demand.specs.Answer.{answerOf, told}
-use Rattle.demand.specs.Kinds.{kindNumber, kindOf}
-use Rattle.demand.proofs.KindLaws.{kind-back, every-kind}
-use Rattle.spardimple.specs.Bytes.{numberAt, outside, sevenAt, pieceAt, firstPieces, piecesOf, costsSpelt}
+use Rattle.demand.specs.Lists.{firsts}
+use Rattle.demand.specs.Records.{outside, recordAt, numbersOf}
+use Rattle.demand.proofs.RecordLaws.{first-same, record-back}
+use Rattle.spardimple.specs.Bytes.{numberAt, numbersSpelt, piecesOf, costsSpelt}
 use Rattle.spardimple.specs.Numbers.{number, verdictNumber, said}
-use Rattle.spardimple.specs.Spelling.{fourBytes, sevenNumbers, runNumbers, nineNumbers, spell, Narrow}
-use Rattle.spardimple.proofs.ByteLaws.{piece-named}
+use Rattle.spardimple.specs.Spelling.{fourBytes, runNumbers, nineNumbers, spell, Narrow}
+use Rattle.spardimple.proofs.ByteLaws.{numbers-at}
 use Rattle.spardimple.proofs.NumberLaws.{reply-formed, number-reply}
 
 -- ---- numbers
@@ -45,15 +43,13 @@ four-read n s narrow =
     let fourth : n / 16777216 % 256 ≡ n / 16777216 = omega arith in
     four-sum (n % 256) (n / 256 % 256) (n / 65536 % 256) (n / 16777216 % 256) lowest second third fourth
 
-four-skip : (n k : ℕ) (s : List ℕ) → numberAt (fourBytes n ++ s) (suc (suc (suc (suc k)))) ≡ numberAt s k
-four-skip n k s = simp (suc-add)
+four-skip : (n k : ℕ) (s : List ℕ) → numberAt (fourBytes n ++ s) (suc k) ≡ numberAt s k
+four-skip n k s = let e : 4 * suc k ≡ suc (suc (suc (suc (4 * k)))) = omega arith in rw e (simp (suc-add))
 
-pub spell-at : (ns : List ℕ) → Each Narrow ns → (i : ℕ) → i < length ns → numberAt (spell ns) (4 * i) ≡ getD ns i 0
+pub spell-at : (ns : List ℕ) → Each Narrow ns → (i : ℕ) → i < length ns → numberAt (spell ns) i ≡ getD ns i 0
 spell-at [] narrow i h = absurd (not-suc-le-zero h)
 spell-at (n ∷ ns) narrow zero h = four-read n (spell ns) (narrow .0)
-spell-at (n ∷ ns) narrow (suc i) h =
-    let e : 4 * suc i ≡ suc (suc (suc (suc (4 * i)))) = omega arith in
-    ap (λ (k : ℕ). numberAt (spell (n ∷ ns)) k) e ∙ (four-skip n (4 * i) (spell ns) ∙ spell-at ns (narrow .1) i (le-of-suc-le-suc h))
+spell-at (n ∷ ns) narrow (suc i) h = four-skip n i (spell ns) ∙ spell-at ns (narrow .1) i (le-of-suc-le-suc h)
 
 -- ---- records
 
@@ -65,47 +61,36 @@ run-bytes : (ps : List Piece) → length (spell (runNumbers ps)) ≡ 28 * length
 run-bytes ps = omega (arith, spell-length (runNumbers ps), run-length ps)
 
 -- the number at the place f of the record j
-run-at : (ps : List Piece) (j f : ℕ) (d : Piece) → j < length ps → f < 7 → getD (runNumbers ps) (7 * j + f) 0 ≡ getD (sevenNumbers (getD ps j d)) f 0
+run-at : (ps : List Piece) (j f : ℕ) (d : Piece) → j < length ps → f < 7 → getD (runNumbers ps) (7 * j + f) 0 ≡ getD (numbersOf (getD ps j d)) f 0
 run-at [] j f d h k = absurd (not-suc-le-zero h)
 run-at (p ∷ ps) zero f d h k =
     let e : 7 * 0 + f ≡ f = omega arith in
-    ap (λ (i : ℕ). getD (runNumbers (p ∷ ps)) i 0) e ∙ List·getD-append (sevenNumbers p) (runNumbers ps) 0 f k
+    ap (λ (i : ℕ). getD (runNumbers (p ∷ ps)) i 0) e ∙ List·getD-append (numbersOf p) (runNumbers ps) 0 f k
 run-at (p ∷ ps) (suc j) f d h k =
     let e : 7 * suc j + f ≡ 7 + (7 * j + f) = omega arith in
-    ap (λ (i : ℕ). getD (runNumbers (p ∷ ps)) i 0) e ∙ (getD-append-add (sevenNumbers p) (runNumbers ps) (7 * j + f) 0 ∙ run-at ps j f d (le-of-suc-le-suc h) k)
+    ap (λ (i : ℕ). getD (runNumbers (p ∷ ps)) i 0) e ∙ (getD-append-add (numbersOf p) (runNumbers ps) (7 * j + f) 0 ∙ run-at ps j f d (le-of-suc-le-suc h) k)
 
-kind-narrow : (k : Kind) → kindNumber k ≤ 2
-kind-narrow k = leb-true (kindNumber k) 2 (every-kind (λ k. leb (kindNumber k) 2) refl k)
+first-records : (ps : List Piece) (n : ℕ) → n ≤ length ps → firsts (recordAt (runNumbers ps)) n ≡ take n ps
+first-records ps zero h = refl
+first-records ps (suc n) h =
+    rw (
+      first-records ps n (omega arith),
+      record-back (runNumbers ps) n (getD ps n outside) (λ f k. run-at ps n f outside h k),
+      take-suc ps n outside h,
+    )
 
 module _ (ps : List Piece) (narrow : Each Narrow (runNumbers ps)) where
-  field-at : (j f at : ℕ) → j < length ps → f < 7 → at ≡ 4 * (7 * j + f) → numberAt (spell (runNumbers ps)) at ≡ getD (sevenNumbers (getD ps j outside)) f 0
-  field-at j f at h k e = ap (λ (i : ℕ). numberAt (spell (runNumbers ps)) i) e
-      ∙ (spell-at (runNumbers ps) narrow (7 * j + f) (omega (arith, run-length ps)) ∙ run-at ps j f outside h k)
-
-  piece-spelt : (j : ℕ) → j < length ps → pieceAt (spell (runNumbers ps)) (28 * j) ≡ getD ps j outside
-  unfolding sevenAt
-  piece-spelt j h =
-      let kind = field-at j 0 (28 * j) h (omega arith) (omega arith) in
-      piece-named (spell (runNumbers ps)) (28 * j) (omega (arith, kind, kind-narrow (getD ps j outside .kind)))
-      ∙ λ i. record {
-        kind = (ap kindOf kind ∙ kind-back (getD ps j outside .kind)) i;
-        budget = field-at j 1 (28 * j + 4) h (omega arith) (omega arith) i;
-        window = field-at j 2 (28 * j + 8) h (omega arith) (omega arith) i;
-        period = field-at j 3 (28 * j + 12) h (omega arith) (omega arith) i;
-        jitter = field-at j 4 (28 * j + 16) h (omega arith) (omega arith) i;
-        preempt = field-at j 5 (28 * j + 20) h (omega arith) (omega arith) i;
-        migrate = field-at j 6 (28 * j + 24) h (omega arith) (omega arith) i;
-      }
-
-  first-spelt : (n : ℕ) → n ≤ length ps → firstPieces (spell (runNumbers ps)) n ≡ take n ps
-  first-spelt zero h = refl
-  first-spelt (suc n) h = rw (first-spelt n (omega arith), piece-spelt n h, take-suc ps n outside h)
+  number-spelt : (k : ℕ) → k < 7 * length ps → getD (numbersSpelt (spell (runNumbers ps))) k 0 ≡ getD (runNumbers ps) k 0
+  number-spelt k h =
+      numbers-at (spell (runNumbers ps)) k (omega (arith, run-bytes ps)) ∙ spell-at (runNumbers ps) narrow k (omega (arith, run-length ps))
 
   pub pieces-spelt : piecesOf (spell (runNumbers ps)) ≡ ps
   unfolding piecesOf
   pieces-spelt =
+      let numbers = numbersSpelt (spell (runNumbers ps)) in
       let all : length (spell (runNumbers ps)) / 28 ≡ length ps = omega (arith, run-bytes ps) in
-      ap (firstPieces (spell (runNumbers ps))) all ∙ (first-spelt (length ps) (omega arith) ∙ take-length ps)
+      ap (firsts (recordAt numbers)) all
+      ∙ (first-same numbers (runNumbers ps) (length ps) number-spelt ∙ (first-records ps (length ps) (omega arith) ∙ take-length ps))
 
 -- ---- costs
 

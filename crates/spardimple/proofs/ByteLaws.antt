@@ -1,54 +1,43 @@
 -- Laws of the records that bytes spell.
 -- Assumes nothing.
 --
+--   numbers-at            the number at a place
 --   pieces-length         so many records as there are 28 bytes
---   pieces-at             the record at a place
---   piece-named, -other   a record by its kind's number
---   kind-outside          a record of another kind is outside the sizes
-use mathlib.Core.Path.{_≡_, refl, ap, _∙_}
-use mathlib.Core.Bool.{false}
-use mathlib.Core.List.{List, [], _∷_}
-use Prim.Native.Nat.{ℕ, zero, suc, _*_, _/_, _≤_, _<_}
-use native.Mathlib.Nat.{not-suc-le-zero}
-use native.Mathlib.Decide.{decLt}
+--   copied-next           numbers that are copied one by one
+--   copied-records        where all are copied, the records are those that the bytes spell
+use mathlib.Core.Path.{_≡_, sym, ap, _∙_}
+use mathlib.Core.List.{List}
+use Prim.Native.Nat.{ℕ, _+_, _*_, _/_, _≤_, _<_}
+use native.Mathlib.Numerals.{add-one}
 use native.Mathlib.Omega.{arith}
-use borrow.Author.Tests.{le-leb, lt-leb}
-use lib.ListN.{length, getD, length-append, List·getD-append}
-use lib.Seq.{getD-at}
-use Rattle.demand.specs.declared.Piece.{Piece}
-use Rattle.demand.specs.Sizes.{sized}
-use Rattle.spardimple.specs.Bytes.{numberAt, outside, sevenAt, pieceAt, firstPieces, piecesOf}
+use lib.ListN.{length, take, getD, set}
+use lib.Seq.{getD-take, take-suc-set}
+use Rattle.demand.specs.Lists.{firsts}
+use Rattle.demand.specs.Records.{recordAt, recordsOf}
+use Rattle.demand.specs.Sizes.{runMost}
+use Rattle.demand.proofs.ArrayLaws.{firsts-length, firsts-at}
+use Rattle.demand.proofs.RecordLaws.{first-same, records-take}
+use Rattle.spardimple.specs.Bytes.{numberAt, numbersSpelt, piecesOf}
 
 module _ (s : List ℕ) where
-  pub first-pieces-length : (n : ℕ) → length (firstPieces s n) ≡ n
-  first-pieces-length zero = refl
-  first-pieces-length (suc n) = omega (arith, length-append (firstPieces s n) (pieceAt s (28 * n) ∷ []), first-pieces-length n)
+  pub numbers-at : (k : ℕ) → k < length s / 4 → getD (numbersSpelt s) k 0 ≡ numberAt s k
+  unfolding numbersSpelt
+  numbers-at k h = firsts-at (numberAt s) (length s / 4) k 0 h
 
   pub pieces-length : length (piecesOf s) ≡ length s / 28
   unfolding piecesOf
-  pieces-length = first-pieces-length (length s / 28)
+  pieces-length = firsts-length (recordAt (numbersSpelt s)) (length s / 28)
 
-  first-pieces-at : (n i : ℕ) (d : Piece) → i < n → getD (firstPieces s n) i d ≡ pieceAt s (28 * i)
-  first-pieces-at zero i d h = absurd (not-suc-le-zero h)
-  first-pieces-at (suc n) i d h = elim (decLt i n) [
-    | yes below ↦ List·getD-append (firstPieces s n) (pieceAt s (28 * n) ∷ []) d i (omega (arith, first-pieces-length n)) ∙ first-pieces-at n i d below
-    | no last ↦
-        let e : n ≡ i = omega arith in
-        getD-at (firstPieces s n) (pieceAt s (28 * n)) [] d i (first-pieces-length n ∙ e) ∙ ap (λ (k : ℕ). pieceAt s (28 * k)) e
-  ]
+  pub copied-next : (a : List ℕ) (i n : ℕ) → i < length a → n ≡ numberAt s i → take i a ≡ firsts (numberAt s) i
+      → take (i + 1) (set a i n) ≡ firsts (numberAt s) (i + 1)
+  copied-next a i n inside e so-far = rw (add-one, take-suc-set a i n inside, so-far, e)
 
-  pub pieces-at : (i : ℕ) (d : Piece) → i < length s / 28 → getD (piecesOf s) i d ≡ pieceAt s (28 * i)
-  unfolding piecesOf
-  pieces-at i d h = first-pieces-at (length s / 28) i d h
+  module _ (a : List ℕ) (n : ℕ) (all : n ≡ length s / 28) (copied : take (7 * n) a ≡ firsts (numberAt s) (7 * n)) where
+    copied-at : (k : ℕ) → k < 7 * n → getD a k 0 ≡ getD (numbersSpelt s) k 0
+    copied-at k h =
+        sym (getD-take (7 * n) a k 0 h)
+        ∙ (ap (λ (l : List ℕ). getD l k 0) copied ∙ (firsts-at (numberAt s) (7 * n) k 0 h ∙ sym (numbers-at k (omega arith))))
 
-  pub piece-named : (at : ℕ) → numberAt s at ≤ 2 → pieceAt s at ≡ sevenAt s at
-  unfolding pieceAt
-  piece-named at named = simp (le-leb (numberAt s at) 2 named)
-
-  pub piece-other : (at : ℕ) → 2 < numberAt s at → pieceAt s at ≡ outside
-  unfolding pieceAt
-  piece-other at other = simp (lt-leb (numberAt s at) 2 other)
-
-  pub kind-outside : (at : ℕ) → 2 < numberAt s at → sized (pieceAt s at) ≡ false
-  unfolding sized
-  kind-outside at other = rw (piece-other at other)
+    pub copied-records : n ≤ runMost → take n (recordsOf a) ≡ piecesOf s
+    unfolding piecesOf
+    copied-records few = records-take a n few ∙ (first-same a (numbersSpelt s) n copied-at ∙ ap (firsts (recordAt (numbersSpelt s))) all)

@@ -1,17 +1,13 @@
 // Records and costs out of lent bytes: four bytes a number, lowest first.
-use crate::runs::nothing;
 use demand::Costs;
-use demand::Piece;
 use demand::RUN_MOST;
 use demand::RUN_NUMBERS;
-use demand::kind_of;
-use demand::put_record;
 ghost use mathlib.Core.Path.{_≡_};
 ghost use Prim.Native.Nat.{_+_, _*_, _≤_, _<_};
 ghost use lib.ListN.{length};
 ghost use Rattle.demand.specs.Records.{recordsOf};
 ghost use Rattle.demand.specs.Sizes.{runMost};
-ghost use Rattle.spardimple.specs.Bytes.{numberAt, pieceAt, piecesOf, costsSpelt};
+ghost use Rattle.spardimple.specs.Bytes.{numberAt, piecesOf, costsSpelt};
 ghost use Rattle.spardimple.specs.ways.CopiedRun.{CopiedIn};
 
 fn wide(b: u8) -> u64
@@ -28,37 +24,18 @@ fn four(a: u64, b: u64, c: u64, d: u64) -> u64
     a + 256 * b + 65536 * c + 16777216 * d
 }
 
-// The number whose four bytes start at a place.
-pub fn number_at(s: &[u8], at: usize) -> u64
-    requires { ⌜ at + 4 ≤ length (now s) ⌝ }
-    ensures { λ r. ⌜ r ≡ numberAt (now (s .entry)) at ⌝ }
+// The number at a place from 0, of four bytes each.
+pub fn number_at(s: &[u8], k: usize) -> u64
+    requires { ⌜ 4 * k + 4 ≤ length (now s) ⌝ }
+    ensures { λ r. ⌜ r ≡ numberAt (now (s .entry)) k ⌝ }
 {
+    let at = 4 * k;
     four(
         wide(s[at]),
         wide(s[at + 1]),
         wide(s[at + 2]),
         wide(s[at + 3]),
     )
-}
-
-// The record whose 28 bytes start at a place.
-pub fn piece_at(s: &[u8], at: usize) -> Piece
-    requires { ⌜ at + 28 ≤ length (now s) ⌝ }
-    ensures { λ r. ⌜ r ≡ pieceAt (now (s .entry)) at ⌝ }
-{
-    let kind = number_at(s, at);
-    if 2 < kind {
-        return nothing();
-    }
-    Piece {
-        kind: kind_of(kind),
-        budget: number_at(s, at + 4),
-        window: number_at(s, at + 8),
-        period: number_at(s, at + 12),
-        jitter: number_at(s, at + 16),
-        preempt: number_at(s, at + 20),
-        migrate: number_at(s, at + 24),
-    }
 }
 
 // n, where so many records fit into a run; else none is read.
@@ -68,15 +45,15 @@ pub fn room_for(n: usize) -> usize
     if n <= RUN_MOST { n } else { 0 }
 }
 
-// The records that the bytes spell, put as numbers where there is room for all.
+// The numbers of the records that the bytes spell, copied where there is room for all. What the numbers of a record say is for its reader.
 pub fn read_records<'a>(records: &'a mut [u64; RUN_NUMBERS], s: &'a [u8])
     requires { ⌜ length (now records) ≡ 7 * runMost ⌝ }
     ensures { λ r. ⌜ CopiedIn (piecesOf (now (s .entry))) (recordsOf (now (records .exit))) ⌝ }
 {
-    let most = room_for(s.len() / 28);
+    let most = 7 * room_for(s.len() / 28);
     let mut i: usize = 0;
     while i < most {
-        put_record(records, i, piece_at(s, 28 * i));
+        records[i] = number_at(s, i);
         i += 1;
     }
 }
@@ -88,13 +65,13 @@ pub fn read_costs(s: &[u8]) -> Costs
 {
     Costs {
         relo: number_at(s, 0),
-        schedo: number_at(s, 4),
-        tseto: number_at(s, 8),
-        ipb: number_at(s, 12),
-        beto: number_at(s, 16),
-        migro: number_at(s, 20),
-        ipio: number_at(s, 24),
-        ipij: number_at(s, 28),
-        precision: number_at(s, 32),
+        schedo: number_at(s, 1),
+        tseto: number_at(s, 2),
+        ipb: number_at(s, 3),
+        beto: number_at(s, 4),
+        migro: number_at(s, 5),
+        ipio: number_at(s, 6),
+        ipij: number_at(s, 7),
+        precision: number_at(s, 8),
     }
 }

@@ -5,12 +5,12 @@ use demand::RUN_MOST;
 use demand::Run;
 ghost use mathlib.Core.Path.{_≡_};
 ghost use lib.ListN.{length, set};
+ghost use Rattle.demand.specs.Records.{outside};
 ghost use Rattle.demand.specs.Sizes.{runMost};
-ghost use Rattle.spardimple.specs.Bytes.{outside};
 ghost use Rattle.spardimple.specs.ways.CopiedRun.{Copied};
 
-// A piece outside the sizes.
-pub fn nothing() -> Piece
+// What stands where no record is put: a piece outside the sizes.
+fn nothing() -> Piece
     ensures { λ r. ⌜ r ≡ outside ⌝ }
 {
     Piece {

@@ -6,9 +6,9 @@ use Prim.Native.Nat.{ℕ, _+_, _-_, _≤_}
 use native.Mathlib.Omega.{arith}
 use lib.ListN.{take, drop, length}
 use Rattle.demand.specs.Answer.{firstBad}
-use Rattle.demand.specs.Records.{recordsOf}
+use Rattle.demand.specs.Records.{outside, recordsOf}
 use Rattle.demand.proofs.RecordLaws.{records-length, records-read}
-use Rattle.demand.proofs.RunLaws.{nobody, bad-good, bad-here, bad-end}
+use Rattle.demand.proofs.RunLaws.{bad-good, bad-here, bad-end}
 use Rattle.demand.proofs.SizeLaws.{sized-is}
 use Rattle.demand.proofs.records.first_bad.Statement.{statement}
 use Rattle.demand.proofs.records.first_bad.Tie as tie
@@ -43,13 +43,13 @@ returns c =
     let l = c .before .before .before .before .loop in
     let a = s .records .now in
     let read-record = c .before .before .read-record in
-    let read = records-read a (l .i) (read-record .result) nobody (omega arith) (read-record .ensures) in
+    let read = records-read a (l .i) (read-record .result) outside (omega arith) (read-record .ensures) in
     let bad = sym (sized-is (read-record .result) (c .before .sized-piece .result) (c .before .sized-piece .ensures))
     ∙ not-true (c .before .sized-piece .result) (c .if1 .taken) in
     cc (
       l .inv .1,
       l .inv .2,
-      bad-here (s .n) (recordsOf a) (omega (arith, records-length a)) (l .i) nobody (c .before .before .before .loop-test .taken) (rw read bad),
+      bad-here (s .n) (recordsOf a) (omega (arith, records-length a)) (l .i) outside (c .before .before .before .loop-test .taken) (rw read bad),
     )
 
 -- src/sizes.rt:86:9
@@ -71,13 +71,13 @@ loop-again c =
     let l = c .before .before .before .before .loop in
     let a = s .records .now in
     let read-record = c .before .before .read-record in
-    let read = records-read a (l .i) (read-record .result) nobody (omega arith) (read-record .ensures) in
+    let read = records-read a (l .i) (read-record .result) outside (omega arith) (read-record .ensures) in
     let good = sym (sized-is (read-record .result) (c .before .sized-piece .result) (c .before .sized-piece .ensures))
     ∙ not-false (c .before .sized-piece .result) (c .if1 .left) in (
       search needs,
       search needs,
       l .inv .2
-          ∙ bad-good (s .n) (recordsOf a) (omega (arith, records-length a)) (l .i) nobody (c .before .before .before .loop-test .taken) (rw read good),
+          ∙ bad-good (s .n) (recordsOf a) (omega (arith, records-length a)) (l .i) outside (c .before .before .before .loop-test .taken) (rw read good),
     )
 
 -- src/sizes.rt:76:1

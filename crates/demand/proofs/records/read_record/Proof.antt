@@ -1,118 +1,109 @@
--- `records::read_record` meets its contract: seven reads.
-use Rattle.demand.proofs.RecordLaws.{record-read}
+-- `records::read_record` meets its contract: a kind's number, and six reads behind it, or another kind.
+use mathlib.Core.Path.{sym, _∙_}
+use native.Mathlib.Omega.{arith}
+use Rattle.demand.proofs.RecordLaws.{record-named, record-other}
 use borrow.Author.Needs.{needs}
 use Rattle.demand.proofs.records.read_record.Statement.{statement}
 use Rattle.demand.proofs.records.read_record.Tie as tie
 use Rattle.demand.proofs.records.read_record.Reads as reads
 use Rattle.demand.proofs.records.read_record.Lts as lts
 use Rattle.demand.proofs.kinds.kind_of.Reads as kind-of-reads
+use Rattle.demand.proofs.records.outside.Reads as outside-reads
 
--- src/records.rt:15:14
 mul-at : tie.Need-mul-at
 mul-at c = search needs
 
--- src/records.rt:17:23
-mul-kind-of : tie.Need-mul-kind-of
-mul-kind-of c = search needs
+mul-kind : tie.Need-mul-kind
+mul-kind c = search needs
 
--- src/records.rt:17:23
-element-copy-out-kind-of : tie.Need-element-copy-out-kind-of
-element-copy-out-kind-of c = search needs
+element-copy-out-kind : tie.Need-element-copy-out-kind
+element-copy-out-kind c = search needs
 
--- src/records.rt:17:15
+outside-requires : tie.Need-outside-requires
+outside-requires c κs = search needs
+
+returns : tie.Need-returns
+returns c =
+    let start = c .before .before .before .args in
+    c .outside .ensures ∙ sym (record-other (start .records .now) (start .i) (c .before .if1 .taken))
+
 kind-of-requires : tie.Need-kind-of-requires
 kind-of-requires c κs = search needs
 
--- src/records.rt:18:25
-add-t9 : tie.Need-add-t9
-add-t9 c = search needs
+add-t5 : tie.Need-add-t5
+add-t5 c = search needs
 
--- src/records.rt:18:17
-mul-t10 : tie.Need-mul-t10
-mul-t10 c = search needs
+mul-t11 : tie.Need-mul-t11
+mul-t11 c = search needs
 
--- src/records.rt:18:17
-element-copy-out-t13 : tie.Need-element-copy-out-t13
-element-copy-out-t13 c = search needs
+element-copy-out-t8 : tie.Need-element-copy-out-t8
+element-copy-out-t8 c = search needs
 
--- src/records.rt:19:25
 add-t14 : tie.Need-add-t14
 add-t14 c = search needs
 
--- src/records.rt:19:17
 mul-t15 : tie.Need-mul-t15
 mul-t15 c = search needs
 
--- src/records.rt:19:17
 element-copy-out-t18 : tie.Need-element-copy-out-t18
 element-copy-out-t18 c = search needs
 
--- src/records.rt:20:25
 add-t19 : tie.Need-add-t19
 add-t19 c = search needs
 
--- src/records.rt:20:17
 mul-t20 : tie.Need-mul-t20
 mul-t20 c = search needs
 
--- src/records.rt:20:17
 element-copy-out-t23 : tie.Need-element-copy-out-t23
 element-copy-out-t23 c = search needs
 
--- src/records.rt:21:25
 add-t24 : tie.Need-add-t24
 add-t24 c = search needs
 
--- src/records.rt:21:17
 mul-t25 : tie.Need-mul-t25
 mul-t25 c = search needs
 
--- src/records.rt:21:17
 element-copy-out-t28 : tie.Need-element-copy-out-t28
 element-copy-out-t28 c = search needs
 
--- src/records.rt:22:26
 add-t29 : tie.Need-add-t29
 add-t29 c = search needs
 
--- src/records.rt:22:18
 mul-t30 : tie.Need-mul-t30
 mul-t30 c = search needs
 
--- src/records.rt:22:18
 element-copy-out-t33 : tie.Need-element-copy-out-t33
 element-copy-out-t33 c = search needs
 
--- src/records.rt:23:26
 add-t34 : tie.Need-add-t34
 add-t34 c = search needs
 
--- src/records.rt:23:18
 mul-t35 : tie.Need-mul-t35
 mul-t35 c = search needs
 
--- src/records.rt:23:18
 element-copy-out-t38 : tie.Need-element-copy-out-t38
 element-copy-out-t38 c = search needs
 
--- src/records.rt:11:1
-returns : tie.Need-returns
-returns c =
+returns-2 : tie.Need-returns-2
+returns-2 c =
     let kind-of = c .before .before .before .before .before .before .kind-of in
-    let start = c .before .before .before .before .before .before .before .before .args in
-    record-read (start .records .now) (start .i) (kind-of .result) (kind-of .ensures)
+    let if1 = c .before .before .before .before .before .before .before .if1 in
+    let start = c .before .before .before .before .before .before .before .before .before .args in
+    record-named (start .records .now) (start .i) (kind-of .result) (omega (arith, if1 .left)) (kind-of .ensures)
 
 pub read-record-spec : {M : Type 1} → statement M
 read-record-spec =
     tie.close
     (tie.spec
     mul-at
-    mul-kind-of
-    element-copy-out-kind-of
+    mul-kind
+    element-copy-out-kind
+    outside-requires
+    returns
     kind-of-requires
-    add-t9
-    mul-t10
-    element-copy-out-t13
+    add-t5
+    mul-t11
+    element-copy-out-t8
     add-t14
     mul-t15
     element-copy-out-t18
@@ -128,4 +119,4 @@ read-record-spec =
     add-t34
     mul-t35
     element-copy-out-t38
-    returns)
+    returns-2)

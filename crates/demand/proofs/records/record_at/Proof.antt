@@ -6,7 +6,7 @@ use Rattle.demand.proofs.records.record_at.Statement.{statement}
 use Rattle.demand.proofs.records.record_at.Tie as tie
 use Rattle.demand.proofs.records.record_at.Reads as reads
 use Rattle.demand.proofs.records.record_at.Lts as lts
-use Rattle.demand.proofs.records.no_record.Reads as no-record-reads
+use Rattle.demand.proofs.records.outside.Reads as outside-reads
 use Rattle.demand.proofs.records.read_record.Reads as read-record-reads
 
 read-record-requires : tie.Need-read-record-requires
@@ -17,13 +17,13 @@ returns c =
     let start = c .before .before .args in
     c .read-record .ensures ∙ sym (record-within (start .records .now) (start .i) (c .before .if1 .taken))
 
-no-record-requires : tie.Need-no-record-requires
-no-record-requires c κs = search needs
+outside-requires : tie.Need-outside-requires
+outside-requires c κs = search needs
 
 returns-2 : tie.Need-returns-2
 returns-2 c =
     let start = c .before .before .args in
-    c .no-record .ensures ∙ sym (record-past (start .records .now) (start .i) (c .before .if1 .left))
+    c .outside .ensures ∙ sym (record-past (start .records .now) (start .i) (c .before .if1 .left))
 
 pub record-at-spec : {M : Type 1} → statement M
-record-at-spec = tie.close (tie.spec read-record-requires returns no-record-requires returns-2)
+record-at-spec = tie.close (tie.spec read-record-requires returns outside-requires returns-2)

@@ -5,9 +5,9 @@ use mathlib.Core.List.{List}
 use Prim.Native.Nat.{ℕ, _+_, _-_, _≤_}
 use native.Mathlib.Omega.{arith}
 use lib.ListN.{length, drop}
-use Rattle.demand.specs.Records.{putAll, lentOf}
+use Rattle.demand.specs.Records.{outside, putAll, lentOf}
 use Rattle.demand.specs.Sizes.{runMost}
-use Rattle.demand.proofs.RunLaws.{length-mapped, nobody}
+use Rattle.demand.proofs.RunLaws.{length-mapped}
 use Rattle.demand.proofs.RecordLaws.{put-all-next, put-all-end}
 use Rattle.demand.proofs.records.records_of.Statement.{statement}
 use Rattle.demand.proofs.records.records_of.Tie as tie
@@ -52,7 +52,7 @@ loop-again c =
     let s = c .before .before .before .before .before .args in
     let l = c .before .before .before .before .loop in
     let long : length (s .t1 .pieces) ≡ runMost = search (needs, length-mapped) in
-    let one = put-all-next (l .records) (s .t1 .pieces) (l .i) nobody (omega arith) in
+    let one = put-all-next (l .records) (s .t1 .pieces) (l .i) outside (omega arith) in
     (search needs, ap (λ (a : List ℕ). putAll a (l .i + 1) (drop (l .i + 1) (s .t1 .pieces))) (c .put-record .ensures) ∙ (sym one ∙ l .inv .1))
 
 returns : tie.Need-returns Inv-loop μ-loop

@@ -1,81 +1,71 @@
--- `bytes::read_records` meets its contract. The invariant: the first i records are those that the bytes spell. The measure is what is left of the
--- records that are read.
+-- `bytes::read_records` meets its contract. The invariant: the first i numbers are those that the bytes spell. The measure is what is left of the
+-- numbers that are read.
 use borrow.Author.Needs.{needs}
-use mathlib.Core.Path.{_≡_, refl, sym, ap, subst, _∙_}
-use mathlib.Core.List.{List}
-use Prim.Native.Nat.{ℕ, _+_, _-_, _≤_}
+use mathlib.Core.Path.{_≡_, refl, sym, _∙_}
+use Prim.Native.Nat.{_*_, _-_, _/_, _≤_}
 use native.Mathlib.Omega.{arith}
-use lib.ListN.{length, take}
-use lib.Seq.{take-length}
-use Rattle.demand.specs.Records.{recordsOf}
-use Rattle.demand.proofs.RecordLaws.{records-next, put-length}
-use Rattle.spardimple.specs.Bytes.{outside, piecesOf}
-use Rattle.spardimple.proofs.ByteLaws.{pieces-length, pieces-at}
+use lib.ListN.{length, take, length-set}
+use Rattle.demand.specs.Lists.{firsts}
+use Rattle.demand.specs.Sizes.{runMost}
+use Rattle.spardimple.specs.Bytes.{numberAt}
+use Rattle.spardimple.proofs.ByteLaws.{pieces-length, copied-next, copied-records}
 use Rattle.spardimple.proofs.bytes.read_records.Statement.{statement}
 use Rattle.spardimple.proofs.bytes.read_records.Tie as tie
 use Rattle.spardimple.proofs.bytes.read_records.Reads as reads
 use Rattle.spardimple.proofs.bytes.read_records.Lts as lts
-use Rattle.demand.proofs.put_record.Reads as put-record-reads
-use Rattle.spardimple.proofs.bytes.piece_at.Reads as piece-at-reads
+use Rattle.spardimple.proofs.bytes.number_at.Reads as number-at-reads
 use Rattle.spardimple.proofs.bytes.room_for.Reads as room-for-reads
 
 abbrev Inv-loop : tie.InvT-loop
-Inv-loop records₀ s most i₀ records i = (i ≤ most) × (length records ≡ 553) × (take i (recordsOf records) ≡ take i (piecesOf s))
+Inv-loop records₀ s most i₀ records i = (i ≤ most) × (length records ≡ 7 * runMost) × (take i records ≡ firsts (numberAt s) i)
 
 abbrev μ-loop : tie.MeasureT-loop
 μ-loop records₀ s most i₀ records i = most - i
 
--- src/bytes.rt:73:9
 room-for-requires : tie.Need-room-for-requires Inv-loop μ-loop
 room-for-requires c κs = search needs
 
--- src/bytes.rt:75:5
+mul-most : tie.Need-mul-most Inv-loop μ-loop
+mul-most c = search needs
+
 loop-holds : tie.Need-loop-holds Inv-loop μ-loop
 loop-holds c = (search needs, c .before .before .pre, refl)
 
--- src/bytes.rt:76:44
-mul-piece-at : tie.Need-mul-piece-at Inv-loop μ-loop
-mul-piece-at c = search needs
+number-at-requires : tie.Need-number-at-requires Inv-loop μ-loop
+number-at-requires c κs = search needs
 
--- src/bytes.rt:76:32
-piece-at-requires : tie.Need-piece-at-requires Inv-loop μ-loop
-piece-at-requires c κs = search needs
+mul-records : tie.Need-mul-records Inv-loop μ-loop
+mul-records c = search needs
 
--- src/bytes.rt:76:9
-put-record-requires : tie.Need-put-record-requires Inv-loop μ-loop
-put-record-requires c κs = search needs
+element-write-records : tie.Need-element-write-records Inv-loop μ-loop
+element-write-records c = search needs
 
--- src/bytes.rt:77:9
 add-i : tie.Need-add-i Inv-loop μ-loop
 add-i c = search needs
 
--- src/bytes.rt:75:5
 loop-less : tie.Need-loop-less Inv-loop μ-loop
 loop-less c = search needs
 
--- src/bytes.rt:75:5
 loop-again : tie.Need-loop-again Inv-loop μ-loop
 loop-again c =
-    let s = c .before .before .before .before .before .before .before .args .s .now in
-    let lp = c .before .before .before .before .loop in
-    let put = c .put-record .ensures in
-    let told = c .before .piece-at .ensures ∙ sym (pieces-at s (lp .i) outside (omega arith)) in (
+    let s = c .before .before .before .before .before .args .s .now in
+    let lp = c .before .before .loop in
+    let n = c .number-at in (
       search needs,
-      subst (λ (a : List ℕ). length a ≡ 553) (sym put) (put-length (lp .records) (lp .i) (c .before .piece-at .result) (omega arith) ∙ lp .inv .1),
-      subst (λ (a : List ℕ). take (lp .i + 1) (recordsOf a) ≡ take (lp .i + 1) (piecesOf s)) (sym put)
-          (records-next (lp .records) (piecesOf s) (lp .i) (c .before .piece-at .result) outside (omega arith) (lp .inv .1)
-          (omega (arith, pieces-length s)) told (lp .inv .2)),
+      length-set (lp .records) (lp .i) (n .result) ∙ lp .inv .1,
+      copied-next s (lp .records) (lp .i) (n .result) (omega arith) (n .ensures) (lp .inv .2),
     )
 
--- src/bytes.rt:69:1
 returns : tie.Need-returns Inv-loop μ-loop
 returns c =
-    let start = c .before .before .before .before .args in
-    λ few.
-    (let s = start .s .now in
+    let s = c .before .before .before .before .args .s .now in
     let lp = c .before .loop in
-    let e : length (piecesOf s) ≡ lp .i = omega (arith, pieces-length s, c .before .before .room-for .ensures .2 (omega (arith, pieces-length s))) in
-    rw e (lp .inv .2) ∙ (ap (λ (k : ℕ). take k (piecesOf s)) (sym e) ∙ take-length (piecesOf s)))
+    let room = c .before .before .room-for in
+    λ few.
+    (let n = pieces-length s in
+    let all : room .result ≡ length s / 28 = room .ensures .2 (omega (arith, n)) in
+    let e : lp .i ≡ 7 * room .result = omega arith in
+    rw (n ∙ sym all) (copied-records s (lp .records) (room .result) all (rw e at (lp .inv .2)) (omega arith)))
 
 pub read-records-spec : {M : Type 1} → statement M
 read-records-spec =
@@ -84,10 +74,11 @@ read-records-spec =
     Inv-loop
     μ-loop
     room-for-requires
+    mul-most
     loop-holds
-    mul-piece-at
-    piece-at-requires
-    put-record-requires
+    number-at-requires
+    mul-records
+    element-write-records
     add-i
     loop-less
     loop-again

@@ -53,7 +53,7 @@ use denote.Triple.Walked.{says, Stays, stay-none-slice, walkOf, goes-none-slice,
 use denote.Exit.{yes}
 use Rattle.demand.specs.declared.Piece.{Piece}
 use Rattle.demand.specs.declared.Run.{Run}
-use Rattle.spardimple.specs.Bytes.{outside}
+use Rattle.demand.specs.Records.{outside}
 use Rattle.spardimple.specs.ways.CopiedRun.{Copied}
 use Rattle.spardimple.proofs.HoldingLaws.{Filled, filled-none, filled-put, filled-holding}
 use Rattle.demand.proofs.Piece as P

@@ -7,11 +7,10 @@ use native.Mathlib.Omega.{arith}
 use lib.ListN.{take}
 use lib.Seq.{take-all}
 use Rattle.demand.specs.declared.Piece.{Piece}
-use Rattle.demand.specs.Records.{recordsOf}
+use Rattle.demand.specs.Records.{outside, recordsOf}
 use Rattle.demand.specs.Sizes.{runMost}
 use Rattle.verdicts.specs.ChargedArray.{layRecords}
 use Rattle.demand.proofs.RecordLaws.{record-within, records-length, records-read}
-use Rattle.demand.proofs.RunLaws.{nobody}
 use Rattle.verdicts.proofs.ChargedArrayLaws.{lay-records-none, lay-records-more}
 use Rattle.verdicts.proofs.arrays.lay_records.Statement.{statement}
 use Rattle.verdicts.proofs.arrays.lay_records.Tie as tie
@@ -63,8 +62,8 @@ loop-again c =
     let if1 = c .before .before .before .before .if1 in
     let low : i < runMost = omega (arith, if1 .left) in
     let record-at = c .before .before .record-at in
-    let read = records-read (s .records .now) i (record-at .result) nobody low (record-at .ensures ∙ record-within (s .records .now) i low) in
-    let more = lay-records-more (s .core .now) (s .costs) (recordsOf (s .records .now)) i nobody (omega (arith, records-length (s .records .now))) in
+    let read = records-read (s .records .now) i (record-at .result) outside low (record-at .ensures ∙ record-within (s .records .now) i low) in
+    let more = lay-records-more (s .core .now) (s .costs) (recordsOf (s .records .now)) i outside (omega (arith, records-length (s .records .now))) in
     let loop-test = c .before .before .before .before .before .loop-test in
     (omega (arith, loop-test .taken), cc (c .lay-piece .ensures, c .before .charged-piece .ensures, read, loop .inv .1, more))
 
