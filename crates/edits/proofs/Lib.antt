@@ -6,4 +6,5 @@ pub mod HeldLaws
 pub mod FaultLaws
 pub mod AnswerLaws
 pub mod Theorems
+pub mod RefusalLaws
 pub mod Examples
