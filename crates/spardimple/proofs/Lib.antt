@@ -6,4 +6,5 @@ pub mod SheetLaws
 pub mod PaperLaws
 pub mod JudgedLaws
 pub mod Agreement
+pub mod RefusalLaws
 pub mod Promises

@@ -9,7 +9,7 @@
 --
 -- Demand 1, each input answered:
 --   one-verdict, one-listing        no two answers share a number
---   nine, by-line, seven, ten       a sheet's refusals come exactly when document 01 says, in its order; what is wrong with one line is `lineFault`,
+--   nine, by-line, seven, ten       a sheet's refusals come exactly when document 01 says, in its order; what is wrong with one line is `lineTable`,
 --                                   with records `checkRun`, with an edit `editFault`
 --   refused-buffer, refused-state   a refusal changes no lent byte and no held plan
 --   written-buffer                  an accepted listing stands at the front of the buffer, and the bytes beyond stay
@@ -34,6 +34,7 @@ use lib.ListN.{length, drop}
 use Rattle.demand.specs.declared.Verdict.the-variants.{Passes, Overloaded, Undecided}
 use Rattle.demand.specs.declared.Answer.the-variants.{Judged}
 use Rattle.demand.specs.Sizes.{Each, busyMost}
+use Rattle.demand.specs.Tables.{Gives}
 use Rattle.demand.specs.Charge.{coreOf, stall}
 use Rattle.demand.specs.Demand.{demand, Live}
 use Rattle.demand.specs.Busy.{Least, Holds, busySum}
@@ -54,10 +55,10 @@ use Rattle.plan.specs.Walk.{wholeAt, taskWay, walked}
 use Rattle.plan.specs.Plan.{planOf}
 use Rattle.plan.specs.Places.{ofTask}
 use Rattle.plan.proofs.Theorems.{plan-comes, all-placed, budgets-add, windows-add, cores-pass, cores-keep-up}
-use Rattle.sheet.specs.Sheet.{top, sheetMost, readOf}
+use Rattle.sheet.specs.Sheet.{sheetMost, readOf}
 use Rattle.sheet.specs.Fitted.{Fitted, linesOf}
-use Rattle.sheet.specs.Refusing.{tailOf, Refusing}
-use Rattle.sheet.proofs.FirstLaws.{first-bad}
+use Rattle.sheet.specs.Refusals.{linesTable}
+use Rattle.sheet.proofs.RefusalLaws.{first-bad}
 use Rattle.sheet.proofs.ArrowLaws.{first-arrow}
 use Rattle.sheet.proofs.RuleLaws.{breaks-no-rule}
 use Rattle.listing.specs.Listing.{rowEntries, entries, listingOf}
@@ -88,7 +89,7 @@ pub nine : (sheet : List ℕ) → (sheetMost < length sheet) ↔ (paperOf sheet 
 nine sheet = paper-nine sheet
 
 pub by-line : (sheet : List ℕ) → length sheet ≤ sheetMost → (k j : ℕ)
-    → ((readOf sheet .number ≡ suc k) × (readOf sheet .carries ≡ j)) ↔ Refusing top 1 (linesOf sheet) (tailOf sheet) (suc k) j
+    → ((readOf sheet .number ≡ suc k) × (readOf sheet .carries ≡ j)) ↔ Gives (linesTable sheet) (suc k) j
 by-line sheet few k j = first-bad sheet few k j
 
 pub by-line-then : (sheet : List ℕ) → (readOf sheet .number ≡ 0 → ⊥) → paperOf sheet ≡ refused (readOf sheet .number) (readOf sheet .carries)
