@@ -16,4 +16,6 @@ pub mod Judgement
 pub mod ChargedSplitLaws
 pub mod SplitLaws
 pub mod AnswerLaws
+pub mod TableLaws
+pub mod RefusalLaws
 pub mod Cases

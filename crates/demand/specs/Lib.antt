@@ -1,5 +1,6 @@
 -- What the contracts of `demand`, `verdicts` and `splits` cite, in document 01's order: what a reader has to believe. `ways` has what only says how the code goes.
 pub mod Lists
+pub mod Tables
 pub mod Sizes
 pub mod Kinds
 pub mod Charge
@@ -8,6 +9,7 @@ pub mod Busy
 pub mod Verdict
 pub mod Split
 pub mod Answer
+pub mod Refusals
 pub mod Records
 pub mod Cases
 pub mod ways

@@ -6,5 +6,6 @@ pub mod HeldLaws
 pub mod FaultLaws
 pub mod AnswerLaws
 pub mod Theorems
+pub mod RefusalLaws
 pub mod Examples
 pub mod HeldTheorems

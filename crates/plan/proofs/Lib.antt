@@ -14,3 +14,4 @@ pub mod PlaceLaws
 pub mod ShowLaws
 pub mod WordLaws
 pub mod Theorems
+pub mod RefusalLaws

@@ -3,6 +3,7 @@ pub mod Sizes
 pub mod Walk
 pub mod Layout
 pub mod Plan
+pub mod Refusals
 pub mod Places
 pub mod Shows
 pub mod ways

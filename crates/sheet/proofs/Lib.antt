@@ -8,4 +8,4 @@ pub mod ArrowLaws
 pub mod RuleLaws
 pub mod Examples
 pub mod SmallLaws
-pub mod FirstLaws
+pub mod RefusalLaws

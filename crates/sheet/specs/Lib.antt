@@ -1,5 +1,5 @@
 -- What the contracts of `sheet` cite.
 pub mod Sheet
 pub mod Fitted
-pub mod Refusing
+pub mod Refusals
 pub mod ways

@@ -7,4 +7,5 @@ pub mod PaperLaws
 pub mod JudgedLaws
 pub mod HeldPlans
 pub mod Agreement
+pub mod RefusalLaws
 pub mod Promises

@@ -5,6 +5,7 @@
 --   sheet-plan            a sheet that is read and whose plan comes
 --   paper-few             its listing has at most 20,000 bytes
 --   paper-cases           what a sheet comes to: its own refusal, 7 with a task's place, or its plan's listing
+--   paper-carries         what is told of it carries less than 2^32
 --   listing-number-one    for any two sheets and buffers, one number means one answer
 --   paper-nine, paper-seven, paper-ten       when 9, 7 and 10 come
 --   paper-read            a listing is that of the sheet's plan
@@ -94,7 +95,7 @@ told-few text room few = by (leb (length text) room)
     by true = omega arith
     by false = omega arith
 
-paper-carries : (sheet : List ℕ) (room : ℕ) → toldPaper (paperOf sheet) room .carries < 2 ^ 32
+pub paper-carries : (sheet : List ℕ) (room : ℕ) → toldPaper (paperOf sheet) room .carries < 2 ^ 32
 paper-carries sheet room =
     paper-cases sheet (λ p. toldPaper p room .carries < 2 ^ 32)
     (λ bad. omega (arith, read-small sheet .1))

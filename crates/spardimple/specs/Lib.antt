@@ -2,5 +2,6 @@
 pub mod Bytes
 pub mod Numbers
 pub mod Sheets
+pub mod Refusals
 pub mod Spelling
 pub mod ways

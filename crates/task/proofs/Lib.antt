@@ -1,3 +1,4 @@
 -- Laws that belong to no one function.
 pub mod NameLaws
 pub mod TaskLaws
+pub mod RefusalLaws

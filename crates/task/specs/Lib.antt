@@ -1,3 +1,4 @@
 -- What the contracts of `task` cite.
 pub mod Names
 pub mod Tasks
+pub mod Refusals

@@ -1,0 +1,32 @@
+-- The refusals of lent bytes and of a sheet with its buffer, as tables: document 01, "Verdict on a core" and "Refusal numbers".
+-- `proofs/RefusalLaws.antt` has that `verdictNumber` and `listingNumber` answer by them.
+--
+--   lentTable rs cs          "A length that isn't a multiple of .. 28 bytes, or costs that aren't .. 36 bytes, is 8, checked first"; then the records' rules
+--   sheetTable sheet room    "9 first, then the first bad line from the top .. Then 7, then 10", with the length needed
+use mathlib.Core.Path.{_≡_}
+use mathlib.Core.List.{List, [], _∷_, _++_}
+use Prim.Native.Nat.{ℕ, _<_, _%_}
+use lib.ListN.{length}
+use Rattle.demand.specs.Tables.{Rule, _if_carrying_, Not}
+use Rattle.demand.specs.Refusals.{recordTable}
+use Rattle.plan.specs.Refusals.{walkTable}
+use Rattle.sheet.specs.Sheet.{sheetMost}
+use Rattle.sheet.specs.Refusals.{linesTable}
+use Rattle.listing.specs.Listing.{listingOf}
+use Rattle.spardimple.specs.Bytes.{piecesOf, costsSpelt}
+use Rattle.spardimple.specs.Sheets.{machineIn, costsIn, tasksIn, planIn}
+
+unfoldable pub lentTable : (rs cs : List ℕ) → List Rule
+lentTable rs cs =
+    8 if Not (length rs % 28 ≡ 0) carrying 0
+    ∷ 8 if Not (length cs ≡ 36) carrying 0
+    ∷ recordTable (costsSpelt cs) (length (piecesOf rs)) (piecesOf rs)
+
+-- what a sheet says, and its plan, are looked at only where no rule before is broken
+unfoldable pub sheetTable : (sheet : List ℕ) → (room : ℕ) → List Rule
+sheetTable sheet room =
+    9 if (sheetMost < length sheet) carrying 0
+    ∷ linesTable sheet
+    ++ walkTable (machineIn sheet) (costsIn sheet) (tasksIn sheet)
+    ++ (10 if (room < length (listingOf (planIn sheet))) carrying length (listingOf (planIn sheet))
+    ∷ [])
