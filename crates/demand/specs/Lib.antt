@@ -10,4 +10,5 @@ pub mod Split
 pub mod Answer
 pub mod Records
 pub mod Cases
+pub mod Worked
 pub mod ways
