@@ -7,3 +7,4 @@ pub mod FaultLaws
 pub mod AnswerLaws
 pub mod Theorems
 pub mod Examples
+pub mod Worked
