@@ -12,4 +12,5 @@ pub mod Answer
 pub mod Refusals
 pub mod Records
 pub mod Cases
+pub mod Worked
 pub mod ways

@@ -41,8 +41,10 @@ use Rattle.demand.specs.Sizes.{Each}
 use Rattle.demand.specs.Charge.{coreOf, stall}
 use Rattle.demand.specs.Verdict.{Means, Bounded, KeepsUp}
 use Rattle.demand.specs.Split.{Splits}
-use Rattle.demand.specs.Answer.{Taken, answerOf, splitOf}
-use Rattle.demand.proofs.AnswerLaws.{answer-passes, answer-overloaded, answer-undecided, split-best}
+use Rattle.demand.specs.Answer.{told, answerOf, splitOf}
+use Rattle.demand.specs.Tables.{Gives, Kept}
+use Rattle.demand.specs.Refusals.{recordTable}
+use Rattle.demand.proofs.RefusalLaws.{record-refused}
 use Rattle.task.specs.declared.Name.{Name}
 use Rattle.task.specs.declared.Task.{Task}
 use Rattle.task.specs.declared.Machine.{Machine}
@@ -61,28 +63,28 @@ use Rattle.plan.specs.Plan.{planOf}
 use Rattle.plan.specs.Places.{denserAt, packed, Rearranged, ofTask, TaskPlaced}
 use Rattle.plan.specs.Shows.{storedOf, WordShows}
 use Rattle.plan.proofs.Theorems.{plan-faultless, plan-comes, packing-order, packing-ranked, all-placed, budgets-add, windows-add, plan-counts, plan-shows, words-show}
-use Rattle.sheet.specs.Sheet.{top, sheetMost, readOf}
+use Rattle.sheet.specs.Sheet.{readOf}
 use Rattle.sheet.specs.Fitted.{Fitted, linesOf}
-use Rattle.sheet.specs.Refusing.{tailOf, Refusing}
-use Rattle.sheet.proofs.FirstLaws.{first-bad}
 use Rattle.sheet.proofs.ArrowLaws.{first-arrow}
 use Rattle.sheet.proofs.RuleLaws.{breaks-no-rule}
 use Rattle.listing.specs.Listing.{rowEntries, entries, listingOf}
 use Rattle.listing.specs.Placed.{placedEntry}
 use Rattle.listing.proofs.Theorems.{listing-placed, header-counts, listing-determines}
 use Rattle.edits.specs.Edits.{byName, TaskEdit, tasksHeld, editOf, SameAnswer, accepted, afresh, Afresh, rowIn, Held, played}
+use Rattle.edits.specs.Refusals.{editTable}
 use Rattle.edits.specs.Kept.{inOrder, Keeps, editedName, Ahead}
 use Rattle.edits.proofs.AnswerLaws.{plan-is}
-use Rattle.edits.proofs.Theorems.{edit-refused, edit-does, edit-afresh, after-edits-afresh, same-stand}
+use Rattle.edits.proofs.Theorems.{edit-refused as gives-back, edit-does, edit-afresh, after-edits-afresh, same-stand}
 use Rattle.edits.proofs.HeldTheorems.{edit-relies, afresh-held, after-held, held-before, held-after}
 use Rattle.spardimple.specs.Bytes.{piecesOf, costsSpelt}
-use Rattle.spardimple.specs.Numbers.{replyOf, verdictNumber, Spelt}
+use Rattle.spardimple.specs.Numbers.{replyOf, verdictNumber}
+use Rattle.spardimple.specs.Refusals.{lentTable, sheetTable}
 use Rattle.spardimple.specs.Sheets.{refused, written, machineIn, costsIn, tasksIn, planIn, paperOf, refusal, toldPaper, listingNumber, listingLeft}
 use Rattle.spardimple.proofs.NumberLaws.{verdict-number-one}
-use Rattle.spardimple.proofs.PaperLaws.{listing-number-one, paper-nine, paper-seven, paper-ten, paper-read}
+use Rattle.spardimple.proofs.PaperLaws.{listing-number-one, paper-seven, paper-read}
 use Rattle.spardimple.proofs.PaperLaws.{paper-comes, paper-alike, buffer-refused, buffer-written}
-use Rattle.spardimple.proofs.SheetLaws.{paper-unread}
-use Rattle.spardimple.proofs.JudgedLaws.{verdict-passes, verdict-overloaded, verdict-undecided}
+use Rattle.spardimple.proofs.RefusalLaws.{verdict-refused as told-verdict, listing-refused as told-listing, edit-refused-exactly, edit-accepted}
+use Rattle.spardimple.proofs.JudgedLaws.{run-passes, run-overloaded, run-undecided, run-split, verdict-passes, verdict-overloaded, verdict-undecided}
 use Rattle.spardimple.proofs.HeldPlans.{walks-are, cores-bounded, ones-are}
 
 -- ---- demand 1: each input answered
@@ -94,22 +96,24 @@ pub one-listing : (sheet sheet′ : List ℕ) (room room′ : ℕ) → listingNu
     → toldPaper (paperOf sheet) room ≡ toldPaper (paperOf sheet′) room′
 one-listing sheet sheet′ room room′ = listing-number-one sheet sheet′ room room′
 
-pub nine : (sheet : List ℕ) → (sheetMost < length sheet) ↔ (paperOf sheet ≡ refused 9 0)
-nine sheet = paper-nine sheet
+pub verdict-refused : (rs cs : List ℕ) (n k : ℕ) → k < 2 ^ 32 → (verdictNumber rs cs ≡ 2 ^ 32 * (100 + n) + k) ↔ Gives (lentTable rs cs) n k
+verdict-refused = told-verdict
 
-pub by-line : (sheet : List ℕ) → length sheet ≤ sheetMost → (k j : ℕ)
-    → ((readOf sheet .number ≡ suc k) × (readOf sheet .carries ≡ j)) ↔ Refusing top 1 (linesOf sheet) (tailOf sheet) (suc k) j
-by-line sheet few k j = first-bad sheet few k j
+pub records-refused : (c : Costs) (n : ℕ) (ps : List Piece) (r k : ℕ) → (told (answerOf c n ps) ≡ refusal r k) ↔ Gives (recordTable c n ps) r k
+records-refused = record-refused
 
-pub by-line-then : (sheet : List ℕ) → (readOf sheet .number ≡ 0 → ⊥) → paperOf sheet ≡ refused (readOf sheet .number) (readOf sheet .carries)
-by-line-then sheet = paper-unread sheet (readOf sheet) refl
+pub listing-refused : (sheet : List ℕ) (room n k : ℕ) → k < 2 ^ 32 → (listingNumber sheet room ≡ 2 ^ 32 * (100 + n) + k) ↔ Gives (sheetTable sheet room) n k
+listing-refused = told-listing
 
-pub seven : (sheet : List ℕ) → readOf sheet .number ≡ 0 → (k : ℕ)
+pub edit-refused : (e : TaskEdit) (s : Plan) (n k : ℕ) → ((editOf e s .number ≡ suc n) × (editOf e s .carries ≡ k)) ↔ Gives (editTable e s) (suc n) k
+edit-refused = edit-refused-exactly
+
+pub edit-taken : (e : TaskEdit) (s : Plan) → (editOf e s .number ≡ 0) ↔ Kept (editTable e s)
+edit-taken = edit-accepted
+
+pub no-room : (sheet : List ℕ) → readOf sheet .number ≡ 0 → (k : ℕ)
     → (paperOf sheet ≡ refused 7 (suc k)) ↔ (walked (machineIn sheet) (costsIn sheet) (tasksIn sheet) ≡ stuck k 7)
-seven sheet whole k = paper-seven sheet whole k
-
-pub ten : (sheet text : List ℕ) → paperOf sheet ≡ written text → (room : ℕ) → (toldPaper (paperOf sheet) room ≡ refusal 10 (length text)) ↔ (room < length text)
-ten sheet text is room = paper-ten sheet text is room
+no-room sheet whole k = paper-seven sheet whole k
 
 pub refused-buffer : (sheet old : List ℕ) → (toldPaper (paperOf sheet) (length old) .which ≡ 0 → ⊥) → listingLeft sheet old ≡ old
 refused-buffer sheet old = buffer-refused sheet old
@@ -119,36 +123,36 @@ pub written-buffer : (sheet old : List ℕ) → toldPaper (paperOf sheet) (lengt
 written-buffer sheet old = buffer-written sheet old
 
 pub refused-state : (e : TaskEdit) (s : Plan) → (editOf e s .number ≡ 0 → ⊥) → editOf e s .plan ≡ s
-refused-state e s = edit-refused e s
+refused-state e s = gives-back e s
 
 -- ---- demand 2: the verdict
 
 -- on the first n of the records ps, at the costs c, for every asker
 module _ (c : Costs) (n : ℕ) (ps : List Piece) where
-  pub passes : (answerOf c n ps ≡ Judged Passes) ↔ (Taken c n ps × Bounded (coreOf c (take n ps)) × KeepsUp (stall c) (coreOf c (take n ps)))
-  passes = answer-passes c n ps
+  pub passes : (answerOf c n ps ≡ Judged Passes) ↔ (Kept (recordTable c n ps) × Bounded (coreOf c (take n ps)) × KeepsUp (stall c) (coreOf c (take n ps)))
+  passes = run-passes c n ps
 
-  pub overloaded : (t : ℕ) → (answerOf c n ps ≡ Judged (Overloaded t)) ↔ (Taken c n ps × Means (stall c) (coreOf c (take n ps)) (Overloaded t))
-  overloaded = answer-overloaded c n ps
+  pub overloaded : (t : ℕ) → (answerOf c n ps ≡ Judged (Overloaded t)) ↔ (Kept (recordTable c n ps) × Means (stall c) (coreOf c (take n ps)) (Overloaded t))
+  overloaded = run-overloaded c n ps
 
-  pub undecided : (answerOf c n ps ≡ Judged Undecided) ↔ (Taken c n ps × Means (stall c) (coreOf c (take n ps)) Undecided)
-  undecided = answer-undecided c n ps
+  pub undecided : (answerOf c n ps ≡ Judged Undecided) ↔ (Kept (recordTable c n ps) × Means (stall c) (coreOf c (take n ps)) Undecided)
+  undecided = run-undecided c n ps
 
-  pub split : (p : Piece) (g : ℕ) (s : Split) → (splitOf c n ps p g ≡ Best s) ↔ (Taken c (n + 1) (take n ps ++ (p ∷ [])) × Splits c g (take n ps) p s)
-  split p g s = split-best c n ps p g s
+  pub split : (p : Piece) (g : ℕ) (s : Split) → (splitOf c n ps p g ≡ Best s) ↔ (Kept (recordTable c (n + 1) (take n ps ++ (p ∷ []))) × Splits c g (take n ps) p s)
+  split p g s = run-split c n ps p g s
 
 -- and on lent bytes, by the number that is given back
 module _ (rs cs : List ℕ) where
   pub passes-told : (verdictNumber rs cs ≡ 2 ^ 32 * 0 + 0)
-      ↔ (Spelt rs cs × Bounded (coreOf (costsSpelt cs) (piecesOf rs)) × KeepsUp (stall (costsSpelt cs)) (coreOf (costsSpelt cs) (piecesOf rs)))
+      ↔ (Kept (lentTable rs cs) × Bounded (coreOf (costsSpelt cs) (piecesOf rs)) × KeepsUp (stall (costsSpelt cs)) (coreOf (costsSpelt cs) (piecesOf rs)))
   passes-told = verdict-passes rs cs
 
   pub overloaded-told : (t : ℕ) → t < 2 ^ 32 → (verdictNumber rs cs ≡ 2 ^ 32 * 1 + t)
-      ↔ (Spelt rs cs × Means (stall (costsSpelt cs)) (coreOf (costsSpelt cs) (piecesOf rs)) (Overloaded t))
+      ↔ (Kept (lentTable rs cs) × Means (stall (costsSpelt cs)) (coreOf (costsSpelt cs) (piecesOf rs)) (Overloaded t))
   overloaded-told = verdict-overloaded rs cs
 
   pub undecided-told : (verdictNumber rs cs ≡ 2 ^ 32 * 2 + 0)
-      ↔ (Spelt rs cs × Means (stall (costsSpelt cs)) (coreOf (costsSpelt cs) (piecesOf rs)) Undecided)
+      ↔ (Kept (lentTable rs cs) × Means (stall (costsSpelt cs)) (coreOf (costsSpelt cs) (piecesOf rs)) Undecided)
   undecided-told = verdict-undecided rs cs
 
 -- ---- demand 2: the plan

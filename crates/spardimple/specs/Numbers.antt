@@ -7,15 +7,13 @@
 --   measured rs cs         records by 28 bytes, and 36 bytes of costs
 --   replyOf rs cs        8 first; then 6, 2 and 3, as they are given for a run of records; else the verdict
 --   verdictNumber rs cs  the number of that reply
---   Spelt rs cs          the bytes break no rule: whole records, nine costs, and a run that is taken
 use mathlib.Core.Bool.{Bool, _&&_, cond}
-use mathlib.Core.Path.{_≡_}
 use mathlib.Core.List.{List}
 use Prim.Native.Nat.{ℕ, _+_, _*_, _%_, _^_}
 use lib.Dec.{eqb}
 use lib.ListN.{length}
 use Rattle.demand.specs.declared.Answer.{Answer}
-use Rattle.demand.specs.Answer.{Told, told, answerOf, Taken}
+use Rattle.demand.specs.Answer.{Told, told, answerOf}
 use Rattle.spardimple.specs.Bytes.{piecesOf, costsSpelt}
 
 unfoldable pub number : Told → ℕ
@@ -37,8 +35,3 @@ replyOf rs cs = cond (measured rs cs) (said (answerOf (costsSpelt cs) (length (p
 
 unfoldable pub verdictNumber : List ℕ → List ℕ → ℕ
 verdictNumber rs cs = number (toldReply (replyOf rs cs))
-
-pub record Spelt (rs cs : List ℕ) : Type 0 where
-  pub records-whole : length rs % 28 ≡ 0
-  pub costs-whole : length cs ≡ 36
-  pub taken : Taken (costsSpelt cs) (length (piecesOf rs)) (piecesOf rs)
