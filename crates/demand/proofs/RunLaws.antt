@@ -2,28 +2,33 @@
 -- Assumes nothing.
 --
 --   length-mapped   how long an array of structs is
---   check-many, check-costs, check-record, check-all      the refusals in their order
+--   check-many, check-costs, check-records      the refusals in their order
 --   answer-fine, answer-bad, figure-fine, figure-bad      what is then answered
 --   taken-check, taken-answer      a run within the sizes is not refused
 --   check-taken     what is known of a run that is not refused
+--   check-place     the first record outside the sizes is refused by its place
+--   other-kind      so is a record of another kind, in numbers that are lent
 --   behind-fine, behind-bad, behind-refused, check-task      the same of a run with a task's record behind it
 --   split-fine, split-bad
 --   bad-good, bad-here, bad-end      the search for the first bad record, one record on
 use mathlib.Core.Path.{_≡_, refl, sym, ap, subst, _∙_}
 use mathlib.Core.Bool.{Bool, true, false, cond}
 use mathlib.Core.List.{List, [], _∷_, _++_, map}
-use Prim.Native.Nat.{ℕ, zero, suc, _+_, _≤_, _<_}
+use Prim.Native.Nat.{ℕ, zero, suc, _+_, _*_, _≤_, _<_}
+use native.Mathlib.Nat.{add-comm}
 use native.Mathlib.Omega.{arith}
 use borrow.Author.Tests.{le-leb, lt-leb, leb-true}
 use lib.Dec.{leb}
 use lib.ListN.{length, take, drop, getD, length-map, drop-of-length-le}
-use lib.Seq.{getD-take, length-take-le, take-append-add}
+use lib.Seq.{getD-take, length-take-le, take-append-add, take-take}
 use Rattle.demand.specs.declared.Piece.{Piece}
 use Rattle.demand.specs.declared.Costs.{Costs}
 use Rattle.demand.specs.declared.Refusal.{Refusal}
 use Rattle.demand.specs.declared.Refusal.the-variants.{TooMany, BadCosts, BadRecord}
 use Rattle.demand.specs.declared.Check.{Check}
 use Rattle.demand.specs.declared.Check.the-variants.{Fine, Bad}
+use Rattle.demand.specs.Kinds.{kindMost}
+use Rattle.demand.specs.Records.{outside, recordsOf}
 use Rattle.demand.specs.Sizes.{runMost, Sized, SizedCosts, Each, sized, sizedCosts}
 use Rattle.demand.specs.ways.Ranges.{Countable, Ranged}
 use Rattle.demand.specs.declared.Answer.the-variants.{Judged, Refused}
@@ -35,9 +40,10 @@ use Rattle.demand.specs.declared.Splitting.the-variants.{Best, Denied}
 use Rattle.demand.specs.Charge.{coreOf}
 use Rattle.demand.specs.Verdict.{verdictOf}
 use Rattle.demand.specs.Answer.{Taken, firstBad, badRecord, checkRun, answerOf, figured, splitted}
+use Rattle.demand.proofs.RecordLaws.{records-length, records-at, kind-outside}
 use Rattle.demand.proofs.Sums.{each-front, each-last}
 use Rattle.demand.proofs.ChargeLaws.{all-countable, core-ranged}
-use Rattle.demand.proofs.SizeLaws.{first-bad-good, first-bad-here, first-bad-none, first-bad-behind}
+use Rattle.demand.proofs.SizeLaws.{first-bad-good, first-bad-here, first-bad-none, first-bad-there, first-bad-behind}
 use Rattle.demand.proofs.SizeLaws.{first-bad-front, sized-costs-true, sized-is, sized-costs-is}
 
 -- the length of an array of structs that is a field of a struct, for `search`
@@ -92,6 +98,24 @@ check-taken c n ps e = few (leb n runMost) refl e
     few : (b : Bool) → leb n runMost ≡ b → cond b (cond (sizedCosts c) (badRecord (firstBad 1 (take n ps))) (Bad BadCosts)) (Bad TooMany) ≡ Fine → Taken c n ps
     few true h f = all (sizedCosts c) refl (leb-true n runMost h) f
     few false h f = let z : _≡_ {A = ℕ} 0 1 = cc in absurd (omega arith)
+
+-- ---- one bad record
+
+-- those before it are taken
+module _ (c : Costs) (n i : ℕ) (few : n ≤ runMost) (here : i < n) where
+  pub check-place : (ps : List Piece) (d : Piece) → n ≤ length ps → checkRun c i ps ≡ Fine → sized (getD ps i d) ≡ false
+      → checkRun c n ps ≡ Bad (BadRecord (i + 1))
+  check-place ps d room fine bad =
+      let ok = check-taken c i ps fine in
+      let good : sizedCosts c ≡ true = sym (sized-costs-is c true (ok .costs)) in
+      let before : Each Sized (take i (take n ps)) = rw (take-take i n ps (omega arith)) (ok .each) in
+      let there : firstBad 1 (take n ps) ≡ i + 1 =
+      first-bad-there 1 i (take n ps) d (omega (arith, length-take-le n ps room)) before (rw (getD-take n ps i d here) bad) ∙ add-comm 1 i in
+      check-records c n ps few good ∙ (ap badRecord there ∙ bad-record-some (i + 1) (λ none. omega arith))
+
+  pub other-kind : (a : List ℕ) → checkRun c i (recordsOf a) ≡ Fine → kindMost < getD a (7 * i) 0 → checkRun c n (recordsOf a) ≡ Bad (BadRecord (i + 1))
+  other-kind a fine other =
+      check-place (recordsOf a) outside (omega (arith, records-length a)) fine (rw (records-at a i outside (omega arith)) (kind-outside a i other))
 
 -- ---- one record more
 

@@ -4,19 +4,20 @@
 --   sized-is, sized-costs-is, countable-is, ranged-is     a test that tells the rule is the definition's
 --   window-most, budget-recurs  what else the size rule says: a window is at most 1,000,000, a budget at most its period
 --   first-bad-none              no bad place: all records are within the sizes
---   first-bad-good, -bad, -end  one record more
+--   first-bad-good, -here       one record more
+--   first-bad-there             the first bad record is told by its place
 --   first-bad-behind, first-bad-front   one record behind all: it is looked at last
 use mathlib.Core.Path.{_≡_, refl, sym, subst, _∙_}
 use mathlib.Core.Bool.{Bool, true, false, cond, _&&_}
 use mathlib.Core.List.{List, [], _∷_, _++_}
-use Prim.Native.Nat.{ℕ, suc, _+_, _≤_, _<_}
-use native.Mathlib.Nat.{add-zero}
+use Prim.Native.Nat.{ℕ, zero, suc, _+_, _≤_, _<_}
+use native.Mathlib.Nat.{add-zero, not-suc-le-zero, le-of-suc-le-suc}
 use native.Mathlib.Numerals.{add-one}
 use native.Mathlib.Omega.{arith}
 use borrow.Author.Needs.{needs}
 use borrow.Author.Tests.{leb-true, leb-false}
 use lib.Dec.{leb}
-use lib.ListN.{length, drop, getD}
+use lib.ListN.{length, take, drop, getD}
 use lib.Seq.{drop-cons}
 use Rattle.demand.specs.declared.Piece.{Piece}
 use Rattle.demand.specs.declared.Costs.{Costs}
@@ -186,6 +187,13 @@ first-bad-none k (p ∷ ps) e =
         → (sized p ≡ false → suc k ≡ 0) → Each Sized (p ∷ ps)
     look true good rest more never = (sized-true p good, rest (more good))
     look false bad rest more never = absurd (omega (arith, never bad))
+
+pub first-bad-there : (k i : ℕ) (ps : List Piece) (d : Piece) → i < length ps → Each Sized (take i ps) → sized (getD ps i d) ≡ false → firstBad k ps ≡ k + i
+first-bad-there k i [] d inside ok bad = absurd (not-suc-le-zero inside)
+first-bad-there k zero (p ∷ ps) d inside ok bad = first-bad-step k p ps false bad ∙ sym (add-zero k)
+first-bad-there k (suc i) (p ∷ ps) d inside ok bad =
+    let e : k + 1 + i ≡ k + suc i = omega arith in
+    first-bad-step k p ps true (sym (sized-is p true (ok .0))) ∙ (first-bad-there (k + 1) i ps d (le-of-suc-le-suc inside) (ok .1) bad ∙ e)
 
 pub first-bad-behind : (k : ℕ) (ps : List Piece) (p : Piece) → Each Sized ps → firstBad k (ps ++ (p ∷ [])) ≡ cond (sized p) 0 (k + length ps)
 first-bad-behind k [] p ok = rw add-zero

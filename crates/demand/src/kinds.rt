@@ -16,7 +16,7 @@ pub fn kind_number(kind: Kind) -> u64
     }
 }
 
-/// The kind of a number; a greater one than 2 is no kind, and is taken for a last piece: a record of such a kind is not read by this.
+/// The kind of a number. A greater one than 2 is no kind: it is taken for a last piece, and whoever reads a record turns it away before.
 pub fn kind_of(number: u64) -> Kind
     ensures exact { λ r. ⌜ r ≡ kindOf number ⌝ }
 {

@@ -22,6 +22,7 @@ pub use pieces::first_piece;
 pub use pieces::last_piece;
 pub use records::check_records;
 pub use records::check_task;
+pub use records::outside;
 pub use records::put_record;
 pub use records::record_at;
 pub use records::records_of;

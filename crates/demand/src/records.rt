@@ -20,9 +20,9 @@ ghost use Rattle.demand.specs.Answer.{firstBad, checkRun};
 ghost use Rattle.demand.specs.Records.{outside, recordAt, recordWithin, recordsOf, putRecord, lentOf};
 ghost use Rattle.demand.specs.Sizes.{runMost};
 
-// A piece outside the sizes.
-fn outside() -> Piece
-    ensures { λ r. ⌜ r ≡ outside ⌝ }
+/// A piece outside the sizes: zeros.
+pub fn outside() -> Piece
+    ensures exact { λ r. ⌜ r ≡ outside ⌝ }
 {
     Piece {
         kind: Kind::Whole,

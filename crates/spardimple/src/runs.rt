@@ -1,28 +1,12 @@
 // A lent run of piece records, copied into a `Run`.
-use demand::Kind;
 use demand::Piece;
 use demand::RUN_MOST;
 use demand::Run;
+use demand::outside;
 ghost use mathlib.Core.Path.{_≡_};
 ghost use lib.ListN.{length, set};
-ghost use Rattle.demand.specs.Records.{outside};
 ghost use Rattle.demand.specs.Sizes.{runMost};
 ghost use Rattle.spardimple.specs.ways.CopiedRun.{Copied};
-
-// What stands where no record is put: a piece outside the sizes.
-fn nothing() -> Piece
-    ensures { λ r. ⌜ r ≡ outside ⌝ }
-{
-    Piece {
-        kind: Kind::Whole,
-        budget: 0,
-        window: 0,
-        period: 0,
-        jitter: 0,
-        preempt: 0,
-        migrate: 0,
-    }
-}
 
 // A run of n records, none of them put yet.
 pub fn empty(n: usize) -> Run
@@ -30,7 +14,7 @@ pub fn empty(n: usize) -> Run
 {
     Run {
         count: n,
-        pieces: [nothing(); RUN_MOST],
+        pieces: [outside(); RUN_MOST],
     }
 }
 

@@ -5,13 +5,13 @@ use Rattle.spardimple.proofs.runs.empty.Statement.{statement}
 use Rattle.spardimple.proofs.runs.empty.Tie as tie
 use Rattle.spardimple.proofs.runs.empty.Reads as reads
 use Rattle.spardimple.proofs.runs.empty.Lts as lts
-use Rattle.spardimple.proofs.runs.nothing.Reads as nothing-reads
+use Rattle.demand.proofs.outside.Reads as outside-reads
 
-nothing-requires : tie.Need-nothing-requires
-nothing-requires c κs = search needs
+outside-requires : tie.Need-outside-requires
+outside-requires c κs = search needs
 
 returns : tie.Need-returns
 returns c = (refl, search needs)
 
 pub empty-spec : {M : Type 1} → statement M
-empty-spec = tie.close (tie.spec nothing-requires returns)
+empty-spec = tie.close (tie.spec outside-requires returns)
