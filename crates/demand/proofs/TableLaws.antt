@@ -6,7 +6,7 @@
 --   Comes rules n c               looking at the rules from the top comes to n with c, or to 0 where none is broken
 --   comes-some                    then there is an answer
 --   comes-gives, comes-refused, comes-kept      what comes is exactly what the table says
---   comes-front, comes-behind     one table behind another
+--   comes-front, comes-before, comes-behind     one table behind another: the first refuses, or it is kept
 --   comes-none                    and where all are kept
 --   Breaks P t, breaks-…          the test t of a rule fails exactly where P holds
 use mathlib.Core.Path.{_≡_, refl, sym, ap, subst, _∙_}
@@ -135,6 +135,14 @@ comes-front {rules} {n} {c} comes more = by (suc n) comes (λ e. omega arith)
     by m none some = absurd (some refl)
     by m (here bad number carries) some = here bad number carries
     by m (next good rest) some = next good (by m rest some)
+
+-- the same where the number is known only not to be 0
+pub comes-before : {rules : List Rule} {n c : ℕ} → (n ≡ 0 → ⊥) → Comes rules n c → (more : List Rule) → Comes (rules ++ more) n c
+comes-before {rules} {n} {c} some comes more = by n some comes
+  where
+    by : (m : ℕ) → (m ≡ 0 → ⊥) → Comes rules m c → Comes (rules ++ more) m c
+    by zero never so = absurd (never refl)
+    by (suc m) never so = comes-front so more
 
 pub comes-behind : (rules : List Rule) → Kept rules → {more : List Rule} {n c : ℕ} → Comes more n c → Comes (rules ++ more) n c
 comes-behind [] kept comes = comes

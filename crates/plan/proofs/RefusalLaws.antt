@@ -73,7 +73,9 @@ module _ (m : Machine) (c : Costs) (n : ℕ) (ts : List Task) where
       by : ((s : Stand) × (l : List (Placed ℕ)) × (o ≡ fine s l) × (planOf m c n ts ≡ finished m c (take n ts) (fine s l)))
           ⊎ ((k : ℕ) × (o ≡ stuck k 7) × (planOf m c n ts ≡ refused 7 (suc k)))
           → Comes table (planOf m c n ts .number) (planOf m c n ts .carries)
-      by (inl h) = subst (λ (r : Reply). Comes table (r .number) (r .carries)) (sym (h .3)) (comes-none table 0 (fine-kept o (h .0) (h .1) (h .2) 0 (take n ts)))
+      by (inl h) =
+          subst (λ (r : Reply). Comes table (r .number) (r .carries)) (sym (h .3))
+          (comes-none table 0 (fine-kept o (h .0) (h .1) (h .2) 0 (take n ts)))
       by (inr h) =
           subst (λ (r : Reply). Comes table (r .number) (r .carries)) (sym (h .2))
           (stuck-comes o (h .0) (h .1) 0 (take n ts) (omega arith) (omega (arith, no-room-place m c n ts faultless (h .0) (h .1))))

@@ -8,7 +8,7 @@ use mathlib.Core.Path.{_≡_, refl, sym, ap, subst}
 use mathlib.Core.Bool.{Bool, true, false, cond}
 use mathlib.Core.Logic.{inl, inr, _↔_}
 use mathlib.Core.List.{List, [], _∷_, _++_}
-use Prim.Native.Nat.{ℕ, zero, suc, _+_, _*_, _%_, _^_, _<_}
+use Prim.Native.Nat.{ℕ, suc, _+_, _*_, _%_, _^_, _<_}
 use native.Mathlib.Omega.{arith}
 use borrow.Author.Tests.{eqb-true, eqb-false}
 use lib.Dec.{leb, eqb}
@@ -22,7 +22,7 @@ use Rattle.demand.specs.Answer.{Told, told, answerOf}
 use Rattle.demand.specs.Tables.{Rule, _if_carrying_, Not, Gives, Kept}
 use Rattle.demand.specs.Refusals.{recordTable}
 use Rattle.demand.proofs.RefusalLaws.{record-refused, record-judged}
-use Rattle.demand.proofs.TableLaws.{Comes, none, here, next, comes-kept, comes-gives, comes-front, comes-behind, breaks-kept, breaks-leb}
+use Rattle.demand.proofs.TableLaws.{Comes, none, here, next, comes-kept, comes-gives, comes-before, comes-behind, breaks-kept, breaks-leb}
 use Rattle.plan.specs.declared.Plan.{Plan}
 use Rattle.plan.specs.declared.Reply.{Reply as PlanReply}
 use Rattle.plan.specs.Refusals.{walkTable}
@@ -72,14 +72,6 @@ accepted-answers comes c = (
   ((λ e. comes-kept comes .0 refl), (λ kept. refl)),
 )
 
--- one table behind another, where the first refuses
-comes-before : {rules : List Rule} {n k : ℕ} → (n ≡ 0 → ⊥) → Comes rules n k → (more : List Rule) → Comes (rules ++ more) n k
-comes-before {rules} {n} {k} some comes more = by n some comes
-  where
-    by : (m : ℕ) → (m ≡ 0 → ⊥) → Comes rules m k → Comes (rules ++ more) m k
-    by zero never so = absurd (never refl)
-    by (suc m) never so = comes-front so more
-
 -- and then by the number
 number-refuses : (rules : List Rule) (t : Told) → t .carries < 2 ^ 32 → Refuses rules t → (n k : ℕ) → k < 2 ^ 32
     → (number t ≡ 2 ^ 32 * (100 + n) + k) ↔ Gives rules n k
@@ -101,7 +93,8 @@ module _ (rs cs : List ℕ) where
   odd-costs whole odd = comes-behind (8 if Not (length rs % 28 ≡ 0) carrying 0 ∷ []) ((λ never. never whole), tt) (here odd refl refl)
 
   -- a claim on every reply to lent bytes
-  lent-cases : (P : Reply → Type 0) → (Comes (lentTable rs cs) 8 0 → P malformed) → (length rs % 28 ≡ 0 → length cs ≡ 36 → P (said answered)) → P (replyOf rs cs)
+  lent-cases : (P : Reply → Type 0) → (Comes (lentTable rs cs) 8 0 → P malformed)
+      → (length rs % 28 ≡ 0 → length cs ≡ 36 → P (said answered)) → P (replyOf rs cs)
   lent-cases P bad fine = by (eqb (length rs % 28) 0) refl
     where
       nine : length rs % 28 ≡ 0 → (b : Bool) → eqb (length cs) 36 ≡ b → P (replyOf rs cs)
