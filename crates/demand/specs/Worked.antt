@@ -73,6 +73,8 @@ chargeRows =
     -- 17 + 3 + 5; it passes, for g(54) = 29
     ∷ busy 3 (paid 6) (late ∷ []) 25
     ∷ says 3 (paid 6) (late ∷ []) Passes
+    -- t0 is the least of each D − J: behind another piece, K11's is still judged from 0
+    ∷ says 3 noCosts (whole 1 50 50 ∷ cached Whole 1 5 10 5 0 0 ∷ []) (Overloaded 0)
     -- ⌈100/20⌉·(12 + 3) + 17 + 3 + 5 = 100; at 85 it is 100 too
     ∷ busy 4 (paid 6) (often ∷ late ∷ []) 100
     ∷ []
@@ -98,6 +100,8 @@ splitRows =
     tight 6 (paid 6) (often ∷ cached Last 3 40 48 6 2 3 ∷ []) (cached First 5 100 100 5 2 3) 57
     ∷ splits 7 (paid 9) 5 (cached Whole 19 60 60 0 2 0 ∷ []) (cached Whole 51 117 130 10 1 3) (Cut 10 44)
     ∷ splits 7 (paid 10) 5 (cached Whole 19 60 60 0 2 0 ∷ []) (cached Whole 51 117 130 10 1 3) Nowhere
+    -- x is below C: 3 in 3 would pass too, with nothing left
+    ∷ splits 7 noCosts 1 [] (whole 3 5 10) (Cut 2 2)
     ∷ []
 
 -- ---- sizes: at each bound taken, past it refused: a run by 106, costs by 102, a record by 103 with its place

@@ -8,18 +8,19 @@
 --   crowd n                n tasks with different names
 --   Trial                  a question with its answer: the plan of a task list, or an edit on a state made by hand, with nothing placed
 --   missed rs              the numbers of the rows that do not hold
---   planRows, stateRows, addRows, withdrawRows, retimeRows   the table, in five parts
+--   planRows, stateRows, addRows, withdrawRows, retimeRows, nameRows   the table, in six parts
 use mathlib.Core.Bool.{Bool, true, false, cond, _&&_}
 use mathlib.Core.List.{List, [], _∷_, _++_, map}
 use Prim.Native.Nat.{ℕ, suc, _+_, _/_, _%_}
 use lib.ListN.{length, replicate}
 use Rattle.demand.specs.declared.Costs.{Costs}
+use Rattle.demand.specs.Lists.{padded}
 use Rattle.demand.specs.Charge.{noCosts}
 use Rattle.demand.specs.Worked.{paid, onlyCost}
 use Rattle.task.specs.declared.Name.{Name}
 use Rattle.task.specs.declared.Task.{Task}
 use Rattle.task.specs.declared.Machine.{Machine}
-use Rattle.task.specs.Names.{sameBytes}
+use Rattle.task.specs.Names.{nameMost, sameBytes}
 use Rattle.walks.specs.Edits.{add, withdraw, retime}
 use Rattle.plan.specs.declared.Stored.{Stored}
 use Rattle.plan.specs.declared.Plan.{Plan}
@@ -164,3 +165,24 @@ retimeRows =
     ∷ edits 10 (retime (simple 97 4 10)) (machineWith 1 1) noCosts (simple 97 5 10 ∷ simple 98 5 10 ∷ [])
     ((0 ∷ 0 ∷ []) ∷ (1 ∷ 2 ∷ 0 ∷ 5 ∷ 10 ∷ 0 ∷ []) ∷ (1 ∷ 1 ∷ 0 ∷ 4 ∷ 10 ∷ 0 ∷ []) ∷ [])
     ∷ []
+
+-- ---- names: 1 to 24 letters, digits, hyphens and full stops, and zeros behind them
+
+unfoldable pub nameWith : ℕ → List ℕ → Name
+nameWith n bs = record { len = n; bytes = padded nameMost 0 bs }
+
+-- a name that breaks its form is 8; another is 5 here, since no task has it
+abbrev pub namedIs : ℕ → Name → Trial
+namedIs number n = edits 11 (withdraw n) (machineWith 1 1) noCosts [] (refusedWith number 0)
+
+unfoldable pub nameRows : List Trial
+nameRows =
+    -- hyphen and full stop, then both ends of the digits and of the letters; and the bytes beside them
+    map (λ b. namedIs 5 (letter b)) (45 ∷ 46 ∷ 48 ∷ 57 ∷ 65 ∷ 90 ∷ 97 ∷ 122 ∷ [])
+    ++ (map (λ b. namedIs 8 (letter b)) (44 ∷ 47 ∷ 58 ∷ 64 ∷ 91 ∷ 96 ∷ 123 ∷ [])
+    ++ (namedIs 5 (nameWith 24 (replicate 24 97))
+    ∷ namedIs 8 (nameWith 25 (replicate 24 97))
+    ∷ namedIs 8 (nameWith 0 [])
+    ∷ namedIs 8 (nameWith 2 (97 ∷ []))
+    ∷ namedIs 8 (nameWith 1 (97 ∷ 98 ∷ []))
+    ∷ []))
