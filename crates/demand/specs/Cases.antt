@@ -72,19 +72,19 @@ right (charges k c p n) = eqb (charge c p) n
 right (splits k c grain ps p s) = sameSplit (greatestSplit c grain ps p) s
 right (takes k c ps which carries) = answers (answered (checkRun c (length ps) ps) Passes) which carries
 
-abbrev pub numberOf : Row → ℕ
-numberOf (says k c ps v) = k
-numberOf (busy k c ps l) = k
-numberOf (asks k c ps t g) = k
-numberOf (tight k c ps p w) = k
-numberOf (charges k c p n) = k
-numberOf (splits k c grain ps p s) = k
-numberOf (takes k c ps which carries) = k
+abbrev pub rowNumber : Row → ℕ
+rowNumber (says k c ps v) = k
+rowNumber (busy k c ps l) = k
+rowNumber (asks k c ps t g) = k
+rowNumber (tight k c ps p w) = k
+rowNumber (charges k c p n) = k
+rowNumber (splits k c grain ps p s) = k
+rowNumber (takes k c ps which carries) = k
 
 -- the numbers of the rows that do not hold
 unfoldable pub wrong : List Row → List ℕ
 wrong [] = []
-wrong (r ∷ rs) = cond (right r) (wrong rs) (numberOf r ∷ wrong rs)
+wrong (r ∷ rs) = cond (right r) (wrong rs) (rowNumber r ∷ wrong rs)
 
 unfoldable pub rows : List Row
 rows =

@@ -28,8 +28,7 @@ use Rattle.plan.specs.declared.Reply.{Reply}
 use Rattle.plan.specs.Walk.{upto}
 use Rattle.plan.specs.Layout.{none}
 use Rattle.plan.specs.Plan.{planOf}
-use Rattle.edits.specs.Edits.{TaskEdit, editOf}
-use Rattle.edits.specs.Kept.{rowIn}
+use Rattle.edits.specs.Edits.{TaskEdit, editOf, rowIn}
 
 unfoldable pub letter : ℕ → Name
 letter b = record { len = 1; bytes = b ∷ replicate 23 0 }
@@ -58,11 +57,11 @@ pub data Trial : Type 0 where
 unfoldable pub stateWith : Machine → Costs → List Task → Plan
 stateWith m c ts = record { machine = m; costs = c; tasks = record { count = length ts; list = ts }; layout = none }
 
-abbrev pub seatOf : ℕ → Stored → List ℕ
-seatOf q s = suc q ∷ suc (s .task) ∷ s .kind ∷ s .budget ∷ s .window ∷ s .jitter ∷ []
+abbrev pub seated : ℕ → Stored → List ℕ
+seated q s = suc q ∷ suc (s .task) ∷ s .kind ∷ s .budget ∷ s .window ∷ s .jitter ∷ []
 
 abbrev pub seatsIn : Plan → List (List ℕ)
-seatsIn s = map (seatOf 0) (rowIn s 0) ++ map (seatOf 1) (rowIn s 1)
+seatsIn s = map (seated 0) (rowIn s 0) ++ map (seated 1) (rowIn s 1)
 
 abbrev pub cameOf : Reply → List (List ℕ)
 cameOf r = (r .number ∷ r .carries ∷ []) ∷ seatsIn (r .plan)

@@ -10,8 +10,7 @@ use mathlib.Core.Logic.{_↔_}
 use mathlib.Core.List.{List, [], _∷_, _++_}
 use Prim.Native.Nat.{ℕ, _+_, _*_, _%_, _^_, _<_}
 use native.Mathlib.Omega.{arith}
-use native.Mathlib.Decide.{decEq}
-use borrow.Author.Tests.{eqb-true}
+use borrow.Author.Tests.{eqb-true, eqb-false}
 use lib.Dec.{eqb}
 use lib.ListN.{length, take}
 use lib.Seq.{take-length}
@@ -106,7 +105,7 @@ module _ (rs cs : List ℕ) where
   unfolding lentTable
   meant v M small means = (
     (λ is. (let h = number-judged v small .0 is in let k = means .0 (h .2) in
-    (((λ odd. odd (h .0)), ((λ odd. odd (h .1)), k .0)), subst M (take-length (piecesOf rs)) (k .1)))),
+        (((λ odd. odd (h .0)), ((λ odd. odd (h .1)), k .0)), subst M (take-length (piecesOf rs)) (k .1)))),
     λ h. number-judged v small .1 (
       stays (length rs % 28) 0 (h .0 .0),
       stays (length cs) 36 (h .0 .1 .0),
@@ -115,7 +114,11 @@ module _ (rs cs : List ℕ) where
   )
     where
       stays : (a b : ℕ) → ((a ≡ b → ⊥) → ⊥) → a ≡ b
-      stays a b never = elim (decEq a b) [ yes is ↦ is | no other ↦ absurd (never other) ]
+      stays a b never = by (eqb a b) refl
+        where
+          by : (t : Bool) → eqb a b ≡ t → a ≡ b
+          by true e = eqb-true a b e
+          by false e = absurd (never (eqb-false a b e))
 
   pub verdict-passes : (verdictNumber rs cs ≡ 2 ^ 32 * 0 + 0)
       ↔ (Kept (lentTable rs cs) × Bounded (coreOf (costsSpelt cs) (piecesOf rs)) × KeepsUp (stall (costsSpelt cs)) (coreOf (costsSpelt cs) (piecesOf rs)))

@@ -1,6 +1,7 @@
 -- The customer's three demands, as theorems. They speak of what the contracts of the exported and public functions say, by names of `specs/`:
 --
 --   verdict(records, costs)         answers verdictNumber records costs, the number of the reply replyOf records costs
+--   judge, judge_records, judge_lent    answer answerOf costs n records; split_records answers splitOf
 --   plan_listing(sheet, listing)    answers listingNumber sheet room, the number of what paperOf sheet comes to in a buffer of so many bytes,
 --                                   and the buffer, which held old, then holds listingLeft sheet old
 --   add, withdraw, retime           answer editOf e s, from any state s
@@ -9,21 +10,26 @@
 --
 -- Demand 1, each input answered:
 --   one-verdict, one-listing        no two answers share a number
---   nine, by-line, seven, ten       a sheet's refusals come exactly when document 01 says, in its order; what is wrong with one line is `lineFault`,
---                                   with records `checkRun`, with an edit `editFault`
+--   verdict-refused, records-refused, listing-refused, edit-refused     each refusal comes exactly where its table gives it, with what it carries
+--   edit-taken                      and an edit is accepted exactly where no rule of its table is broken
 --   refused-buffer, refused-state   a refusal changes no lent byte and no held plan
 --   written-buffer                  an accepted listing stands at the front of the buffer, and the bytes beyond stay
 -- Demand 2, verdict and plan:
---   passes, overloaded, undecided   what a verdict on lent records says
+--   passes, overloaded, undecided   each verdict comes exactly where no rule is broken and its meaning holds; `-told`: on lent bytes, by the number given back
+--   split                           and so does a split
 --   fits-above                      each task of a sheet that is read has the times of the part that its line names, by equal lengths and bytes
---   listing-promised                a listing is that of the walk's plan: every task placed, budgets and windows adding up, every core passing
---   listing-comes                   and it comes where the walk ends well
+--   held-promised                   a held plan is the walk's: packing order, every task placed, budgets and windows adding up, every core passing, rows and words
+--   afresh-listed                   and its listing shows it, and counts it
+--   listing-promised                a listing is that of the plan worked out afresh from the sheet's machine, costs and tasks
+--   listing-comes, no-room          it comes where the walk ends well, and 7 exactly where the walk sticks, with the task
 --   alike, told-apart               sheets that read alike come to the same; sheets with one listing place the same names alike
 -- Demand 3, edits:
---   begun-held                      a listing's plan is a held plan
---   afresh                          after any sequence of edits the plan equals the one worked out afresh from the tasks then held
---   edit-made                       where an accepted edit has the tasks that it should
---   kept-before, kept-after         what an accepted edit keeps
+--   begun-held                      a plan worked out afresh is a held plan
+--   after-any, after-any-afresh     after any sequence of edits a held plan is held; one worked out afresh equals the one worked out from the tasks then held
+--   edit-yields                     an accepted edit yields the plan worked out afresh, whatever the rest of the state was
+--   edit-looks-at                   an edit relies on machine, costs and task list alone
+--   edit-made                       an accepted edit has the tasks that it should
+--   kept-before, kept-after         what an accepted edit of a held plan keeps
 --   same-state                      where kept-after asks for the same state, that is the same core with the same row
 -- Assumes nothing.
 use mathlib.Core.Path.{_≡_, refl, sym, ap, _∙_, subst}
