@@ -32,10 +32,10 @@ use Rattle.demand.proofs.SizeLaws.{tells-sized, tells-costs}
 use Rattle.demand.proofs.RunLaws.{answer-fine, answer-bad}
 use Rattle.demand.proofs.TableLaws.{Comes, none, here, next, comes-kept, comes-gives, Breaks, breaks-kept, breaks-not, breaks-leb}
 
-abbrev rowNumber : Refusal → ℕ
-rowNumber TooMany = 6
-rowNumber BadCosts = 2
-rowNumber (BadRecord k) = 3
+abbrev refusalNumber : Refusal → ℕ
+refusalNumber TooMany = 6
+refusalNumber BadCosts = 2
+refusalNumber (BadRecord k) = 3
 
 abbrev carriesOf : Refusal → ℕ
 carriesOf TooMany = 0
@@ -44,7 +44,7 @@ carriesOf (BadRecord k) = k
 
 abbrev pub badNumber : Check → ℕ
 badNumber Fine = 0
-badNumber (Bad r) = rowNumber r
+badNumber (Bad r) = refusalNumber r
 
 abbrev pub badCarries : Check → ℕ
 badCarries Fine = 0
@@ -97,12 +97,12 @@ check-comes c n ps = few (leb n runMost) refl
 -- ---- the answer
 
 -- what is told of a refusal
-told-refused : (r : Refusal) → told (Refused r) ≡ record { which = 100 + rowNumber r; carries = carriesOf r }
+told-refused : (r : Refusal) → told (Refused r) ≡ record { which = 100 + refusalNumber r; carries = carriesOf r }
 told-refused TooMany = refl
 told-refused BadCosts = refl
 told-refused (BadRecord k) = refl
 
-number-some : (r : Refusal) → rowNumber r ≡ 0 → ⊥
+number-some : (r : Refusal) → refusalNumber r ≡ 0 → ⊥
 number-some TooMany e = omega arith
 number-some BadCosts e = omega arith
 number-some (BadRecord k) e = omega arith
@@ -125,7 +125,7 @@ record-refused c n ps N k = (by (checkRun c n ps) refl, from)
         absurd (omega (arith, judged-below (verdictOf c (take n ps))))
     by (Bad r) bad is =
         let so = sym (told-refused r) ∙ (ap told (sym (answer-bad c n ps r bad)) ∙ is) in
-        let number : 100 + rowNumber r ≡ 100 + N = ap (λ (t : Told). t .which) so in
+        let number : 100 + refusalNumber r ≡ 100 + N = ap (λ (t : Told). t .which) so in
         comes .0 (ap badNumber bad ∙ omega arith, ap badCarries bad ∙ ap (λ (t : Told). t .carries) so, (λ e. number-some r (ap badNumber (sym bad) ∙ e)))
 
     told-by : (r : Check) → checkRun c n ps ≡ r → badNumber r ≡ N → badCarries r ≡ k → (badNumber r ≡ 0 → ⊥)
