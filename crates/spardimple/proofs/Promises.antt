@@ -11,7 +11,7 @@
 -- Demand 1, each input answered:
 --   one-verdict, one-listing        no two answers share a number
 --   verdict-refused, records-refused, listing-refused, edit-refused     each refusal comes exactly where its table gives it, with what it carries
---   edit-taken                      and an edit is accepted exactly where no rule of its table is broken
+--   listing-taken, edit-taken       and a listing is written, an edit accepted, exactly where no rule of its table is broken
 --   refused-buffer, refused-state   a refusal changes no lent byte and no held plan
 --   written-buffer                  an accepted listing stands at the front of the buffer, and the bytes beyond stay
 -- Demand 2, verdict and plan:
@@ -89,7 +89,7 @@ use Rattle.spardimple.specs.Sheets.{refused, written, machineIn, costsIn
 use Rattle.spardimple.proofs.NumberLaws.{verdict-number-one}
 use Rattle.spardimple.proofs.PaperLaws.{listing-number-one, paper-seven, paper-read}
 use Rattle.spardimple.proofs.PaperLaws.{paper-comes, paper-alike, buffer-refused, buffer-written}
-use Rattle.spardimple.proofs.RefusalLaws.{verdict-refused as told-verdict, listing-refused as told-listing, edit-refused-exactly, edit-accepted}
+use Rattle.spardimple.proofs.RefusalLaws.{verdict-refused as told-verdict, listing-refused as told-listing, listing-accepted, edit-refused-exactly, edit-accepted}
 use Rattle.spardimple.proofs.JudgedLaws.{run-passes, run-overloaded, run-undecided, run-split, verdict-passes, verdict-overloaded, verdict-undecided}
 use Rattle.spardimple.proofs.HeldPlans.{walks-are, cores-bounded, ones-are}
 
@@ -110,6 +110,9 @@ records-refused = record-refused
 
 pub listing-refused : (sheet : List ℕ) (room n k : ℕ) → k < 2 ^ 32 → (listingNumber sheet room ≡ 2 ^ 32 * (100 + n) + k) ↔ Gives (sheetTable sheet room) n k
 listing-refused = told-listing
+
+pub listing-taken : (sheet : List ℕ) (room : ℕ) → (toldPaper (paperOf sheet) room .which ≡ 0) ↔ Kept (sheetTable sheet room)
+listing-taken = listing-accepted
 
 pub edit-refused : (e : TaskEdit) (s : Plan) (n k : ℕ) → ((editOf e s .number ≡ suc n) × (editOf e s .carries ≡ k)) ↔ Gives (editTable e s) (suc n) k
 edit-refused = edit-refused-exactly
