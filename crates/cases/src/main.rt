@@ -3,6 +3,7 @@ mod plans;
 mod print;
 mod runs;
 mod sheets;
+mod states;
 
 use demand::Kind;
 use demand::records_of;
@@ -24,6 +25,7 @@ use runs::piece;
 use runs::whole;
 use runs::with;
 use sheets::whole_sheets;
+use states::states_by_hand;
 
 // K1 to K7, without costs but for the last.
 fn verdicts() {
@@ -162,5 +164,6 @@ fn main() {
     lent();
     splits();
     whole_plans();
+    states_by_hand();
     whole_sheets();
 }

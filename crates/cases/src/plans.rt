@@ -17,7 +17,7 @@ use task::Tasks;
 use task::Times;
 
 // A task named by its place, of window and period d, with the migration charge given.
-fn alike(place: usize, worst: u64, d: u64, migrate: u64) -> Task {
+pub fn alike(place: usize, worst: u64, d: u64, migrate: u64) -> Task {
     let mut bytes = [0u8; 24];
     bytes[0] = 116;
     bytes[1] = 48 + (place / 10 % 10) as u8;
@@ -61,7 +61,7 @@ pub fn pair(worst: u64, d: u64, other: u64, e: u64) -> Tasks {
     tasks
 }
 
-fn field(n: u64) {
+pub fn field(n: u64) {
     io::write_all(STDOUT_FILENO, b"\t");
     io::print_decimal(STDOUT_FILENO, n);
 }
@@ -99,7 +99,7 @@ fn show_row(layout: Layout, core: usize) {
 }
 
 // The plan's counts: tasks, pieces, and the ones of each core's word.
-fn show_counts(plan: Plan) {
+pub fn show_counts(plan: Plan) {
     let layout = plan.layout;
     let tasks = plan.tasks;
     io::write_all(STDOUT_FILENO, b"\tplan");
@@ -125,6 +125,15 @@ fn planned(case: &[u8], cores: usize, costs: Costs, tasks: Tasks) -> Reply {
     plan_tasks(machine, costs, tasks)
 }
 
+// All rows of a plan.
+pub fn show_rows(layout: Layout) {
+    let mut core: usize = 0;
+    while core < 16 {
+        show_row(layout, core);
+        core += 1;
+    }
+}
+
 // The counts, or the refusal.
 pub fn show_plan(case: &[u8], cores: usize, costs: Costs, tasks: Tasks, whole: bool) {
     let reply = planned(case, cores, costs, tasks);
@@ -141,9 +150,5 @@ pub fn show_plan(case: &[u8], cores: usize, costs: Costs, tasks: Tasks, whole: b
         return;
     }
     let layout = plan.layout;
-    let mut core: usize = 0;
-    while core < 16 {
-        show_row(layout, core);
-        core += 1;
-    }
+    show_rows(layout);
 }
