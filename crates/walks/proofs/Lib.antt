@@ -9,3 +9,4 @@ pub mod KeptLaws
 pub mod EditLaws
 pub mod DenserLaws
 pub mod HalvesLaws
+pub mod Worked

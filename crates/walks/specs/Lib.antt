@@ -6,3 +6,4 @@ pub mod Shares
 pub mod Edits
 pub mod Kept
 pub mod Halves
+pub mod Worked
