@@ -26,7 +26,7 @@ use Rattle.task.specs.declared.Task.{Task}
 use Rattle.task.specs.declared.Machine.{Machine}
 use Rattle.demand.specs.declared.Costs.{Costs}
 use Rattle.demand.specs.Sizes.{sized, sizedCosts, Sized, SizedCosts, Each, timeMost}
-use Rattle.demand.proofs.SizeLaws.{sized-true, sized-costs-true}
+use Rattle.demand.proofs.SizeLaws.{sized-exact, costs-exact}
 use Rattle.task.specs.Names.{formed, sameName}
 use Rattle.task.specs.Tasks.{wholePiece, placeBy, placeOf, faultOf, firstFault, orElse, past, taskAt, noTask}
 use Rattle.task.specs.Tasks.{tasksOf, listOf, rule, stateFault, sizedMachine, coresMost, tasksMost}
@@ -158,7 +158,7 @@ fault-good above t e =
     let a = rule-fine (formed (t .name)) 7 (rule (sized (wholePiece (t .times))) 3 (rule (eqb (placeOf 1 (t .name) above) 0) 4 0)) e in
     let b = rule-fine (sized (wholePiece (t .times))) 2 (rule (eqb (placeOf 1 (t .name) above) 0) 4 0) (a .1) in
     let d = rule-fine (eqb (placeOf 1 (t .name) above) 0) 3 0 (b .1) in
-    record { named = a .0; timed = sized-true (wholePiece (t .times)) (b .0); alone = eqb-true (placeOf 1 (t .name) above) 0 (d .0) }
+    record { named = a .0; timed = sized-exact (wholePiece (t .times)) .0 (b .0); alone = eqb-true (placeOf 1 (t .name) above) 0 (d .0) }
 
 faults-timed : (above ts : List Task) → firstFault above ts ≡ 0 → Each (λ t. Sized (wholePiece (t .times))) ts
 faults-timed above [] e = tt
@@ -191,7 +191,7 @@ state-sane m c n ts e =
       cores-fit = leb-true (m .cores) coresMost (z .1);
       grain-some = leb-true 1 (m .grain) (y .1);
       grain-fits = leb-true (m .grain) timeMost (x .1);
-      costs = sized-costs-true c (b .0);
+      costs = costs-exact c .0 (b .0);
       few = leb-true n tasksMost (d .0);
       faultless = d .1;
       timed = faults-timed [] (take n ts) (d .1);
