@@ -6,7 +6,7 @@
 --   place-breaks                  a name has a place exactly where one has it
 --   fault-comes, state-comes      the fault of a task, and of a state, is what its table says
 --   state-refused, state-kept     so a state's refusal comes exactly where the table gives it, and none exactly where the table is kept
-use mathlib.Core.Path.{_≡_, refl, sym, ap, _∙_}
+use mathlib.Core.Path.{_≡_, refl, sym, _∙_}
 use mathlib.Core.Bool.{Bool, true, false, cond, true≢false}
 use mathlib.Core.Logic.{inl, inr, _↔_}
 use mathlib.Core.List.{List, [], _∷_, _++_}
