@@ -8,7 +8,7 @@
 --   overloaded-within     an overloaded length is below the busy length limit and a window
 --   first-bad-within      a bad record's place is among the records' places
 --   answer-carries        so no answer carries more than the longest length
-use mathlib.Core.Path.{_≡_, refl, sym, ap, _∙_, subst}
+use mathlib.Core.Path.{_≡_, refl, sym, ap, _∙_}
 use mathlib.Core.Bool.{Bool, true, false, cond}
 use mathlib.Core.List.{List, [], _∷_, _++_}
 use mathlib.Core.Logic.{_⊎_, _↔_}
@@ -16,8 +16,7 @@ use Prim.Native.Nat.{ℕ, zero, suc, _+_, _≤_}
 use native.Mathlib.Omega.{arith}
 use borrow.Author.Tests.{leb-true}
 use lib.Dec.{leb}
-use lib.ListN.{length, take, length-take, length-append}
-use lib.Seq.{take-all}
+use lib.ListN.{length, take, length-take}
 use Rattle.demand.specs.declared.Piece.{Piece}
 use Rattle.demand.specs.declared.Costs.{Costs}
 use Rattle.demand.specs.declared.Charged.{Charged}
@@ -41,9 +40,8 @@ use Rattle.demand.specs.Split.{Splits, greatestSplit}
 use Rattle.demand.proofs.DemandLaws.{jobs-due-some}
 use Rattle.demand.proofs.BusyLaws.{least-le}
 use Rattle.demand.proofs.RunLaws.{check-taken, taken-check, taken-answer, answer-fine, answer-bad, split-fine, split-bad}
-use Rattle.demand.proofs.Sums.{each-front, each-last}
-use Rattle.demand.proofs.SplitLaws.{split-means, split-is}
-use Rattle.demand.proofs.Judgement.{overloaded-worst, passes-means, overloaded-means, undecided-means}
+use Rattle.demand.proofs.SplitLaws.{split-exact}
+use Rattle.demand.proofs.Judgement.{verdict-exact, passes-means}
 
 -- ---- in both directions
 
@@ -71,10 +69,10 @@ module _ (c : Costs) (n : ℕ) (ps : List Piece) where
       ((λ is. (let k = h .0 is in (k .0, k .1 .0, k .1 .1))), λ k. h .1 (k .0, (k .1, k .2)))
 
   pub answer-overloaded : (t : ℕ) → (answerOf c n ps ≡ Judged (Overloaded t)) ↔ (Taken c n ps × Means (stall c) (coreOf c (take n ps)) (Overloaded t))
-  answer-overloaded t = meaning (Overloaded t) (Means (stall c) (coreOf c (take n ps)) (Overloaded t)) (λ sizes. overloaded-means c (take n ps) sizes t)
+  answer-overloaded t = meaning (Overloaded t) (Means (stall c) (coreOf c (take n ps)) (Overloaded t)) (λ sizes. verdict-exact c (take n ps) (Overloaded t))
 
   pub answer-undecided : (answerOf c n ps ≡ Judged Undecided) ↔ (Taken c n ps × Means (stall c) (coreOf c (take n ps)) Undecided)
-  answer-undecided = meaning Undecided (Means (stall c) (coreOf c (take n ps)) Undecided) (λ sizes. undecided-means c (take n ps) sizes)
+  answer-undecided = meaning Undecided (Means (stall c) (coreOf c (take n ps)) Undecided) (λ sizes. verdict-exact c (take n ps) Undecided)
 
 -- ---- a split
 
@@ -83,31 +81,18 @@ module _ (c : Costs) (n : ℕ) (ps : List Piece) (p : Piece) (g : ℕ) where
   all : List Piece
   all = take n ps ++ (p ∷ [])
 
-  each-all : Taken c (n + 1) all → Each Sized all
-  unfolding all
-  each-all ok = rw (take-all (n + 1) (take n ps ++ (p ∷ [])) (omega (arith, length-append (take n ps) (p ∷ []), length-take n ps))) at (ok .each)
-
-  own-split : Taken c (n + 1) all → (s : Split) → (greatestSplit c g (take n ps) p ≡ s) ↔ Splits c g (take n ps) p s
-  unfolding all
-  own-split ok s =
-      let each = each-front Sized (take n ps) p (each-all ok) in
-      let own = each-last Sized (take n ps) p (each-all ok) in (
-        (λ e. subst (Splits c g (take n ps) p) e (split-means c g (take n ps) p each own)),
-        λ h. sym (split-is c g (take n ps) p each own s h),
-      )
-
   pub split-best : (s : Split) → (splitOf c n ps p g ≡ Best s) ↔ (Taken c (n + 1) (take n ps ++ (p ∷ [])) × Splits c g (take n ps) p s)
   unfolding splitOf all
   split-best s = (
     (λ is. by is (checkRun c (n + 1) all) refl),
-    λ h. ap (λ (k : Check). splitted k (greatestSplit c g (take n ps) p)) (taken-check c (n + 1) all (h .0)) ∙ ap (λ (z : Split). Best z) (own-split (h .0) s .1 (h .1)),
+    λ h. ap (λ (k : Check). splitted k (greatestSplit c g (take n ps) p)) (taken-check c (n + 1) all (h .0))
+        ∙ ap (λ (z : Split). Best z) (split-exact c g (take n ps) p s .1 (h .1)),
   )
     where
       by : splitOf c n ps p g ≡ Best s → (k : Check) → checkRun c (n + 1) all ≡ k → Taken c (n + 1) all × Splits c g (take n ps) p s
       by is Fine e =
-          let ok = check-taken c (n + 1) all e in
           let h : Best (greatestSplit c g (take n ps) p) ≡ Best s = split-fine (checkRun c (n + 1) all) (greatestSplit c g (take n ps) p) e ∙ is in
-          (ok, own-split ok s .0 (cc))
+          (check-taken c (n + 1) all e, split-exact c g (take n ps) p s .0 (cc))
       by is (Bad r) e =
           let h : Denied r ≡ Best s = split-bad (checkRun c (n + 1) all) (greatestSplit c g (take n ps) p) r e ∙ is in
           let z : _≡_ {A = ℕ} 0 1 = cc in absurd (omega arith)
@@ -131,7 +116,7 @@ start-within c (p ∷ ps) sizes t₀ start =
 
 pub overloaded-within : (c : Costs) (ps : List Piece) → Each Sized ps → (t : ℕ) → verdictOf c ps ≡ Overloaded t → t ≤ lengthMost
 overloaded-within c ps sizes t e =
-    let span = overloaded-worst c ps sizes t e in
+    let span = verdict-exact c ps (Overloaded t) .0 e in
     omega (arith, start-within c ps sizes (span .0) (span .2 .start), span .2 .within, span .3 .below)
 
 -- ---- a record's place

@@ -19,11 +19,11 @@ use lib.Dec.{leb}
 use Rattle.demand.specs.declared.Charged.{Charged}
 use Rattle.demand.specs.declared.Found.{Found}
 use Rattle.demand.specs.declared.Found.the-variants.{At, Nothing}
-use Rattle.demand.specs.Sizes.{Each, busyMost}
+use Rattle.demand.specs.Sizes.{busyMost}
 use Rattle.demand.specs.Busy.{Least, Finds, Clear, climbing, leastHolding, busyLoad, busySum, busyLength, tightWindow}
 use Rattle.demand.specs.Answer.{tightOfLast}
 use Rattle.demand.proofs.Sums.{total-mono}
-use Rattle.demand.proofs.DemandLaws.{Recurs, busy-load-mono}
+use Rattle.demand.proofs.DemandLaws.{busy-load-mono}
 
 pub least-le : {P : ℕ → Type 0} {n : ℕ} → Least P n → (k : ℕ) → P k → n ≤ k
 least-le {P} {n} m k p = elim (decLt k n) [ yes h ↦ absurd (m .none-below k h p) | no h ↦ omega arith ]
@@ -69,26 +69,26 @@ module _ (f : ℕ → ℕ) (mono : (m n : ℕ) → m ≤ n → f m ≤ f n) wher
   pub found-within : (top n : ℕ) → leastHolding f top ≡ At n → n ≤ top
   found-within top n e = subst (λ (r : Found). Finds f top r) e (least-holding-finds top) .1
 
-pub busy-sum-mono : (qs : List Charged) → Each Recurs qs → (m n : ℕ) → m ≤ n → busySum qs m ≤ busySum qs n
+pub busy-sum-mono : (qs : List Charged) (m n : ℕ) → m ≤ n → busySum qs m ≤ busySum qs n
 unfolding busySum
-busy-sum-mono qs recurs m n h = total-mono Recurs (busyLoad m) (busyLoad n) (λ q pos. busy-load-mono pos h) qs recurs
+busy-sum-mono qs m n h = total-mono (busyLoad m) (busyLoad n) (λ q. busy-load-mono q h) qs
 
-pub busy-length-finds : (qs : List Charged) → Each Recurs qs → Finds (busySum qs) busyMost (busyLength qs)
+pub busy-length-finds : (qs : List Charged) → Finds (busySum qs) busyMost (busyLength qs)
 unfolding busyLength
-busy-length-finds qs recurs = least-holding-finds (busySum qs) (busy-sum-mono qs recurs) busyMost
+busy-length-finds qs = least-holding-finds (busySum qs) (busy-sum-mono qs) busyMost
 
-pub busy-length-is : (qs : List Charged) → Each Recurs qs → (r : Found) → Finds (busySum qs) busyMost r → r ≡ busyLength qs
-busy-length-is qs recurs r found = finds-unique (busySum qs) busyMost r (busyLength qs) found (busy-length-finds qs recurs)
+pub busy-length-is : (qs : List Charged) (r : Found) → Finds (busySum qs) busyMost r → r ≡ busyLength qs
+busy-length-is qs r found = finds-unique (busySum qs) busyMost r (busyLength qs) found (busy-length-finds qs)
 
-pub busy-found : (qs : List Charged) → Each Recurs qs → (l : ℕ) → 1 ≤ l → l ≤ busyMost → busySum qs l ≤ l → Clear (busySum qs) l → At l ≡ busyLength qs
-busy-found qs recurs l some near fits clear =
-    busy-length-is qs recurs (At l) (record { here = record { some = some; fits = fits }; none-below = clear }, near)
+pub busy-found : (qs : List Charged) (l : ℕ) → 1 ≤ l → l ≤ busyMost → busySum qs l ≤ l → Clear (busySum qs) l → At l ≡ busyLength qs
+busy-found qs l some near fits clear =
+    busy-length-is qs (At l) (record { here = record { some = some; fits = fits }; none-below = clear }, near)
 
-pub busy-nothing : (qs : List Charged) → Each Recurs qs → (l : ℕ) → busyMost < l → Clear (busySum qs) l → Nothing ≡ busyLength qs
-busy-nothing qs recurs l past clear = busy-length-is qs recurs Nothing (λ k h p. clear k (omega arith) p)
+pub busy-nothing : (qs : List Charged) (l : ℕ) → busyMost < l → Clear (busySum qs) l → Nothing ≡ busyLength qs
+busy-nothing qs l past clear = busy-length-is qs Nothing (λ k h p. clear k (omega arith) p)
 
-pub busy-length-within : (qs : List Charged) → Each Recurs qs → (l : ℕ) → busyLength qs ≡ At l → l ≤ busyMost
-busy-length-within qs recurs l e = subst (λ (r : Found). Finds (busySum qs) busyMost r) e (busy-length-finds qs recurs) .1
+pub busy-length-within : (qs : List Charged) (l : ℕ) → busyLength qs ≡ At l → l ≤ busyMost
+busy-length-within qs l e = subst (λ (r : Found). Finds (busySum qs) busyMost r) e (busy-length-finds qs) .1
 
 -- ---- the tight window
 

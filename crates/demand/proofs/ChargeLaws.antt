@@ -26,7 +26,7 @@ use Rattle.demand.specs.Split.{lateJitter}
 use Rattle.demand.specs.Charge.{charge, stall, ipiCost, charged, coreOf}
 use Rattle.demand.specs.Answer.{chargedTime}
 use Rattle.demand.proofs.DemandLaws.{Recurs}
-use Rattle.demand.proofs.SizeLaws.{tells-sized, tells-costs, countable-is, sized-is, sized-costs-is}
+use Rattle.demand.proofs.SizeLaws.{tells-sized, tells-costs, costs-exact, countable-is, sized-is, sized-costs-is}
 use Rattle.demand.proofs.Sums.{each-map, each-imp}
 
 pub when-le : (b : Bool) {n m : ℕ} → n ≤ m → cond b n 0 ≤ m
@@ -41,7 +41,7 @@ late-told c b is = rw is
 
 pub late-jitter-is : (c : Costs) → SizedCosts c → lateJitter c ≡ c .precision
 unfolding lateJitter
-late-jitter-is c costs = rw (sym (sized-costs-is c true costs))
+late-jitter-is c costs = rw (costs-exact c .1 costs)
 
 -- whatever the costs are
 pub late-jitter-le : (c : Costs) → lateJitter c ≤ timeMost
@@ -121,7 +121,7 @@ charged-time-is c p costs size = charged-tells c p true true costs size
 
 pub charged-within : (c : Costs) (p : Piece) → SizedCosts c → Countable p → chargedWithin c p ≡ charged c p
 unfolding chargedWithin
-charged-within c p costs ok = rw (sym (sized-costs-is c true costs), sym (countable-is p true ok))
+charged-within c p costs ok = rw (costs-exact c .1 costs, sym (countable-is p true ok))
 
 pub charged-no-costs : (c : Costs) (p : Piece) → sizedCosts c ≡ false → chargedWithin c p ≡ noCharge
 unfolding chargedWithin
@@ -141,7 +141,7 @@ stall-no-costs c bad = rw bad
 
 pub stall-within : (c : Costs) → SizedCosts c → stallWithin c ≡ stall c
 unfolding stallWithin
-stall-within c costs = rw (sym (sized-costs-is c true costs))
+stall-within c costs = rw (costs-exact c .1 costs)
 
 pub stall-le : (c : Costs) → stallWithin c ≤ stallMost
 unfolding stallWithin stall

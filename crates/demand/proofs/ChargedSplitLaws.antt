@@ -122,13 +122,12 @@ pub first-recurs : (c : Costs) (p : Piece) (x w : ℕ) → Sized p → Recurs (c
 unfolding charged firstPiece pieceOf
 first-recurs c p x w ok = record { again = omega arith }
 
-pub calls-mono : (c : Costs) (qs : List Charged) (p : Piece) → Each Recurs qs → Sized p → {t u : ℕ} → t ≤ u → calls c qs p t ≤ calls c qs p u
+pub calls-mono : (c : Costs) (qs : List Charged) (p : Piece) {t u : ℕ} → t ≤ u → calls c qs p t ≤ calls c qs p u
 unfolding calls
-calls-mono c qs p recurs ok h = omega (arith, interrupts-all-mono qs recurs h, interrupts-mono (first-recurs c p 0 0 ok) h)
+calls-mono c qs p h = omega (arith, interrupts-all-mono qs h, interrupts-mono (charged c (firstPiece p 0 0)) h)
 
-tight-mono : (c : Costs) (qs : List Charged) (p : Piece) (x : ℕ) → Each Recurs qs → Sized p → (m n : ℕ) → m ≤ n
-    → tightBeside c qs p x m ≤ tightBeside c qs p x n
-tight-mono c qs p x recurs ok m n h = omega (arith, tight-parts c qs p x m, tight-parts c qs p x n, calls-mono c qs p recurs ok h)
+tight-mono : (c : Costs) (qs : List Charged) (p : Piece) (x m n : ℕ) → m ≤ n → tightBeside c qs p x m ≤ tightBeside c qs p x n
+tight-mono c qs p x m n h = omega (arith, tight-parts c qs p x m, tight-parts c qs p x n, calls-mono c qs p h)
 
 -- the window of the first piece does not count
 sum-same : (c : Costs) (qs : List Charged) (p : Piece) (x w : ℕ)
@@ -141,7 +140,7 @@ window-parts : (c : Costs) (qs : List Charged) (p : Piece) (x w top : ℕ)
 unfolding tightWindow charged firstPiece pieceOf
 window-parts c qs p x w top = ap (λ (f : ℕ → ℕ). later (p .jitter) (leastHolding f (top - p .jitter))) (sum-same c qs p x w)
 
-module _ (c : Costs) (qs : List Charged) (p : Piece) (x : ℕ) (recurs : Each Recurs qs) (ok : Sized p) where
+module _ (c : Costs) (qs : List Charged) (p : Piece) (x : ℕ) where
   found-in : (f : Found) → Finds (tightBeside c qs p x) (p .window - 1 - p .jitter) f → TightIn c qs p x (later (p .jitter) f)
   found-in (At t) found = (t, found .0, omega (arith, found .0 .here .some, found .1), refl)
   found-in Nothing none = λ t tight room. none t (omega arith) (tight .here)
@@ -149,7 +148,7 @@ module _ (c : Costs) (qs : List Charged) (p : Piece) (x : ℕ) (recurs : Each Re
   pub window-in : (w : ℕ) → TightIn c qs p x (tightWindow (stall c) (withFirst c qs p x w) (charged c (firstPiece p x w)) (p .window - 1))
   window-in w =
       rw (window-parts c qs p x w (p .window - 1)) (found-in (leastHolding (tightBeside c qs p x) (p .window - 1 - p .jitter))
-      (least-holding-finds (tightBeside c qs p x) (tight-mono c qs p x recurs ok) (p .window - 1 - p .jitter)))
+      (least-holding-finds (tightBeside c qs p x) (tight-mono c qs p x) (p .window - 1 - p .jitter)))
 
 last-window : (b : ℕ) (c : Costs) (qs : List Charged) (p : Piece) (x w : ℕ)
     → tightOfLast b (withFirst c qs p x w) (withFirst c qs p x w) ≡ tightWindow b (withFirst c qs p x w) (charged c (firstPiece p x w)) w
@@ -157,10 +156,10 @@ unfolding withFirst charged firstPiece pieceOf
 last-window b c qs p x w = tight-of-last b (qs ++ (charged c (firstPiece p x w) ∷ [])) qs (charged c (firstPiece p x w))
 
 -- as the code looks for it: behind the core, with the widest window that leaves the last piece one
-pub tight-in : (c : Costs) (qs : List Charged) (p : Piece) (x : ℕ) → Each Recurs qs → Sized p → (rs : List Charged)
+pub tight-in : (c : Costs) (qs : List Charged) (p : Piece) (x : ℕ) (rs : List Charged)
     → rs ≡ withFirst c qs p x (p .window - 1) → (r : Found) → r ≡ tightOfLast (stall c) rs rs → TightIn c qs p x r
-tight-in c qs p x recurs ok rs laid r found =
-    rw (found, laid, last-window (stall c) c qs p x (p .window - 1)) (window-in c qs p x recurs ok (p .window - 1))
+tight-in c qs p x rs laid r found =
+    rw (found, laid, last-window (stall c) c qs p x (p .window - 1)) (window-in c qs p x (p .window - 1))
 
 pub tight-same : (c : Costs) (qs : List Charged) (p : Piece) (x : ℕ) {t u : ℕ} → Tight c qs p x t → Tight c qs p x u → t ≡ u
 tight-same c qs p x m n = least-unique m n
@@ -212,13 +211,11 @@ pub never-empty : (c : Costs) (p : Piece) (x w : ℕ) → lastAlone c p x w ≡ 
 unfolding lastAlone
 never-empty c p x w e = let z : _≡_ {A = ℕ} 0 1 = cc in omega arith
 
-pub last-undecided : (c : Costs) (p : Piece) (x y v w : ℕ) → Sized p → y ≤ x → verdict (stall c) (lastAlone c p x v) ≡ Undecided
+pub last-undecided : (c : Costs) (p : Piece) (x y v w : ℕ) → y ≤ x → verdict (stall c) (lastAlone c p x v) ≡ Undecided
     → verdict (stall c) (lastAlone c p y w) ≡ Passes → ⊥
-last-undecided c p x y v w ok h undecided pass =
-    let none =
-    subst (λ (r : Verdict). Means (stall c) (lastAlone c p x v) r) undecided
-    (verdict-means (stall c) (lastAlone c p x v) (last-recurs c p x v ok)) in
-    let span = subst (λ (r : Verdict). Means (stall c) (lastAlone c p y w) r) pass (verdict-means (stall c) (lastAlone c p y w) (last-recurs c p y w ok)) in
+last-undecided c p x y v w h undecided pass =
+    let none = subst (λ (r : Verdict). Means (stall c) (lastAlone c p x v) r) undecided (verdict-means (stall c) (lastAlone c p x v)) in
+    let span = subst (λ (r : Verdict). Means (stall c) (lastAlone c p y w) r) pass (verdict-means (stall c) (lastAlone c p y w)) in
     ⊎-elim (λ e. never-empty c p y w e)
     (λ j. none (j .1) (j .2 .within) (record { some = j .2 .busy .here .some; fits = omega (arith, j .2 .busy .here .fits, busier c p x y v w (j .1) h) })) span
 
@@ -255,11 +252,12 @@ module _ (g : ℕ) (p : Piece) (pos : 1 ≤ g) where
   pub next-below : (k y : ℕ) → y < k * g → k * g < p .budget → y / g * g < p .budget
   next-below k y h l = omega (arith, div-mul-le-self y g)
 
-  pub first-below : 1 ≤ p .budget → (p .budget - 1) / g * g < p .budget
-  first-below some = omega (arith, div-mul-le-self (p .budget - 1) g)
-
   pub multiple-some : (k : ℕ) → 1 ≤ k → 1 ≤ k * g
   multiple-some k h = omega (arith, mul-le-mul-right g h)
+
+  -- a budget of 0 has no multiple below it
+  pub first-below : 1 ≤ (p .budget - 1) / g → (p .budget - 1) / g * g < p .budget
+  first-below some = omega (arith, div-mul-le-self (p .budget - 1) g, multiple-some ((p .budget - 1) / g) some)
 
 -- ---- from charged pieces to pieces
 

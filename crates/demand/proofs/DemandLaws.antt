@@ -1,5 +1,5 @@
 -- Laws of the demand: but for the blocking it does not fall as t grows, and a length l more adds at most the busy sum of l.
--- Only a period that is not 0 is asked for, so that a window may be longer than its period.
+-- That it does not fall holds for every period. The bound asks only for a period that is not 0, so that a window may be longer than its period.
 -- Assumes nothing.
 --
 --   jobs-due-none, -some, -mono, -add
@@ -24,7 +24,7 @@ use Rattle.demand.specs.Busy.{Least, busyLoad, busySum}
 use Rattle.demand.proofs.Division.{div-mono, div-add-ceil, ceil-mono, ceil-add, ceil-one-more}
 use Rattle.demand.proofs.Sums.{total-mono, total-add}
 
--- all that the laws ask of a piece
+-- all that the bound of a longer length asks of a piece
 pub record Recurs (q : Charged) : Type 0 where
   pub again : 1 ≤ q .period
 
@@ -38,12 +38,12 @@ pub jobs-due-some : (q : Charged) (t : ℕ) → q .window ≤ t + q .jitter → 
 unfolding jobsDue
 jobs-due-some q t late = simp (le-ltb _ _ late)
 
-pub jobs-due-mono : {q : Charged} → Recurs q → {t u : ℕ} → t ≤ u → jobsDue q t ≤ jobsDue q u
-jobs-due-mono {q} pos {t} {u} h = elim (decLt (t + q .jitter) (q .window)) [
+pub jobs-due-mono : (q : Charged) {t u : ℕ} → t ≤ u → jobsDue q t ≤ jobsDue q u
+jobs-due-mono q {t} {u} h = elim (decLt (t + q .jitter) (q .window)) [
   | yes early ↦ rw (jobs-due-none q t early) zero-le
   | no late ↦
       rw (jobs-due-some q t (omega arith), jobs-due-some q u (omega arith))
-      (omega (arith, div-mono {a = t + q .jitter - q .window} {b = u + q .jitter - q .window} {k = q .period} (pos .again) (omega arith)))
+      (omega (arith, div-mono (q .period) {a = t + q .jitter - q .window} {b = u + q .jitter - q .window} (omega arith)))
 ]
 
 -- within l more at most ⌈l / T⌉ more
@@ -56,7 +56,7 @@ jobs-due-add {q} pos s l = elim (decLt (s + l + q .jitter) (q .window)) [
         (omega (
           arith,
           ceil-one-more (s + l + q .jitter - q .window) {k = q .period} (pos .again),
-          ceil-mono {a = s + l + q .jitter - q .window + 1} {b = l} {k = q .period} (pos .again) (omega arith),
+          ceil-mono (q .period) {a = s + l + q .jitter - q .window + 1} {b = l} (omega arith),
         ))
     | no after ↦
         let e : s + l + q .jitter - q .window ≡ s + q .jitter - q .window + l = omega arith in
@@ -67,22 +67,22 @@ jobs-due-add {q} pos s l = elim (decLt (s + l + q .jitter) (q .window)) [
 
 -- ---- one piece
 
-pub interrupts-mono : {q : Charged} → Recurs q → {t u : ℕ} → t ≤ u → interrupts q t ≤ interrupts q u
+pub interrupts-mono : (q : Charged) {t u : ℕ} → t ≤ u → interrupts q t ≤ interrupts q u
 unfolding interrupts
-interrupts-mono {q} pos {t} {u} h =
+interrupts-mono q {t} {u} h =
     omega (
       arith,
-      mul-le-mul-right (q .release) (ceil-mono {a = t + q .jitter} {b = u + q .jitter} {k = q .period} (pos .again) (omega arith)),
-      mul-le-mul-right (q .ipi) (ceil-mono {a = t + q .ipij} {b = u + q .ipij} {k = q .period} (pos .again) (omega arith)),
+      mul-le-mul-right (q .release) (ceil-mono (q .period) {a = t + q .jitter} {b = u + q .jitter} (omega arith)),
+      mul-le-mul-right (q .ipi) (ceil-mono (q .period) {a = t + q .ipij} {b = u + q .ipij} (omega arith)),
     )
 
-pub load-mono : {q : Charged} → Recurs q → {t u : ℕ} → t ≤ u → load t q ≤ load u q
+pub load-mono : (q : Charged) {t u : ℕ} → t ≤ u → load t q ≤ load u q
 unfolding load
-load-mono {q} pos h = omega (arith, mul-le-mul-right (q .charge) (jobs-due-mono pos h), interrupts-mono pos h)
+load-mono q h = omega (arith, mul-le-mul-right (q .charge) (jobs-due-mono q h), interrupts-mono q h)
 
-pub busy-load-mono : {q : Charged} → Recurs q → {t u : ℕ} → t ≤ u → busyLoad t q ≤ busyLoad u q
+pub busy-load-mono : (q : Charged) {t u : ℕ} → t ≤ u → busyLoad t q ≤ busyLoad u q
 unfolding busyLoad
-busy-load-mono {q} pos h = mul-le-mul-right (q .charge + q .release + q .ipi) (ceil-mono (pos .again) h)
+busy-load-mono q h = mul-le-mul-right (q .charge + q .release + q .ipi) (ceil-mono (q .period) h)
 
 ceil-shifted : (s l j : ℕ) {k : ℕ} → 0 < k → ceil (s + l + j) k ≤ ceil (s + j) k + ceil l k
 ceil-shifted s l j pos =
@@ -124,36 +124,36 @@ pub demand-above : (b : ℕ) (qs : List Charged) (t : ℕ) → largestWindow qs 
 unfolding demand blocking
 demand-above b qs t h = simp (le-ltb t (largestWindow qs) h) (omega arith)
 
-module _ (qs : List Charged) (recurs : Each Recurs qs) where
+module _ (qs : List Charged) where
   pub loads-mono : {t u : ℕ} → t ≤ u → total (load t) qs ≤ total (load u) qs
-  loads-mono {t} {u} h = total-mono Recurs (load t) (load u) (λ q pos. load-mono pos h) qs recurs
+  loads-mono {t} {u} h = total-mono (load t) (load u) (λ q. load-mono q h) qs
 
   pub interrupts-all-mono : {t u : ℕ} → t ≤ u → total (λ q. interrupts q t) qs ≤ total (λ q. interrupts q u) qs
-  interrupts-all-mono {t} {u} h = total-mono Recurs (λ q. interrupts q t) (λ q. interrupts q u) (λ q pos. interrupts-mono pos h) qs recurs
+  interrupts-all-mono {t} {u} h = total-mono (λ q. interrupts q t) (λ q. interrupts q u) (λ q. interrupts-mono q h) qs
 
-  pub demand-add : (b s l : ℕ) → demand b qs (s + l) ≤ demand b qs s + busySum qs l
+  pub demand-mono : (b : ℕ) {t u : ℕ} → t ≤ u → (largestWindow qs ≤ u → largestWindow qs ≤ t) → demand b qs t ≤ demand b qs u
+  unfolding demand
+  demand-mono b {t} {u} h side = omega (arith, blocking-kept b qs h side, loads-mono h)
+
+  pub demand-add : Each Recurs qs → (b s l : ℕ) → demand b qs (s + l) ≤ demand b qs s + busySum qs l
   unfolding demand busySum
-  demand-add b s l =
+  demand-add recurs b s l =
       omega (
         arith,
         blocking-falls b qs {t = s} {u = s + l} (omega arith),
         total-add Recurs (load (s + l)) (load s) (busyLoad l) (λ q pos. load-add pos s l) qs recurs,
       )
 
-  pub demand-mono : (b : ℕ) {t u : ℕ} → t ≤ u → (largestWindow qs ≤ u → largestWindow qs ≤ t) → demand b qs t ≤ demand b qs u
-  unfolding demand
-  demand-mono b {t} {u} h side = omega (arith, blocking-kept b qs h side, loads-mono h)
-
 -- ---- live lengths
 
-live-before : (qs : List Charged) → Each Recurs qs → {t u : ℕ} → t ≤ u → Some (λ q. 1 ≤ jobsDue q t) qs → Some (λ q. 1 ≤ jobsDue q u) qs
-live-before [] recurs h live = live
-live-before (q ∷ qs) recurs {t} {u} h live =
-    ⊎-elim (λ here. _⊎_.inl (omega (arith, jobs-due-mono (recurs .0) h))) (λ there. _⊎_.inr (live-before qs (recurs .1) h there)) live
+live-before : (qs : List Charged) {t u : ℕ} → t ≤ u → Some (λ q. 1 ≤ jobsDue q t) qs → Some (λ q. 1 ≤ jobsDue q u) qs
+live-before [] h live = live
+live-before (q ∷ qs) {t} {u} h live =
+    ⊎-elim (λ here. _⊎_.inl (omega (arith, jobs-due-mono q h))) (λ there. _⊎_.inr (live-before qs h there)) live
 
-pub live-mono : (qs : List Charged) → Each Recurs qs → {t u : ℕ} → t ≤ u → Live qs t → Live qs u
+pub live-mono : (qs : List Charged) {t u : ℕ} → t ≤ u → Live qs t → Live qs u
 unfolding Live
-live-mono qs recurs h live = live-before qs recurs h live
+live-mono qs h live = live-before qs h live
 
 due-from : (q : Charged) (t : ℕ) → q .window - q .jitter ≤ t → 1 ≤ jobsDue q t
 due-from q t late = omega (arith, jobs-due-some q t (omega arith))

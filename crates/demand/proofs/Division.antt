@@ -1,7 +1,7 @@
 -- Floor and ceiling by a variable divisor, and bounds of products.
 -- Assumes nothing.
 --
---   div-mono, ceil-mono      neither falls
+--   div-mono, ceil-mono      neither falls, whatever the divisor is
 --   div-add-ceil             ⌊(a + b) / k⌋ ≤ ⌊a / k⌋ + ⌈b / k⌉
 --   ceil-add                 ⌈(a + b) / k⌉ ≤ ⌈a / k⌉ + ⌈b / k⌉
 --   ceil-one-more            1 + ⌊a / k⌋ = ⌈(a + 1) / k⌉
@@ -10,13 +10,16 @@
 --   ceil-whole, -between     ⌈a / k⌉ at a multiple of k, and past one
 --   prod-le                  a product of bounded numbers is bounded
 use mathlib.Core.Path.{_≡_}
-use Prim.Native.Nat.{ℕ, _+_, _*_, _-_, _/_, _≤_, _<_}
-use native.Mathlib.Nat.{div-mul-le-self, le-div-iff-mul-le, div-lt-iff-lt-mul, lt-div-mul-add, mul-le-mul, mul-le-mul-left, add-div-right, div-eq-of-lt-le}
+use Prim.Native.Nat.{ℕ, zero, suc, _+_, _*_, _-_, _/_, _≤_, _<_, zero-le}
+use native.Mathlib.Nat.{div-zero, div-mul-le-self, le-div-iff-mul-le, div-lt-iff-lt-mul, lt-div-mul-add, add-div-right, div-eq-of-lt-le}
+use native.Mathlib.Nat.{mul-le-mul, mul-le-mul-left}
 use native.Mathlib.Omega.{arith}
 use Rattle.demand.specs.Demand.{ceil}
 
-pub div-mono : {a b k : ℕ} → 0 < k → a ≤ b → a / k ≤ b / k
-div-mono {a} {b} {k} pos h = le-div-iff-mul-le pos .1 (omega (arith, div-mul-le-self a k))
+-- a quotient by 0 is 0, so no divisor is left out
+pub div-mono : (k : ℕ) {a b : ℕ} → a ≤ b → a / k ≤ b / k
+div-mono zero {a} h = rw (div-zero a) zero-le
+div-mono (suc k) {a} h = le-div-iff-mul-le {k = suc k} (omega arith) .1 (omega (arith, div-mul-le-self a (suc k)))
 
 pub div-add-ceil : (a b : ℕ) {k : ℕ} → 0 < k → (a + b) / k ≤ a / k + ceil b k
 unfolding ceil
@@ -25,9 +28,9 @@ div-add-ceil a b {k} pos =
     div-lt-iff-lt-mul pos .1 (omega (arith, lt-div-mul-add {a = a} pos, lt-div-mul-add {a = b + (k - 1)} pos)) in
     omega arith
 
-pub ceil-mono : {a b k : ℕ} → 0 < k → a ≤ b → ceil a k ≤ ceil b k
+pub ceil-mono : (k : ℕ) {a b : ℕ} → a ≤ b → ceil a k ≤ ceil b k
 unfolding ceil
-ceil-mono pos h = div-mono pos (omega arith)
+ceil-mono k h = div-mono k (omega arith)
 
 pub ceil-add : (a b : ℕ) {k : ℕ} → 0 < k → ceil (a + b) k ≤ ceil a k + ceil b k
 unfolding ceil

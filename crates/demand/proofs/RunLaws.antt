@@ -44,7 +44,7 @@ use Rattle.demand.proofs.RecordLaws.{records-length, records-at, kind-o
 use Rattle.demand.proofs.Sums.{each-front, each-last}
 use Rattle.demand.proofs.ChargeLaws.{all-countable, core-ranged}
 use Rattle.demand.proofs.SizeLaws.{first-bad-good, first-bad-here, first-bad-none, first-bad-there, first-bad-behind}
-use Rattle.demand.proofs.SizeLaws.{first-bad-front, sized-costs-true, sized-is, sized-costs-is}
+use Rattle.demand.proofs.SizeLaws.{first-bad-front, sized-exact, costs-exact}
 
 -- the length of an array of structs that is a field of a struct, for `search`
 pub length-mapped : (X Y : Type 0) (f : X → Y) (l : List X) (n : ℕ) → length (map f l) ≡ n → length l ≡ n
@@ -92,7 +92,7 @@ unfolding checkRun
 check-taken c n ps e = few (leb n runMost) refl e
   where
     all : (b : Bool) → sizedCosts c ≡ b → n ≤ runMost → cond b (badRecord (firstBad 1 (take n ps))) (Bad BadCosts) ≡ Fine → Taken c n ps
-    all true good h f = record { few = h; costs = sized-costs-true c good; each = first-bad-none 0 (take n ps) (bad-record-fine (firstBad 1 (take n ps)) f) }
+    all true good h f = record { few = h; costs = costs-exact c .0 good; each = first-bad-none 0 (take n ps) (bad-record-fine (firstBad 1 (take n ps)) f) }
     all false bad h f = let z : _≡_ {A = ℕ} 0 1 = cc in absurd (omega arith)
 
     few : (b : Bool) → leb n runMost ≡ b → cond b (cond (sizedCosts c) (badRecord (firstBad 1 (take n ps))) (Bad BadCosts)) (Bad TooMany) ≡ Fine → Taken c n ps
@@ -107,7 +107,7 @@ module _ (c : Costs) (n i : ℕ) (few : n ≤ runMost) (here : i < n) where
       → checkRun c n ps ≡ Bad (BadRecord (i + 1))
   check-place ps d room fine bad =
       let ok = check-taken c i ps fine in
-      let good : sizedCosts c ≡ true = sym (sized-costs-is c true (ok .costs)) in
+      let good : sizedCosts c ≡ true = costs-exact c .1 (ok .costs) in
       let before : Each Sized (take i (take n ps)) = rw (take-take i n ps (omega arith)) (ok .each) in
       let there : firstBad 1 (take n ps) ≡ i + 1 =
       first-bad-there 1 i (take n ps) d (omega (arith, length-take-le n ps room)) before (rw (getD-take n ps i d here) bad) ∙ add-comm 1 i in
@@ -133,7 +133,7 @@ module _ (c : Costs) (n : ℕ) (ps : List Piece) (p : Piece) (few : n < runMost)
   behind-last fine =
       let ok = check-taken c n ps fine in
       let long : 1 + length (take n ps) ≡ n + 1 = omega (arith, length-take-le n ps room) in
-      check-behind (sym (sized-costs-is c true (ok .costs))) ∙ rw (first-bad-behind 1 (take n ps) p (ok .each), long)
+      check-behind (costs-exact c .1 (ok .costs)) ∙ rw (first-bad-behind 1 (take n ps) p (ok .each), long)
 
   pub behind-fine : checkRun c n ps ≡ Fine → sized p ≡ true → checkRun c (n + 1) (take n ps ++ (p ∷ [])) ≡ Fine
   behind-fine fine good = behind-last fine ∙ rw good
@@ -195,10 +195,10 @@ split-bad k s r e = rw e
 
 first-bad-all : (k : ℕ) (ps : List Piece) → Each Sized ps → firstBad k ps ≡ 0
 first-bad-all k [] ok = refl
-first-bad-all k (p ∷ ps) ok = rw (sym (sized-is p true (ok .0))) (first-bad-all (k + 1) ps (ok .1))
+first-bad-all k (p ∷ ps) ok = rw (sized-exact p .1 (ok .0)) (first-bad-all (k + 1) ps (ok .1))
 
 pub taken-check : (c : Costs) (n : ℕ) (ps : List Piece) → Taken c n ps → checkRun c n ps ≡ Fine
-taken-check c n ps ok = check-records c n ps (ok .few) (sym (sized-costs-is c true (ok .costs))) ∙ ap badRecord (first-bad-all 1 (take n ps) (ok .each))
+taken-check c n ps ok = check-records c n ps (ok .few) (costs-exact c .1 (ok .costs)) ∙ ap badRecord (first-bad-all 1 (take n ps) (ok .each))
 
 pub taken-answer : (c : Costs) (n : ℕ) (ps : List Piece) → Taken c n ps → answerOf c n ps ≡ Judged (verdictOf c (take n ps))
 taken-answer c n ps ok = answer-fine c n ps (taken-check c n ps ok)

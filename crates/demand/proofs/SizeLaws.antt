@@ -1,14 +1,18 @@
 -- The size rules as tests say what they say as records.
 -- Assumes nothing.
 --
+--   tells-exact                 a test that tells a rule holds exactly where the rule does
+--   tells-bounds                several bounds at once
+--   sized-exact, costs-exact    the two size rules hold exactly where their tests do
 --   sized-is, sized-costs-is, countable-is, ranged-is     a test that tells the rule is the definition's
 --   window-most, budget-recurs  what else the size rule says: a window is at most 1,000,000, a budget at most its period
 --   first-bad-none              no bad place: all records are within the sizes
 --   first-bad-good, -here       one record more
 --   first-bad-there             the first bad record is told by its place
 --   first-bad-behind, first-bad-front   one record behind all: it is looked at last
-use mathlib.Core.Path.{_≡_, refl, sym, subst, _∙_}
-use mathlib.Core.Bool.{Bool, true, false, cond, _&&_}
+use mathlib.Core.Path.{_≡_, refl, sym, _∙_}
+use mathlib.Core.Bool.{Bool, true, false, cond, _&&_, true≢false}
+use mathlib.Core.Logic.{_↔_}
 use mathlib.Core.List.{List, [], _∷_, _++_}
 use Prim.Native.Nat.{ℕ, zero, suc, _+_, _≤_, _<_}
 use native.Mathlib.Nat.{add-zero, not-suc-le-zero, le-of-suc-le-suc}
@@ -35,7 +39,11 @@ module _ (P : Type 0) where
   tells-unique false true p q = absurd (p q)
   tells-unique false false p q = refl
 
-  tells-as : (Q : Type 0) → (P → Q) → (Q → P) → (a : Bool) → Tells P a → Tells Q a
+  pub tells-exact : (a : Bool) → Tells P a → (a ≡ true) ↔ P
+  tells-exact true p = ((λ e. p), λ h. refl)
+  tells-exact false p = ((λ e. absurd (true≢false (sym e))), λ h. absurd (p h))
+
+  pub tells-as : (Q : Type 0) → (P → Q) → (Q → P) → (a : Bool) → Tells P a → Tells Q a
   tells-as Q to from true p = to p
   tells-as Q to from false p = λ q. p (from q)
 
@@ -53,15 +61,15 @@ tells-leb m n = look (leb m n) refl
     look false e = λ h. omega (arith, leb-false m n e)
 
 -- several bounds, each a pair of numbers
-abbrev Bounds : List (ℕ × ℕ) → Type 0
+abbrev pub Bounds : List (ℕ × ℕ) → Type 0
 Bounds [] = Unit {0}
 Bounds (b ∷ bs) = Bounds bs × (b .0 ≤ b .1)
 
-abbrev bounds : List (ℕ × ℕ) → Bool
+abbrev pub bounds : List (ℕ × ℕ) → Bool
 bounds [] = true
 bounds (b ∷ bs) = bounds bs && leb (b .0) (b .1)
 
-tells-bounds : (bs : List (ℕ × ℕ)) → Tells (Bounds bs) (bounds bs)
+pub tells-bounds : (bs : List (ℕ × ℕ)) → Tells (Bounds bs) (bounds bs)
 tells-bounds [] = tt
 tells-bounds (b ∷ bs) = tells-both (Bounds bs) (b .0 ≤ b .1) (bounds bs) (leb (b .0) (b .1)) (tells-bounds bs) (tells-leb (b .0) (b .1))
 
@@ -153,11 +161,11 @@ sized-is p b tells = tells-unique (Sized p) b (sized p) tells (tells-sized p)
 pub sized-costs-is : (c : Costs) (b : Bool) → Tells (SizedCosts c) b → b ≡ sizedCosts c
 sized-costs-is c b tells = tells-unique (SizedCosts c) b (sizedCosts c) tells (tells-costs c)
 
-pub sized-true : (p : Piece) → sized p ≡ true → Sized p
-sized-true p e = subst (λ (b : Bool). Tells (Sized p) b) e (tells-sized p)
+pub sized-exact : (p : Piece) → (sized p ≡ true) ↔ Sized p
+sized-exact p = tells-exact (Sized p) (sized p) (tells-sized p)
 
-pub sized-costs-true : (c : Costs) → sizedCosts c ≡ true → SizedCosts c
-sized-costs-true c e = subst (λ (b : Bool). Tells (SizedCosts c) b) e (tells-costs c)
+pub costs-exact : (c : Costs) → (sizedCosts c ≡ true) ↔ SizedCosts c
+costs-exact c = tells-exact (SizedCosts c) (sizedCosts c) (tells-costs c)
 
 pub window-most : (p : Piece) → Sized p → p .window ≤ timeMost
 window-most p ok = omega arith
@@ -185,7 +193,7 @@ first-bad-none k (p ∷ ps) e =
   where
     look : (b : Bool) → sized p ≡ b → (firstBad (suc (suc k)) ps ≡ 0 → Each Sized ps) → (sized p ≡ true → firstBad (suc (suc k)) ps ≡ 0)
         → (sized p ≡ false → suc k ≡ 0) → Each Sized (p ∷ ps)
-    look true good rest more never = (sized-true p good, rest (more good))
+    look true good rest more never = (sized-exact p .0 good, rest (more good))
     look false bad rest more never = absurd (omega (arith, never bad))
 
 pub first-bad-there : (k i : ℕ) (ps : List Piece) (d : Piece) → i < length ps → Each Sized (take i ps) → sized (getD ps i d) ≡ false → firstBad k ps ≡ k + i
@@ -193,13 +201,13 @@ first-bad-there k i [] d inside ok bad = absurd (not-suc-le-zero inside)
 first-bad-there k zero (p ∷ ps) d inside ok bad = first-bad-step k p ps false bad ∙ sym (add-zero k)
 first-bad-there k (suc i) (p ∷ ps) d inside ok bad =
     let e : k + 1 + i ≡ k + suc i = omega arith in
-    first-bad-step k p ps true (sym (sized-is p true (ok .0))) ∙ (first-bad-there (k + 1) i ps d (le-of-suc-le-suc inside) (ok .1) bad ∙ e)
+    first-bad-step k p ps true (sized-exact p .1 (ok .0)) ∙ (first-bad-there (k + 1) i ps d (le-of-suc-le-suc inside) (ok .1) bad ∙ e)
 
 pub first-bad-behind : (k : ℕ) (ps : List Piece) (p : Piece) → Each Sized ps → firstBad k (ps ++ (p ∷ [])) ≡ cond (sized p) 0 (k + length ps)
 first-bad-behind k [] p ok = rw add-zero
 first-bad-behind k (q ∷ ps) p ok =
     let e : k + 1 + length ps ≡ k + suc (length ps) = omega arith in
-    first-bad-step k q (ps ++ (p ∷ [])) true (sym (sized-is q true (ok .0))) ∙ (first-bad-behind (k + 1) ps p (ok .1) ∙ rw e)
+    first-bad-step k q (ps ++ (p ∷ [])) true (sized-exact q .1 (ok .0)) ∙ (first-bad-behind (k + 1) ps p (ok .1) ∙ rw e)
 
 pub first-bad-front : (k j : ℕ) (ps qs : List Piece) → firstBad (suc k) ps ≡ suc j → firstBad (suc k) (ps ++ qs) ≡ suc j
 first-bad-front k j [] qs e = absurd (omega arith)

@@ -1,17 +1,16 @@
 -- Laws of the split: document 01, "The C=D walk". What another crate cites of it is here.
 -- Assumes nothing.
 --
---   split-means           the executable definition satisfies the meaning
+--   split-exact           the executable definition gives exactly the split that is meant, whatever the pieces are
 --   split-none            a grain of 0 has no multiples that count
 --   split-unique          two splits that satisfy the meaning coincide
---   split-is              so what satisfies the meaning is the executable definition's
 --   split-parts           an allowed split leaves two pieces within the sizes, and both verdicts pass
 --   tight-is-budget       with costs, J and P zero the tight window is x itself, which is C=D
 --   tight-first-budget    the same of the executable definition
 use mathlib.Core.Path.{_≡_, refl, sym, ap, _∙_, subst}
 use mathlib.Core.Bool.{Bool, true, false, cond}
 use mathlib.Core.List.{List, [], _∷_, _++_}
-use mathlib.Core.Logic.{_⊎_}
+use mathlib.Core.Logic.{_⊎_, _↔_}
 use Prim.Native.Nat.{ℕ, zero, suc, _+_, _*_, _-_, _/_, _≤_, _<_}
 use native.Mathlib.Nat.{mul-le-mul-right, zero-mul, mul-zero, div-zero}
 use native.Mathlib.Decide.{decLt}
@@ -34,7 +33,7 @@ use Rattle.demand.specs.Verdict.{Means, verdict, verdictOf}
 use Rattle.demand.specs.Split.{pieceOf, firstPiece, lastPiece, tightOn, Splits, passes, tightFirst, bothPass, splitting, greatestSplit}
 use Rattle.demand.specs.ways.ChargedSplit.{lastAlone, Tight, Fits, NoneAbove, Chosen, TightIn}
 use Rattle.demand.proofs.DemandLaws.{Recurs, jobs-due-some, demand-above}
-use Rattle.demand.proofs.ChargeLaws.{when-le, late-jitter-le, core-recurs, all-countable}
+use Rattle.demand.proofs.ChargeLaws.{when-le, late-jitter-le}
 use Rattle.demand.proofs.SizeLaws.{tells-both}
 use Rattle.demand.proofs.BusyLaws.{least-unique}
 use Rattle.demand.proofs.VerdictLaws.{verdict-means, passes-forever}
@@ -58,11 +57,11 @@ module _ (c : Costs) (ps : List Piece) (p : Piece) where
       (passes (verdictOf c (ps ++ (firstPiece p x w ∷ [])))) (passes (verdictOf c (lastPiece c p x w ∷ [])))
       (passes-tells (verdictOf c (ps ++ (firstPiece p x w ∷ [])))) (passes-tells (verdictOf c (lastPiece c p x w ∷ [])))
 
-  first-in : Each Sized ps → Sized p → (x : ℕ) → TightIn c (coreOf c ps) p x (tightFirst c ps p x)
+  first-in : (x : ℕ) → TightIn c (coreOf c ps) p x (tightFirst c ps p x)
   unfolding tightFirst
-  first-in each ok x = rw (with-core c ps p x 0) (window-in c (coreOf c ps) p x (core-recurs c ps (all-countable ps each)) ok 0)
+  first-in x = rw (with-core c ps p x 0) (window-in c (coreOf c ps) p x 0)
 
-module _ (c : Costs) (g : ℕ) (ps : List Piece) (p : Piece) (each : Each Sized ps) (ok : Sized p) (pos : 1 ≤ g) where
+module _ (c : Costs) (g : ℕ) (ps : List Piece) (p : Piece) (pos : 1 ≤ g) where
   none-step : (k : ℕ) → NoneAbove c g (coreOf c ps) p (suc k * g) → ((u : ℕ) → Fits c (coreOf c ps) p (suc k * g) u → ⊥) → NoneAbove c g (coreOf c ps) p (k * g)
   none-step k above none z u high =
       let x = suc k * g in
@@ -70,10 +69,10 @@ module _ (c : Costs) (g : ℕ) (ps : List Piece) (p : Piece) (each : Each Sized 
       let below : (suc k * g - 1) / g ≤ k = omega (arith, next-less g p pos (suc k) (suc k * g - 1) (omega arith)) in
       none-next g p pos c (coreOf c ps) x (x - 1) above (none-one c (coreOf c ps) p x some none) z u (omega (arith, mul-le-mul-right g below))
 
-  chosen : (k : ℕ) → k * g < p .budget → NoneAbove c g (coreOf c ps) p (k * g) → Chosen c g (coreOf c ps) p (splitting c g ps p k)
+  chosen : (k : ℕ) → (1 ≤ k → k * g < p .budget) → NoneAbove c g (coreOf c ps) p (k * g) → Chosen c g (coreOf c ps) p (splitting c g ps p k)
   chosen zero less above = subst (λ (x : ℕ). NoneAbove c g (coreOf c ps) p x) (zero-mul g) above
   chosen (suc k) less above =
-      look (tightFirst c ps p (suc k * g)) (first-in c ps p each ok (suc k * g)) (λ none. chosen k (omega (arith, less)) (none-step k above none))
+      look (tightFirst c ps p (suc k * g)) (first-in c ps p (suc k * g)) (λ none. chosen k (λ some. omega (arith, less (omega arith))) (none-step k above none))
     where
       both : (t w : ℕ) → Tight c (coreOf c ps) p (suc k * g) t → p .jitter + t + 1 ≤ p .window → w ≡ p .jitter + t → (b : Bool)
           → Tells ((verdictOf c (ps ++ (firstPiece p (suc k * g) w ∷ [])) ≡ Passes) × (verdictOf c (lastPiece c p (suc k * g) w ∷ []) ≡ Passes)) b
@@ -81,7 +80,7 @@ module _ (c : Costs) (g : ℕ) (ps : List Piece) (p : Piece) (each : Each Sized 
           → Chosen c g (coreOf c ps) p (elim b [ true ↦ Cut (suc k * g) w | false ↦ splitting c g ps p k ])
       both t w tight room at true pass more = (
         t,
-        record { times = suc k; multiple = refl; some = multiple-some g p pos (suc k) (omega arith); less = less },
+        record { times = suc k; multiple = refl; some = multiple-some g p pos (suc k) (omega arith); less = less (omega arith) },
         record {
           tight = tight;
           room = room;
@@ -109,7 +108,7 @@ module _ (c : Costs) (g : ℕ) (ps : List Piece) (p : Piece) (each : Each Sized 
   unfolding greatestSplit
   some-means =
       splits-of c ps p g (splitting c g ps p ((p .budget - 1) / g))
-      (chosen ((p .budget - 1) / g) (first-below g p pos (ok .budget-some)) (none-first g p pos c (coreOf c ps)))
+      (chosen ((p .budget - 1) / g) (first-below g p pos) (none-first g p pos c (coreOf c ps)))
 
 -- a grain of 0 has no multiples that count
 pub split-none : (c : Costs) (ps : List Piece) (p : Piece) → greatestSplit c 0 ps p ≡ Nowhere
@@ -119,9 +118,9 @@ split-none c ps p = rw (div-zero (p .budget - 1))
 none-means : (c : Costs) (ps : List Piece) (p : Piece) → Splits c 0 ps p (greatestSplit c 0 ps p)
 none-means c ps p = rw (split-none c ps p) (λ x t k allowed. omega (arith, k .some, k .multiple, mul-zero (k .times)))
 
-pub split-means : (c : Costs) (g : ℕ) (ps : List Piece) (p : Piece) → Each Sized ps → Sized p → Splits c g ps p (greatestSplit c g ps p)
-split-means c zero ps p each ok = none-means c ps p
-split-means c (suc g) ps p each ok = some-means c (suc g) ps p each ok (omega arith)
+split-means : (c : Costs) (g : ℕ) (ps : List Piece) (p : Piece) → Splits c g ps p (greatestSplit c g ps p)
+split-means c zero ps p = none-means c ps p
+split-means c (suc g) ps p = some-means c (suc g) ps p (omega arith)
 
 -- ---- the meaning has one answer
 
@@ -144,8 +143,11 @@ split-unique c g ps p (Cut x w) Nowhere a b = absurd (b x (a .0) (a .1 .candidat
 split-unique c g ps p Nowhere (Cut y v) a b = absurd (a y (b .0) (b .1 .candidate) (b .1 .allowed))
 split-unique c g ps p Nowhere Nowhere a b = refl
 
-pub split-is : (c : Costs) (g : ℕ) (ps : List Piece) (p : Piece) → Each Sized ps → Sized p → (s : Split) → Splits c g ps p s → s ≡ greatestSplit c g ps p
-split-is c g ps p each ok s splits = split-unique c g ps p s (greatestSplit c g ps p) splits (split-means c g ps p each ok)
+pub split-exact : (c : Costs) (g : ℕ) (ps : List Piece) (p : Piece) (s : Split) → (greatestSplit c g ps p ≡ s) ↔ Splits c g ps p s
+split-exact c g ps p s = (
+  (λ e. subst (Splits c g ps p) e (split-means c g ps p)),
+  λ h. split-unique c g ps p (greatestSplit c g ps p) s (split-means c g ps p) h,
+)
 
 -- ---- what a split leaves
 
@@ -184,7 +186,7 @@ unfolding lastAlone
 last-inside c p x w ok pass =
     let q = charged c (lastPiece c p x w) in
     let recurs : Each Recurs (q ∷ []) = last-recurs c p x w ok in
-    let means : Means (stall c) (q ∷ []) Passes = subst (λ (v : Verdict). Means (stall c) (q ∷ []) v) pass (verdict-means (stall c) (q ∷ []) recurs) in
+    let means : Means (stall c) (q ∷ []) Passes = subst (λ (v : Verdict). Means (stall c) (q ∷ []) v) pass (verdict-means (stall c) (q ∷ [])) in
     omega (arith, passes-forever (stall c) (q ∷ []) recurs means (q .window) (alone-live q), alone-demand (stall c) q, last-window c p x w, last-charge c p x w)
 
 first-size : (p : Piece) (x w : ℕ) → Sized p → 1 ≤ x → x ≤ w → w < p .window → Sized (firstPiece p x w)
@@ -227,9 +229,8 @@ cut-parts c g ps p costs ok x w splits =
       last-passes = last-verdict c ps p x w ∙ there;
     }
 
-pub split-parts : (c : Costs) (g : ℕ) (ps : List Piece) (p : Piece) → SizedCosts c → Each Sized ps → Sized p → (x w : ℕ)
-    → greatestSplit c g ps p ≡ Cut x w → Parts c ps p x w
-split-parts c g ps p costs each ok x w e = cut-parts c g ps p costs ok x w (subst (λ (s : Split). Splits c g ps p s) e (split-means c g ps p each ok))
+pub split-parts : (c : Costs) (g : ℕ) (ps : List Piece) (p : Piece) → SizedCosts c → Sized p → (x w : ℕ) → greatestSplit c g ps p ≡ Cut x w → Parts c ps p x w
+split-parts c g ps p costs ok x w e = cut-parts c g ps p costs ok x w (split-exact c g ps p (Cut x w) .0 e)
 
 -- ---- C=D
 
@@ -269,10 +270,9 @@ tight-is-budget c ps p free x some = record {
   none-below = λ k below holds. omega (arith, holds .fits, free-sum c ps p free x k);
 }
 
-pub tight-first-budget : (c : Costs) (ps : List Piece) (p : Piece) → Free c p → Each Sized ps → Sized p → (x : ℕ) → 1 ≤ x
-    → x + 1 ≤ p .window → tightFirst c ps p x ≡ At x
-tight-first-budget c ps p free each ok x some room =
-    look (tightFirst c ps p x) (first-in c ps p each ok x)
+pub tight-first-budget : (c : Costs) (ps : List Piece) (p : Piece) → Free c p → (x : ℕ) → 1 ≤ x → x + 1 ≤ p .window → tightFirst c ps p x ≡ At x
+tight-first-budget c ps p free x some room =
+    look (tightFirst c ps p x) (first-in c ps p x)
     (subst (λ (f : ℕ → ℕ). Least (Holds f) x) (sum-core c ps p x) (tight-is-budget c ps p free x some))
   where
     look : (f : Found) → TightIn c (coreOf c ps) p x f → Tight c (coreOf c ps) p x x → f ≡ At x

@@ -20,10 +20,10 @@ module _ (P : Charged → Type 0) (f g h : Charged → ℕ) (step : (q : Charged
   total-add [] ok = zero-le
   total-add (q ∷ qs) ok = omega (arith, step q (ok .0), total-add qs (ok .1))
 
-module _ (P : Charged → Type 0) (f g : Charged → ℕ) (step : (q : Charged) → P q → f q ≤ g q) where
-  pub total-mono : (qs : List Charged) → Each P qs → total f qs ≤ total g qs
-  total-mono [] ok = zero-le
-  total-mono (q ∷ qs) ok = omega (arith, step q (ok .0), total-mono qs (ok .1))
+module _ (f g : Charged → ℕ) (step : (q : Charged) → f q ≤ g q) where
+  pub total-mono : (qs : List Charged) → total f qs ≤ total g qs
+  total-mono [] = zero-le
+  total-mono (q ∷ qs) = omega (arith, step q, total-mono qs)
 
 pub total-snoc : (f : Charged → ℕ) (qs : List Charged) (q : Charged) → total f (qs ++ (q ∷ [])) ≡ total f qs + f q
 total-snoc f [] q = omega arith

@@ -17,7 +17,6 @@ use Prim.Native.Nat.{ℕ, zero, suc, _≤_, _<_}
 use native.Mathlib.Omega.{arith}
 use borrow.Author.Tests.{leb-false, lt-leb, ltb-false, le-ltb, eqb-false, ne-eqb}
 use lib.Dec.{leb, ltb, eqb}
-use Rattle.demand.specs.Sizes.{Tells}
 use Rattle.demand.specs.Tables.{Rule, Not, Gives, Kept}
 
 -- ---- at most one answer
@@ -166,9 +165,10 @@ breaks-kept b good bad = true≢false (sym good ∙ b .fails bad)
 pub breaks-test : (t : Bool) → Breaks (t ≡ false) t
 breaks-test t = record { breaks = λ e. e; fails = λ e. e }
 
-pub breaks-not : (P : Type 0) (t : Bool) → Tells P t → Breaks (Not P) t
-breaks-not P true so = record { breaks = λ e. absurd (true≢false e); fails = λ never. absurd (never so) }
-breaks-not P false so = record { breaks = λ e. so; fails = λ never. refl }
+-- a test that holds exactly where P does
+pub breaks-exact : {P : Type 0} (t : Bool) → (t ≡ true) ↔ P → Breaks (Not P) t
+breaks-exact true exact = record { breaks = λ e. absurd (true≢false e); fails = λ never. absurd (never (exact .0 refl)) }
+breaks-exact false exact = record { breaks = λ e so. true≢false (sym (exact .1 so)); fails = λ never. refl }
 
 pub breaks-negated : {P : Type 0} (t : Bool) → Breaks P t → Breaks (Not P) (not t)
 breaks-negated true b = record { breaks = λ e. breaks-kept b refl; fails = λ never. refl }

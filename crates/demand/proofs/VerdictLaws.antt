@@ -31,11 +31,11 @@ use Rattle.demand.proofs.BusyLaws.{least-le, least-unique, busy-length-
 
 -- ---- the descent
 
-pub calm-more : (b : ℕ) (qs : List Charged) → Each Recurs qs → (t low end : ℕ) → demand b qs t ≤ low
+pub calm-more : (b : ℕ) (qs : List Charged) (t low end : ℕ) → demand b qs t ≤ low
     → (largestWindow qs ≤ t → largestWindow qs ≤ low) → Calm b qs (t + 1) end → Calm b qs low end
-calm-more b qs recurs t low end fits side calm u from below = elim (decLt t u) [
+calm-more b qs t low end fits side calm u from below = elim (decLt t u) [
   | yes above ↦ calm u (omega arith) below
-  | no under ↦ omega (arith, demand-mono qs recurs b {t = u} {u = t} (omega arith) (λ w. omega (arith, side w)))
+  | no under ↦ omega (arith, demand-mono qs b {t = u} {u = t} (omega arith) (λ w. omega (arith, side w)))
 ]
 
 -- ---- what a span says
@@ -93,10 +93,10 @@ span-means : (b : ℕ) (qs : List Charged) (a : ℕ) → Least (Live qs) a → (
 span-means b qs a start (At l) found = says-means b qs a l (record { start = start; busy = found .0; within = found .1 }) (scan b qs a l) (scan-says b qs a l)
 span-means b qs a start Nothing none = none
 
-pub verdict-means : (b : ℕ) (qs : List Charged) → Each Recurs qs → Means b qs (verdict b qs)
+pub verdict-means : (b : ℕ) (qs : List Charged) → Means b qs (verdict b qs)
 unfolding verdict
-verdict-means b [] recurs = _⊎_.inl refl
-verdict-means b (q ∷ qs) recurs = span-means b (q ∷ qs) (leastLive (q ∷ qs)) (least-live-least q qs) (busyLength (q ∷ qs)) (busy-length-finds (q ∷ qs) recurs)
+verdict-means b [] = _⊎_.inl refl
+verdict-means b (q ∷ qs) = span-means b (q ∷ qs) (leastLive (q ∷ qs)) (least-live-least q qs) (busyLength (q ∷ qs)) (busy-length-finds (q ∷ qs))
 
 -- where there is a piece the span decides
 pub verdict-span : (b : ℕ) (qs : List Charged) → 1 ≤ length qs → verdict b qs ≡ overSpan b qs (leastLive qs) (busyLength qs)

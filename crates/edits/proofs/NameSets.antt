@@ -24,7 +24,7 @@ use Rattle.task.specs.declared.Name.{Name}
 use Rattle.task.specs.declared.Task.{Task}
 use Rattle.task.specs.Names.{formed, sameName}
 use Rattle.task.specs.Tasks.{wholePiece, placeOf, past, taskAt, rule, faultOf, firstFault}
-use Rattle.task.proofs.NameLaws.{same-name-exact, same-name-refl}
+use Rattle.task.proofs.NameLaws.{same-name-exact}
 use Rattle.task.proofs.TaskLaws.{fault-free, rule-fine, or-else-fine}
 use Rattle.walks.specs.Lists.{Lacks, Apart}
 use Rattle.walks.proofs.KeyLaws.{Exact, same-other}
@@ -36,11 +36,11 @@ Unnamed n ts = Lacks (λ t. t .name) n ts
 -- ---- two names
 
 pub name-exact : Exact byName
-name-exact = record { told = same-name-exact; untold = differ }
+name-exact = record { told = λ a b. same-name-exact a b .0; untold = differ }
   where
     differ : (a b : Name) → sameName a b ≡ false → a ≡ b → ⊥
     differ a b never same =
-        let twice : true ≡ false = sym (same-name-refl b) ∙ (ap (λ (x : Name). sameName x b) (sym same) ∙ never) in
+        let twice : true ≡ false = sym (same-name-exact a b .1 same) ∙ never in
         let z : _≡_ {A = ℕ} 0 1 = cc in
         omega arith
 
@@ -145,5 +145,5 @@ place-name k n (t ∷ ts) some apart (suc i) low = by (sameName n (t .name)) ref
     by true told r =
         ne-eqb (k + suc i) k (λ z. omega arith)
         ∙ sym (differ-name n (taskAt ts i .name) (λ same. each-get (λ u. u .name ≡ t .name → ⊥) ts (apart .0) i past (le-of-suc-le-suc low)
-        (sym same ∙ same-name-exact n (t .name) told)))
+        (sym same ∙ same-name-exact n (t .name) .0 told)))
     by false told r = (let e : k + suc i ≡ k + 1 + i = omega arith in ap (λ (z : ℕ). eqb z (placeOf (k + 1) n ts)) e ∙ r)

@@ -16,13 +16,13 @@ use Rattle.demand.specs.Sizes.{sized}
 use Rattle.demand.specs.Tables.{Rule, Not, Gives, Kept}
 use Rattle.demand.proofs.RefusalLaws.{sized-breaks}
 use Rattle.demand.proofs.TableLaws.{Comes, none, comes-kept, comes-refused, comes-front, comes-behind}
-use Rattle.demand.proofs.TableLaws.{Breaks, breaks-test, breaks-negated, breaks-twice, breaks-ltb}
+use Rattle.demand.proofs.TableLaws.{Breaks, breaks-negated, breaks-twice, breaks-ltb}
 use Rattle.task.specs.declared.Name.{Name}
 use Rattle.task.specs.declared.Task.{Task}
 use Rattle.task.specs.Names.{formed}
 use Rattle.task.specs.Tasks.{tasksMost, wholePiece, placeOf, stateFault}
 use Rattle.task.specs.Refusals.{TaskNamed}
-use Rattle.task.proofs.RefusalLaws.{comes-rule, place-breaks, state-comes}
+use Rattle.task.proofs.RefusalLaws.{comes-rule, form-breaks, place-breaks, state-comes}
 use Rattle.walks.specs.Edits.{add, withdraw, retime, edited}
 use Rattle.plan.specs.declared.Plan.{Plan}
 use Rattle.plan.specs.declared.Reply.{Reply}
@@ -44,17 +44,17 @@ known-breaks n ts = breaks-negated (eqb (placeOf 1 n ts) 0) (place-breaks (λ (t
 pub own-comes : (e : TaskEdit) (ts : List Task) → Comes (ownTable e ts) (editFault e ts) 0
 unfolding ownTable editFault
 own-comes (add t) ts =
-    comes-rule (formed (t .name)) (breaks-test (formed (t .name))) 7
+    comes-rule (formed (t .name)) (form-breaks (t .name)) 7
     (comes-rule (sized (wholePiece (t .times))) (sized-breaks (wholePiece (t .times))) 2
     (comes-rule (not (named (t .name) ts)) (free-breaks (t .name) ts) 3
     (comes-rule (ltb (length ts) tasksMost) (breaks-ltb (length ts) tasksMost) 5
     none)))
 own-comes (withdraw n) ts =
-    comes-rule (formed n) (breaks-test (formed n)) 7
+    comes-rule (formed n) (form-breaks n) 7
     (comes-rule (named n ts) (known-breaks n ts) 4
     none)
 own-comes (retime t) ts =
-    comes-rule (formed (t .name)) (breaks-test (formed (t .name))) 7
+    comes-rule (formed (t .name)) (form-breaks (t .name)) 7
     (comes-rule (sized (wholePiece (t .times))) (sized-breaks (wholePiece (t .times))) 2
     (comes-rule (named (t .name) ts) (known-breaks (t .name) ts) 4
     none))

@@ -3,15 +3,13 @@
 --
 --   ownTable e ts      the edit's own rules, for the tasks ts that are held
 --   editTable e s      the rules of the state s, then the edit's own, then the walk's over the tasks after it
-use mathlib.Core.Path.{_≡_}
-use mathlib.Core.Bool.{false}
 use mathlib.Core.List.{List, [], _∷_, _++_}
 use Prim.Native.Nat.{_≤_}
 use lib.ListN.{length}
 use Rattle.demand.specs.Sizes.{Sized}
 use Rattle.demand.specs.Tables.{Rule, _if_carrying_, Not}
 use Rattle.task.specs.declared.Task.{Task}
-use Rattle.task.specs.Names.{formed}
+use Rattle.task.specs.Names.{Formed}
 use Rattle.task.specs.Tasks.{tasksMost, wholePiece}
 use Rattle.task.specs.Refusals.{TaskNamed, stateTable}
 use Rattle.walks.specs.Edits.{add, withdraw, retime, edited}
@@ -21,17 +19,17 @@ use Rattle.edits.specs.Edits.{byName, TaskEdit, tasksHeld}
 
 unfoldable pub ownTable : TaskEdit → List Task → List Rule
 ownTable (add t) ts =
-    8 if (formed (t .name) ≡ false) carrying 0
+    8 if Not (Formed (t .name)) carrying 0
     ∷ 3 if Not (Sized (wholePiece (t .times))) carrying 0
     ∷ 4 if TaskNamed (t .name) ts carrying 0
     ∷ 6 if (tasksMost ≤ length ts) carrying 0
     ∷ []
 ownTable (withdraw n) ts =
-    8 if (formed n ≡ false) carrying 0
+    8 if Not (Formed n) carrying 0
     ∷ 5 if Not (TaskNamed n ts) carrying 0
     ∷ []
 ownTable (retime t) ts =
-    8 if (formed (t .name) ≡ false) carrying 0
+    8 if Not (Formed (t .name)) carrying 0
     ∷ 3 if Not (Sized (wholePiece (t .times))) carrying 0
     ∷ 5 if Not (TaskNamed (t .name) ts) carrying 0
     ∷ []

@@ -12,7 +12,7 @@ use borrow.Author.Tests.{eqb-true, leb-true}
 use lib.Dec.{leb, eqb}
 use lib.ListN.{length}
 use Rattle.task.specs.Names.{between, sameBytes}
-use Rattle.task.proofs.NameLaws.{bytes-exact}
+use Rattle.task.proofs.NameLaws.{same-bytes-exact}
 use Rattle.lines.specs.declared.Line.{Line}
 use Rattle.lines.specs.declared.Deed.{Deed}
 use Rattle.lines.specs.Lines.{bytesOf, tab, upTo, beyond, isDigit, every, unled, isNumber, digitsMost, nameOf, isName}
@@ -110,15 +110,15 @@ order-long l long =
         → sameBytes (upTo tab l) (bytesOf "list") ≡ s
         → orderForm (cond a Deed.Add (cond w Deed.Withdraw (cond r Deed.Retime (cond s Deed.List Deed.Other)))) (beyond tab l) ≡ noOrder
     by-word true w r s e ew er es =
-        let word : length (upTo tab l) ≡ 3 = ap length (bytes-exact (upTo tab l) (bytesOf "add") e) in
+        let word : length (upTo tab l) ≡ 3 = ap length (same-bytes-exact (upTo tab l) (bytesOf "add") .0 e) in
         timed-long Deed.Add (beyond tab l) (omega (arith, line-span l, word))
     by-word false true r s ea e er es =
-        let word : length (upTo tab l) ≡ 8 = ap length (bytes-exact (upTo tab l) (bytesOf "withdraw") e) in
+        let word : length (upTo tab l) ≡ 8 = ap length (same-bytes-exact (upTo tab l) (bytesOf "withdraw") .0 e) in
         withdraw-long (beyond tab l) (omega (arith, line-span l, word))
     by-word false false true s ea ew e es =
-        let word : length (upTo tab l) ≡ 6 = ap length (bytes-exact (upTo tab l) (bytesOf "retime") e) in
+        let word : length (upTo tab l) ≡ 6 = ap length (same-bytes-exact (upTo tab l) (bytesOf "retime") .0 e) in
         timed-long Deed.Retime (beyond tab l) (omega (arith, line-span l, word))
     by-word false false false true ea ew er e =
-        let word : length (upTo tab l) ≡ 4 = ap length (bytes-exact (upTo tab l) (bytesOf "list") e) in
+        let word : length (upTo tab l) ≡ 4 = ap length (same-bytes-exact (upTo tab l) (bytesOf "list") .0 e) in
         list-long (beyond tab l) (omega (arith, line-span l, word))
     by-word false false false false ea ew er es = refl

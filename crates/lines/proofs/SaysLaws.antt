@@ -15,7 +15,7 @@ use lib.Dec.{leb}
 use lib.ListN.{length}
 use Rattle.task.specs.declared.Name.{Name}
 use Rattle.task.specs.Names.{sameBytes, spelt, formed, nameMost}
-use Rattle.task.proofs.NameLaws.{bytes-exact, spelt-long}
+use Rattle.task.proofs.NameLaws.{same-bytes-exact, spelt-long}
 use Rattle.lines.specs.declared.Word.{Word}
 use Rattle.lines.specs.declared.Line.{Line}
 use Rattle.lines.specs.Lines.{bytesOf, tab, upTo, beyond, fields, nameOf, isName}
@@ -44,13 +44,13 @@ module _ (f : List ℕ) where
   part-word : wordOf f ≡ Word.Part → f ≡ bytesOf "part"
   unfolding wordOf
   part-word e =
-      bytes-exact f (bytesOf "part") (third-word (sameBytes f (bytesOf "machine")) (sameBytes f (bytesOf "cost"))
+      same-bytes-exact f (bytesOf "part") .0 (third-word (sameBytes f (bytesOf "machine")) (sameBytes f (bytesOf "cost"))
       (sameBytes f (bytesOf "part")) (sameBytes f (bytesOf "fit")) e)
 
   fit-word : wordOf f ≡ Word.Fit → f ≡ bytesOf "fit"
   unfolding wordOf
   fit-word e =
-      bytes-exact f (bytesOf "fit") (fourth-word (sameBytes f (bytesOf "machine")) (sameBytes f (bytesOf "cost"))
+      same-bytes-exact f (bytesOf "fit") .0 (fourth-word (sameBytes f (bytesOf "machine")) (sameBytes f (bytesOf "cost"))
       (sameBytes f (bytesOf "part")) (sameBytes f (bytesOf "fit")) e)
 
 -- ---- lines

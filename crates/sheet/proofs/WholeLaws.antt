@@ -135,7 +135,7 @@ found Q k n (p ∷ ps) each some = by-test (sameName n (p .name)) refl (λ h. fo
   where
     by-test : (t : Bool) → sameName n (p .name) ≡ t
         → ((partPlace (k + 1) n ps ≡ 0 → ⊥) → Found Q n ps) → (cond t k (partPlace (k + 1) n ps) ≡ 0 → ⊥) → Found Q n (p ∷ ps)
-    by-test true e h some = record { part = p; holds = each .0; same = same-name-exact n (p .name) e; is = rw e }
+    by-test true e h some = record { part = p; holds = each .0; same = same-name-exact n (p .name) .0 e; is = rw e }
     by-test false e h some =
         let f = h some in
         record { part = f .part; holds = f .holds; same = f .same; is = rw e (f .is) }

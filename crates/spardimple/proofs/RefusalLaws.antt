@@ -45,11 +45,11 @@ use Rattle.spardimple.proofs.PaperLaws.{paper-cases, paper-carries}
 -- ---- what is told, by a table
 
 -- t tells the refusals that the table gives, and no other
-abbrev Refuses : List Rule → Told → Type 0
-Refuses rules t = (n k : ℕ) → (t ≡ refusal n k) ↔ Gives rules n k
+abbrev TellsRefusals : List Rule → Told → Type 0
+TellsRefusals rules t = (n k : ℕ) → (t ≡ refusal n k) ↔ Gives rules n k
 
 -- a refusal that comes
-refusal-told : {rules : List Rule} {n k : ℕ} → Comes rules n k → (n ≡ 0 → ⊥) → Refuses rules (refusal n k)
+refusal-told : {rules : List Rule} {n k : ℕ} → Comes rules n k → (n ≡ 0 → ⊥) → TellsRefusals rules (refusal n k)
 refusal-told {rules} {n} {k} comes some m d = (
   (λ is. (let which : 100 + n ≡ 100 + m = ap (λ (t : Told). t .which) is in
       comes-gives comes m d .0 (omega arith, ap (λ (t : Told). t .carries) is, some))),
@@ -58,7 +58,7 @@ refusal-told {rules} {n} {k} comes some m d = (
 
 -- and 0 is told exactly where it is kept
 abbrev Answers : List Rule → Told → Type 0
-Answers rules t = Refuses rules t × ((t .which ≡ 0) ↔ Kept rules)
+Answers rules t = TellsRefusals rules t × ((t .which ≡ 0) ↔ Kept rules)
 
 refusal-answers : {rules : List Rule} {n k : ℕ} → Comes rules n k → (n ≡ 0 → ⊥) → Answers rules (refusal n k)
 refusal-answers comes some = (refusal-told comes some, ((λ e. absurd (omega arith)), (λ kept. absurd (some (comes-kept comes .1 kept)))))
@@ -73,7 +73,7 @@ accepted-answers comes c = (
 )
 
 -- and then by the number
-number-refuses : (rules : List Rule) (t : Told) → t .carries < 2 ^ 32 → Refuses rules t → (n k : ℕ) → k < 2 ^ 32
+number-refuses : (rules : List Rule) (t : Told) → t .carries < 2 ^ 32 → TellsRefusals rules t → (n k : ℕ) → k < 2 ^ 32
     → (number t ≡ 2 ^ 32 * (100 + n) + k) ↔ Gives rules n k
 unfolding number
 number-refuses rules t small by n k fits = ((λ e. by n k .0 (told-one t (refusal n k) small fits e)), (λ gives. ap number (by n k .1 gives)))
@@ -123,10 +123,10 @@ module _ (rs cs : List ℕ) where
     unfolding lentTable
     lent-kept = ((λ kept. ((λ odd. odd records), ((λ odd. odd costs), kept))), (λ kept. kept .1 .1))
 
-  reply-refuses : Refuses (lentTable rs cs) (toldReply (replyOf rs cs))
-  reply-refuses = lent-cases (λ r. Refuses (lentTable rs cs) (toldReply r)) (λ comes. refusal-told comes (λ e. omega arith)) by
+  reply-refuses : TellsRefusals (lentTable rs cs) (toldReply (replyOf rs cs))
+  reply-refuses = lent-cases (λ r. TellsRefusals (lentTable rs cs) (toldReply r)) (λ comes. refusal-told comes (λ e. omega arith)) by
     where
-      by : length rs % 28 ≡ 0 → length cs ≡ 36 → Refuses (lentTable rs cs) (told answered)
+      by : length rs % 28 ≡ 0 → length cs ≡ 36 → TellsRefusals (lentTable rs cs) (told answered)
       by records costs n k =
           let refused = record-refused (costsSpelt cs) (length (piecesOf rs)) (piecesOf rs) n k in
           ((λ is. lent-gives records costs n k .0 (refused .0 is)), (λ gives. refused .1 (lent-gives records costs n k .1 gives)))

@@ -111,7 +111,7 @@ largest-fits (q ∷ qs) ok = omega (arith, ok .0 .window-fits, largest-fits qs (
 
 -- r is q but for the charge and the window
 module _ (qs : List Charged) (q r : Charged) (period : r .period ≡ q .period) (release : r .release ≡ q .release) (ipi : r .ipi ≡ q .ipi)
-    (rs : List Charged) (laid : rs ≡ qs ++ (r ∷ [])) (recurs : Each Recurs rs) where
+    (rs : List Charged) (laid : rs ≡ qs ++ (r ∷ [])) where
   busy-last : (l : ℕ) → busySum rs l ≡ busySum qs l + ceil l (q .period) * (r .charge + q .release + q .ipi)
   unfolding busySum busyLoad
   busy-last l = rw (laid, sym period, sym release, sym ipi) (total-snoc (busyLoad l) qs r)
@@ -119,7 +119,7 @@ module _ (qs : List Charged) (q r : Charged) (period : r .period ≡ q .period) 
   pub unsettled-from : busyLength rs ≡ Nothing → Unsettled qs q (r .charge)
   unsettled-from none y more settles =
       let l = settles .at in
-      subst (λ (f : Found). Finds (busySum rs) busyMost f) none (busy-length-finds rs recurs) l (settles .within)
+      subst (λ (f : Found). Finds (busySum rs) busyMost f) none (busy-length-finds rs) l (settles .within)
       (record { some = settles .some; fits = omega (arith, busy-last l, settles .fits, mul-le-mul-left (ceil l (q .period)) (charges more)) })
     where
       charges : r .charge ≤ y → r .charge + q .release + q .ipi ≤ y + q .release + q .ipi
@@ -129,7 +129,7 @@ module _ (qs : List Charged) (q r : Charged) (period : r .period ≡ q .period) 
   passes-settles b pass =
       ⊎-elim (λ none. absurd (some-one none))
       (λ j. record { at = j .1; some = j .2 .busy .here .some; within = j .2 .within; fits = omega (arith, busy-last (j .1), j .2 .busy .here .fits) })
-      (subst (λ (v : Verdict). Means b rs v) pass (verdict-means b rs recurs))
+      (subst (λ (v : Verdict). Means b rs v) pass (verdict-means b rs))
     where
       some-one : rs ≡ [] → ⊥
       some-one none = let e : length rs ≡ length qs + 1 = rw (laid, length-append) refl in omega (arith, e, ap (λ (l : List Charged). length l) none)
@@ -213,8 +213,8 @@ module _ (b : ℕ) (qs rs : List Charged) (q : Charged) (laid : rs ≡ qs ++ (q 
     refuted : (t : ℕ) → leastLive rs ≤ t → t < demand b rs t → verdict b (qs ++ (q ∷ [])) ≡ Passes → ⊥
     refuted t from over pass =
         let whole : verdict b rs ≡ Passes = rw laid pass in
-        let means = subst (λ (w : Verdict). Means b rs w) whole (verdict-means b rs recurs) in
-        omega (arith, passes-forever b rs recurs means t (live-mono rs recurs {t = leastLive rs} {u = t} from (least-live-some rs some-laid .here)))
+        let means = subst (λ (w : Verdict). Means b rs w) whole (verdict-means b rs) in
+        omega (arith, passes-forever b rs recurs means t (live-mono rs {t = leastLive rs} {u = t} from (least-live-some rs some-laid .here)))
 
     -- an overloaded length past the least live one
     pub bound-own : (a k t : ℕ) → leastLive rs ≤ a → a + k ≤ timeMost → scan b rs a k ≡ Overloaded t → Bounds b qs q (Falls t)

@@ -18,10 +18,8 @@ use Rattle.demand.specs.declared.Found.{Found}
 use Rattle.demand.specs.declared.Found.the-variants.{Nothing}
 use Rattle.verdicts.specs.declared.Sum.the-variants.{Interrupts}
 use Rattle.splits.specs.declared.monotone_search.Probe.the-variants.{Window}
-use Rattle.demand.specs.Sizes.{Each}
 use Rattle.demand.specs.Busy.{Finds, leastHolding}
-use Rattle.splits.specs.ways.MonotoneSearch.{ShowsIf, Refuses, Lowered}
-use Rattle.demand.proofs.DemandLaws.{Recurs}
+use Rattle.splits.specs.ways.MonotoneSearch.{ShowsIf, ProbeRefuses, Lowered}
 use Rattle.verdicts.proofs.ChargedArrayLaws.{asked, asked-mono}
 use Rattle.demand.proofs.BusyLaws.{least-holding-finds}
 
@@ -57,10 +55,10 @@ nearer true low m high l h above below low-is high-is = (omega arith, omega arit
 nearer false low m high l h above below low-is high-is = (omega arith, omega arith)
 
 module _ (qs : List Charged) (base top : ℕ) where
-  pub climbed-none : Each Recurs qs → (m : ℕ) → Nothing ≡ leastHolding (asked Interrupts (base + m) qs) top → Refuses qs (Window base top) m
-  climbed-none recurs m none =
+  pub climbed-none : (m : ℕ) → Nothing ≡ leastHolding (asked Interrupts (base + m) qs) top → ProbeRefuses qs (Window base top) m
+  climbed-none m none =
       subst (λ (r : Found). Finds (asked Interrupts (base + m) qs) top r) (sym none)
-      (least-holding-finds (asked Interrupts (base + m) qs) (asked-mono Interrupts (base + m) qs recurs) top)
+      (least-holding-finds (asked Interrupts (base + m) qs) (asked-mono Interrupts (base + m) qs) top)
 
-  pub late-more : (m z : ℕ) → m ≤ z → Refuses qs (Window base top) m → Refuses qs (Window base top) z
+  pub late-more : (m z : ℕ) → m ≤ z → ProbeRefuses qs (Window base top) m → ProbeRefuses qs (Window base top) z
   late-more m z more late t within holds = late t within (record { some = holds .some; fits = omega (arith, holds .fits) })

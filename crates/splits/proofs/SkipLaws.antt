@@ -38,7 +38,7 @@ use Rattle.demand.specs.Split.{lateJitter, pieceOf, firstPiece, lastPiece}
 use Rattle.verdicts.specs.MostFitting.{beside}
 use Rattle.splits.specs.ways.ChargeBounds.{FitsFrom, Caps, Stalled, Settles, Bounds}
 use Rattle.verdicts.specs.Laid.{term}
-use Rattle.splits.specs.ways.MonotoneSearch.{Refuses, Lowered}
+use Rattle.splits.specs.ways.MonotoneSearch.{ProbeRefuses, Lowered}
 use Rattle.splits.specs.ways.SplitSearch.{Weighs, Steps, Misses, Skips, Hopeless, Ends, Starts}
 use Rattle.demand.specs.ways.ChargedSplit.{withFirst, lastAlone, tightBeside, Tight, Fits, TightIn}
 use Rattle.demand.proofs.SizeLaws.{window-most}
@@ -57,7 +57,7 @@ use Rattle.splits.proofs.SplitSearchLaws.{step-skips, step-done, calls-
 
 -- a verdict that passes covers every live length
 forever : (b : ℕ) (rs : List Charged) → Each Recurs rs → verdict b rs ≡ Passes → (u : ℕ) → Live rs u → demand b rs u ≤ u
-forever b rs recurs pass u live = passes-forever b rs recurs (subst (λ (v : Verdict). Means b rs v) pass (verdict-means b rs recurs)) u live
+forever b rs recurs pass u live = passes-forever b rs recurs (subst (λ (v : Verdict). Means b rs v) pass (verdict-means b rs)) u live
 
 -- ---- the tight window
 
@@ -65,40 +65,39 @@ module _ (c : Costs) (qs : List Charged) (p : Piece) where
   pub tight-fits : (x : ℕ) {t : ℕ} → Tight c qs p x t → stall c + (x + extra c p) + calls c qs p t ≤ t
   tight-fits x {t} tight = omega (arith, tight .here .fits, tight-parts c qs p x t)
 
-  module _ (recurs : Each Recurs qs) (ok : Sized p) where
-    -- for less it is shorter by no less
-    pub tight-shorter : (x y : ℕ) {t u : ℕ} → 1 ≤ y → y ≤ x → Tight c qs p x t → Tight c qs p y u → u + (x - y) ≤ t
-    tight-shorter x y {t} {u} some less long short =
-        let holds = least-le short (t - (x - y)) (record {
-          some = omega (arith, tight-fits x long);
-          fits =
-              rw (tight-parts c qs p y (t - (x - y)))
-              (omega (arith, tight-fits x long, calls-mono c qs p recurs ok {t = t - (x - y)} {u = t} (omega arith)));
-        }) in
-        omega (arith, holds, tight-fits x long)
+  -- for less it is shorter by no less
+  pub tight-shorter : (x y : ℕ) {t u : ℕ} → 1 ≤ y → y ≤ x → Tight c qs p x t → Tight c qs p y u → u + (x - y) ≤ t
+  tight-shorter x y {t} {u} some less long short =
+      let holds = least-le short (t - (x - y)) (record {
+        some = omega (arith, tight-fits x long);
+        fits =
+            rw (tight-parts c qs p y (t - (x - y)))
+            (omega (arith, tight-fits x long, calls-mono c qs p {t = t - (x - y)} {u = t} (omega arith)));
+      }) in
+      omega (arith, holds, tight-fits x long)
 
-    pub tight-full : (x : ℕ) {t : ℕ} → 1 ≤ x → Tight c qs p x t → t ≡ stall c + (x + extra c p) + calls c qs p t
-    tight-full x {t} some tight = elim (decLt (stall c + (x + extra c p) + calls c qs p t) t) [
-      | yes slack ↦ absurd (tight .none-below (t - 1) (omega arith) (record {
-        some = omega arith;
-        fits = rw (tight-parts c qs p x (t - 1)) (omega (arith, calls-mono c qs p recurs ok {t = t - 1} {u = t} (omega arith)));
-      }))
-      | no full ↦ omega (arith, tight-fits x tight)
-    ]
+  pub tight-full : (x : ℕ) {t : ℕ} → 1 ≤ x → Tight c qs p x t → t ≡ stall c + (x + extra c p) + calls c qs p t
+  tight-full x {t} some tight = elim (decLt (stall c + (x + extra c p) + calls c qs p t) t) [
+    | yes slack ↦ absurd (tight .none-below (t - 1) (omega arith) (record {
+      some = omega arith;
+      fits = rw (tight-parts c qs p x (t - 1)) (omega (arith, calls-mono c qs p {t = t - 1} {u = t} (omega arith)));
+    }))
+    | no full ↦ omega (arith, tight-fits x tight)
+  ]
 
-    -- it is at least the budget and what a first piece without one waits for within length 1
-    pub tight-least : (x : ℕ) {t : ℕ} → Tight c qs p x t → x + tightBeside c qs p 0 1 ≤ t
-    tight-least x {t} tight = omega (arith, tight-fits x tight, tight-parts c qs p 0 1, calls-mono c qs p recurs ok {t = 1} {u = t} (tight .here .some))
+  -- it is at least the budget and what a first piece without one waits for within length 1
+  pub tight-least : (x : ℕ) {t : ℕ} → Tight c qs p x t → x + tightBeside c qs p 0 1 ≤ t
+  tight-least x {t} tight = omega (arith, tight-fits x tight, tight-parts c qs p 0 1, calls-mono c qs p {t = 1} {u = t} (tight .here .some))
 
 -- ---- a cap of the charge is one of the budget
 
 -- a shorter window has no fewer jobs due
-due-shorter : (q r : Charged) → Recurs q → r .window ≤ q .window → r .period ≡ q .period → r .jitter ≡ q .jitter → (u : ℕ) → jobsDue q u ≤ jobsDue r u
-due-shorter q r pos shorter period jitter u = elim (decLt (u + q .jitter) (q .window)) [
+due-shorter : (q r : Charged) → r .window ≤ q .window → r .period ≡ q .period → r .jitter ≡ q .jitter → (u : ℕ) → jobsDue q u ≤ jobsDue r u
+due-shorter q r shorter period jitter u = elim (decLt (u + q .jitter) (q .window)) [
   | yes early ↦ rw (jobs-due-none q u early) zero-le
   | no late ↦
       rw (jobs-due-some q u (omega arith), jobs-due-some r u (omega arith), period)
-      (omega (arith, div-mono {a = u + q .jitter - q .window} {b = u + r .jitter - r .window} {k = q .period} (pos .again) (omega arith)))
+      (omega (arith, div-mono (q .period) {a = u + q .jitter - q .window} {b = u + r .jitter - r .window} (omega arith)))
 ]
 
 some-last : (P : Charged → Type 0) (qs : List Charged) (q r : Charged) → (P q → P r) → Some P (qs ++ (q ∷ [])) → Some P (qs ++ (r ∷ []))
@@ -113,9 +112,9 @@ beside-le : (b : ℕ) (qs : List Charged) (q r : Charged) (f u : ℕ) → interr
     → beside b qs q f u ≤ beside b qs r f u
 beside-le b qs q r f u same more = omega (arith, beside-at b qs q f u, beside-at b qs r f u, mul-le-mul-right f more)
 
-first-due : (c : Costs) (p : Piece) → Sized p → (x y v w u : ℕ) → v ≤ w → jobsDue (charged c (firstPiece p x w)) u ≤ jobsDue (charged c (firstPiece p y v)) u
+first-due : (c : Costs) (p : Piece) (x y v w u : ℕ) → v ≤ w → jobsDue (charged c (firstPiece p x w)) u ≤ jobsDue (charged c (firstPiece p y v)) u
 unfolding charged firstPiece pieceOf
-first-due c p ok x y v w u shorter = due-shorter (charged c (firstPiece p x w)) (charged c (firstPiece p y v)) (first-recurs c p x w ok) shorter refl refl u
+first-due c p x y v w u shorter = due-shorter (charged c (firstPiece p x w)) (charged c (firstPiece p y v)) shorter refl refl u
 
 with-recurs : (c : Costs) (qs : List Charged) (p : Piece) (x w : ℕ) → Each Recurs qs → Sized p → Each Recurs (withFirst c qs p x w)
 with-recurs c qs p x w recurs ok = with-each Recurs c qs p x w recurs (first-recurs c p x w ok)
@@ -124,10 +123,10 @@ with-some : (c : Costs) (qs : List Charged) (p : Piece) (x w : ℕ) → 1 ≤ le
 unfolding withFirst
 with-some c qs p x w = rw length-append (omega arith)
 
-with-shorter : (c : Costs) (qs : List Charged) (p : Piece) → Sized p → (x y v w u : ℕ) → v ≤ w → Live (withFirst c qs p x w) u → Live (withFirst c qs p y v) u
+with-shorter : (c : Costs) (qs : List Charged) (p : Piece) (x y v w u : ℕ) → v ≤ w → Live (withFirst c qs p x w) u → Live (withFirst c qs p y v) u
 unfolding withFirst
-with-shorter c qs p ok x y v w u shorter live =
-    live-shorter qs (charged c (firstPiece p x w)) (charged c (firstPiece p y v)) u (first-due c p ok x y v w u shorter) live
+with-shorter c qs p x y v w u shorter live =
+    live-shorter qs (charged c (firstPiece p x w)) (charged c (firstPiece p y v)) u (first-due c p x y v w u shorter) live
 
 with-beside : (c : Costs) (qs : List Charged) (p : Piece) (x w u : ℕ)
     → beside (stall c) qs (charged c (firstPiece p x w)) (x + extra c p) u ≤ demand (stall c) (withFirst c qs p x w) u
@@ -144,15 +143,15 @@ module _ (c : Costs) (qs : List Charged) (p : Piece) (recurs : Each Recurs qs) (
       let w = p .jitter + s in
       let r = charged c (firstPiece p y (p .jitter + s)) in
       let long =
-      live-mono (withFirst c qs p x v) (with-recurs c qs p x v recurs ok) {t = leastLive (withFirst c qs p x v)} {u = u} from
+      live-mono (withFirst c qs p x v) {t = leastLive (withFirst c qs p x v)} {u = u} from
       (least-live-some (withFirst c qs p x v) (with-some c qs p x v) .here) in
-      let live : Live (withFirst c qs p y w) u = with-shorter c qs p ok x y w v u wider long in
+      let live : Live (withFirst c qs p y w) u = with-shorter c qs p x y w v u wider long in
       let same : interrupts q u ≡ interrupts r u = first-interrupts c p x v u ∙ sym (first-interrupts c p y w u) in
       omega (
         arith,
         forever (stall c) (withFirst c qs p y w) (with-recurs c qs p y w recurs ok) (fits .here) u live,
         with-beside c qs p y w u,
-        beside-le (stall c) qs q r (y + extra c p) u same (first-due c p ok x y w v u wider),
+        beside-le (stall c) qs q r (y + extra c p) u same (first-due c p x y w v u wider),
       )
 
   pub with-least : (x w : ℕ) → leastLive (qs ++ (charged c (firstPiece p x w) ∷ [])) ≡ leastLive (withFirst c qs p x w)
@@ -175,7 +174,7 @@ module _ (c : Costs) (qs : List Charged) (p : Piece) (recurs : Each Recurs qs) (
       let same = alike x w z v in
       let settles =
       passes-settles qs (charged c (firstPiece p x w)) (charged c (firstPiece p z v)) (same .0) (same .1) (same .2) (withFirst c qs p z v)
-      (with-laid z v) (with-recurs c qs p z v recurs ok) (stall c) (fits .here) in
+      (with-laid z v) (stall c) (fits .here) in
       subst (λ (f : ℕ). Settles qs (charged c (firstPiece p x w)) f) (first-charge c p z v) settles
 
   pub step-capped : (x t w f k : ℕ) → 1 ≤ x → Tight c qs p x t → w ≡ p .jitter + t → k ≡ charged c (firstPiece p x w) .charge
@@ -184,7 +183,7 @@ module _ (c : Costs) (qs : List Charged) (p : Piece) (recurs : Each Recurs qs) (
       let e : k ≡ x + extra c p = charge ∙ first-charge c p x w in (
         omega (arith, bound .0),
         λ z u low high fits.
-            let shorter = tight-shorter c qs p recurs ok x z (omega arith) high tight (fits .tight) in
+            let shorter = tight-shorter c qs p x z (omega arith) high tight (fits .tight) in
             let holds = holding-below x z u w fits (omega arith) in
             omega (arith, bound .1 (z + extra c p) (omega arith) (rw (with-least x w) holds) (settles-below x w z u fits)),
       )
@@ -237,9 +236,9 @@ module _ (q r : Charged) (k : ℕ) (window : r .window ≡ q .window + k) where
   ]
 
   -- a piece that is overloaded by more than the slack, and a longer one whose window gains no more than its charge and the slack
-  moved-over : Recurs r → r .period ≡ q .period → r .jitter ≡ q .jitter → (b u d s : ℕ) → interrupts q u ≡ interrupts r u
+  moved-over : r .period ≡ q .period → r .jitter ≡ q .jitter → (b u d s : ℕ) → interrupts q u ≡ interrupts r u
       → r .charge ≡ q .charge + d → k ≤ d + s → Live (q ∷ []) u → u + s < demand b (q ∷ []) u → demand b (r ∷ []) (u + k) ≤ u + k → ⊥
-  moved-over pos period jitter b u d s same more gain live over pass =
+  moved-over period jitter b u d s same more gain live over pass =
       let due : 1 ≤ jobsDue q u = alone-due q u live in
       let jobs : jobsDue r (u + k) * r .charge ≡ jobsDue q u * q .charge + jobsDue q u * d = rw (due-moved period jitter u, more) (omega arith) in
       omega (
@@ -249,7 +248,7 @@ module _ (q r : Charged) (k : ℕ) (window : r .window ≡ q .window + k) where
         blocking-moved b u,
         jobs,
         mul-le-mul-right d due,
-        interrupts-mono pos {t = u} {u = u + k} (omega arith),
+        interrupts-mono r {t = u} {u = u + k} (omega arith),
       )
 
 last-interrupts : (c : Costs) (p : Piece) (x y v w u : ℕ) → interrupts (charged c (lastPiece c p x v)) u ≡ interrupts (charged c (lastPiece c p y w)) u
@@ -267,7 +266,7 @@ last-hopeless c p ok x w u live fits inside s more y v less shorter gain pass =
     let window : r .window ≡ q .window + (w - v) = omega arith in
     let charge : r .charge ≡ q .charge + (x - y) = omega (arith, last-charge c p x w, last-charge c p y v) in
     let due : 1 ≤ jobsDue r (u + (w - v)) = rw (due-moved q r (w - v) window refl refl u) (alone-due q u live) in
-    moved-over q r (w - v) window (recurs .0) refl refl (stall c) u (x - y) s (last-interrupts c p x y w v u) charge (omega arith) live more
+    moved-over q r (w - v) window refl refl (stall c) u (x - y) s (last-interrupts c p x y w v u) charge (omega arith) live more
     (forever (stall c) (r ∷ []) recurs pass (u + (w - v)) (alone-live r (u + (w - v)) due))
 
 last-one : (c : Costs) (p : Piece) (x w : ℕ) → 1 ≤ length (lastAlone c p x w)
@@ -276,7 +275,7 @@ last-one c p x w = omega arith
 
 module _ (c : Costs) (p : Piece) (ok : Sized p) (x w u : ℕ) (over : verdict (stall c) (lastAlone c p x w) ≡ Overloaded u) where
   over-means : Means (stall c) (lastAlone c p x w) (Overloaded u)
-  over-means = subst (λ (v : Verdict). Means (stall c) (lastAlone c p x w) v) over (verdict-means (stall c) (lastAlone c p x w) (last-recurs c p x w ok))
+  over-means = subst (λ (v : Verdict). Means (stall c) (lastAlone c p x w) v) over (verdict-means (stall c) (lastAlone c p x w))
 
   -- an overloaded length is within what a judged length can be
   pub over-within : u ≤ lengthMost
@@ -295,7 +294,7 @@ module _ (c : Costs) (p : Piece) (ok : Sized p) (x w u : ℕ) (over : verdict (s
         last-hopeless c p ok x w a (subst (λ (t : ℕ). Live (lastAlone c p x w) t) (sym least)
         (least-live-some (lastAlone c p x w) (last-one c p x w) .here)) fits inside s (omega arith)
     | no less ↦
-        last-hopeless c p ok x w u (live-mono (lastAlone c p x w) (last-recurs c p x w ok) (over-means .3 .from) (over-means .2 .start .here))
+        last-hopeless c p ok x w u (live-mono (lastAlone c p x w) (over-means .3 .from) (over-means .2 .start .here))
         fits inside s (omega (arith, over-means .3 .over))
   ]
 
@@ -307,7 +306,7 @@ module _ (c : Costs) (qs : List Charged) (p : Piece) where
 
   -- the high end of the budgets, one less
   pub misses-lowered : (base b k : ℕ) → base ≡ b + k → b ≡ stall c → k ≡ charged c (firstPiece p 0 0) .charge → (rs : List Charged)
-      → rs ≡ withFirst c qs p 0 0 → (top x h : ℕ) → 1 ≤ x → Lowered (Refuses rs (Window base top)) x h → Misses c qs p top (h - 1) x
+      → rs ≡ withFirst c qs p 0 0 → (top x h : ℕ) → 1 ≤ x → Lowered (ProbeRefuses rs (Window base top)) x h → Misses c qs p top (h - 1) x
   misses-lowered base b k parts stalled charge rs laid top x h some low = (
     omega (arith, low .most, low .some some),
     λ z u above below tight. elim (decLt top u) [
@@ -326,34 +325,33 @@ module _ (c : Costs) (qs : List Charged) (p : Piece) where
   pub skips-late : (top r x : ℕ) → top ≡ p .window - 1 - p .jitter → Misses c qs p top r x → Skips c qs p r x
   skips-late top r x is misses = (misses .0, λ z u low high fits. omega (arith, misses .1 z u low high (fits .tight), fits .room))
 
-  module _ (recurs : Each Recurs qs) (ok : Sized p) where
-    -- the last pieces of all are overloaded whose tight window is past the end
-    pub skips-last : (x t w s : ℕ) → Tight c qs p x t → w ≡ p .jitter + t → Hopeless c p x w s → (rs : List Charged)
-        → rs ≡ withFirst c qs p 0 0 → (i k end r : ℕ) → i ≡ total (term Interrupts t) rs → k ≡ i - s → Lowered (Refuses rs (Calls k)) t end
-        → Misses c qs p (end - 1) r x → Skips c qs p r x
-    skips-last x t w s tight at hopeless rs laid i k end r calls-are few low misses = (
-      misses .0,
-      λ z u above below fits.
-          let late : end - 1 < u = misses .1 z u above below (fits .tight) in
-          let shorter = tight-shorter c qs p recurs ok x z (omega arith) (omega arith) tight (fits .tight) in
-          let more : calls c qs p t ≤ calls c qs p u + s =
-          ⊎-elim (λ same. omega (arith, calls-mono c qs p recurs ok {t = t} {u = u} (omega (arith, low .some (tight .here .some)))))
-          (λ come. omega (
-            arith,
-            come,
-            calls-with c qs p 0 0 rs laid t,
-            calls-with c qs p 0 0 rs laid end,
-            calls-mono c qs p recurs ok {t = end} {u = u} (omega arith),
-          )) (low .told) in
-          hopeless z (p .jitter + u) (omega arith) (omega arith)
-          (omega (
-            arith,
-            shorter,
-            more,
-            tight-full c qs p recurs ok x (omega arith) tight,
-            tight-full c qs p recurs ok z (omega arith) (fits .tight),
-          )) (fits .there),
-    )
+  -- the last pieces of all are overloaded whose tight window is past the end
+  pub skips-last : (x t w s : ℕ) → Tight c qs p x t → w ≡ p .jitter + t → Hopeless c p x w s → (rs : List Charged)
+      → rs ≡ withFirst c qs p 0 0 → (i k end r : ℕ) → i ≡ total (term Interrupts t) rs → k ≡ i - s → Lowered (ProbeRefuses rs (Calls k)) t end
+      → Misses c qs p (end - 1) r x → Skips c qs p r x
+  skips-last x t w s tight at hopeless rs laid i k end r calls-are few low misses = (
+    misses .0,
+    λ z u above below fits.
+        let late : end - 1 < u = misses .1 z u above below (fits .tight) in
+        let shorter = tight-shorter c qs p x z (omega arith) (omega arith) tight (fits .tight) in
+        let more : calls c qs p t ≤ calls c qs p u + s =
+        ⊎-elim (λ same. omega (arith, calls-mono c qs p {t = t} {u = u} (omega (arith, low .some (tight .here .some)))))
+        (λ come. omega (
+          arith,
+          come,
+          calls-with c qs p 0 0 rs laid t,
+          calls-with c qs p 0 0 rs laid end,
+          calls-mono c qs p {t = end} {u = u} (omega arith),
+        )) (low .told) in
+        hopeless z (p .jitter + u) (omega arith) (omega arith)
+        (omega (
+          arith,
+          shorter,
+          more,
+          tight-full c qs p x (omega arith) tight,
+          tight-full c qs p z (omega arith) (fits .tight),
+        )) (fits .there),
+  )
 
 -- ---- where tight windows end
 
@@ -419,7 +417,7 @@ module _ (c : Costs) (qs : List Charged) (p : Piece) where
           arith,
           forever (stall c) rs (with-recurs c qs p x (p .jitter + t) recurs ok) (fits .here) t (first-live c qs p x t),
           first-demand c qs p x t,
-          tight-full c qs p recurs ok x some (fits .tight),
+          tight-full c qs p x some (fits .tight),
         )
 
     -- while the stall counts at the end of a tight window, no job of the core may be due by then
@@ -428,10 +426,10 @@ module _ (c : Costs) (qs : List Charged) (p : Piece) where
       due-fails : (z u : ℕ) → 1 ≤ z → z ≤ x → leastLive qs ≤ u → Fits c qs p z u → ⊥
       due-fails z u some less due fits =
           let rs = withFirst c qs p z (p .jitter + u) in
-          let shorter = tight-shorter c qs p recurs ok x z some less tight (fits .tight) in
+          let shorter = tight-shorter c qs p x z some less tight (fits .tight) in
           let counts = blocking-below (stall c) rs u (omega (arith, first-largest c qs p z (p .jitter + u))) in
           jobs-idle u qs weighs (omega (arith, left-over z u some fits, counts))
-          (live-mono qs recurs {t = leastLive qs} {u = u} due (least-live-some qs many .here))
+          (live-mono qs {t = leastLive qs} {u = u} due (least-live-some qs many .here))
 
       pub step-due : (m r : ℕ) → 1 ≤ x → leastLive qs ≤ t → m ≡ leastLive qs - 1 → Misses c qs p m r x → Steps c qs p x (Below r)
       step-due m r some due is misses =
@@ -440,7 +438,7 @@ module _ (c : Costs) (qs : List Charged) (p : Piece) where
 
     -- what is due within a tight window is charged no more than the stall, or than nothing where the task has jitter
     pub ends-lowered : (most end r : ℕ) → (most ≡ stall c) ⊎ ((1 ≤ p .jitter) × (most ≡ 0)) → end ≡ p .window - p .jitter
-        → Lowered (Refuses qs (Due most)) end r → Ends c qs p r
+        → Lowered (ProbeRefuses qs (Due most)) end r → Ends c qs p r
     ends-lowered most end r side is low x t some fits = elim (decLt t r) [
       | yes before ↦ before
       | no after ↦
@@ -448,7 +446,7 @@ module _ (c : Costs) (qs : List Charged) (p : Piece) where
           let left = left-over x t some fits in
           ⊎-elim (λ same. omega (arith, ends-room x t some fits))
           (λ over.
-          let heavy : most < total (term Jobs t) qs = omega (arith, over, sum-mono qs recurs Jobs {t = r} {u = t} (omega arith)) in
+          let heavy : most < total (term Jobs t) qs = omega (arith, over, sum-mono qs Jobs {t = r} {u = t} (omega arith)) in
           ⊎-elim (λ stalled. absurd (omega (arith, left))) (λ jitter. absurd (omega (
             arith,
             left,
@@ -466,13 +464,13 @@ module _ (c : Costs) (qs : List Charged) (p : Piece) where
           λ z s above below fits.
               let v = p .jitter + s in
               let late : u < v = omega (arith, misses .1 z s (omega arith) below (fits .tight)) in
-              let shorter = tight-shorter c qs p recurs ok x z (omega arith) (omega arith) tight (fits .tight) in
+              let shorter = tight-shorter c qs p x z (omega arith) (omega arith) tight (fits .tight) in
               let there =
-              with-shorter c qs p ok x z v w u (omega arith)
-              (live-mono (withFirst c qs p x w) (with-recurs c qs p x w recurs ok) {t = leastLive (withFirst c qs p x w)} {u = u} live
+              with-shorter c qs p x z v w u (omega arith)
+              (live-mono (withFirst c qs p x w) {t = leastLive (withFirst c qs p x w)} {u = u} live
               (least-live-some (withFirst c qs p x w) (with-some c qs p x w) .here)) in
               let fits-there = forever (stall c) (withFirst c qs p z v) (with-recurs c qs p z v recurs ok) (fits .here) u there in
-              let jobs = mul-le-mul-right (z + extra c p) (first-due c p ok x z v w u (omega arith)) in
+              let jobs = mul-le-mul-right (z + extra c p) (first-due c p x z v w u (omega arith)) in
               omega (
                 arith,
                 stalled .caps (z + extra c p) (omega arith)
@@ -485,7 +483,7 @@ module _ (c : Costs) (qs : List Charged) (p : Piece) where
     pub starts-none : (e x : ℕ) → Ends c qs p e → x ≡ min (p .budget - 1) (e - (tightBeside c qs p 0 1 + 1)) → Starts c qs p x
     starts-none e x ends is = (
       omega (arith, ok .budget-some),
-      λ z u low high fits. omega (arith, ends z u (omega arith) fits, tight-least c qs p recurs ok z (fits .tight)),
+      λ z u low high fits. omega (arith, ends z u (omega arith) fits, tight-least c qs p z (fits .tight)),
     )
 
     pub starts-capped : (e x w k r : ℕ) → Ends c qs p e → Starts c qs p x → w ≡ p .jitter + (e - 1) → k ≡ charged c (firstPiece p x w) .charge

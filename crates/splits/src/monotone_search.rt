@@ -12,7 +12,7 @@ ghost use Prim.Native.Nat.{_≤_, _<_};
 ghost use Rattle.demand.specs.Sizes.{Each, timeMost, runMost};
 ghost use Rattle.demand.specs.ways.Ranges.{Ranged};
 ghost use Rattle.verdicts.specs.ChargedArray.{chargedIn};
-ghost use Rattle.splits.specs.ways.MonotoneSearch.{ShowsIf, Refuses, Askable, Lowered};
+ghost use Rattle.splits.specs.ways.MonotoneSearch.{ShowsIf, ProbeRefuses, Askable, Lowered};
 
 // What refuses a number m. A budget: no length up to the top holds it, the base and the interrupts. A length: so many interrupts have come by then, or jobs are
 // due that are charged more than that.
@@ -31,7 +31,7 @@ pub fn pick(first: bool, a: u64, b: u64) -> u64
 pub fn refused(core: &[u64; CORE_NUMBERS], n: usize, probe: Probe, m: u64) -> bool
     requires { ⌜ (n ≤ runMost) × Each Ranged (chargedIn (now core) n) ⌝ }
     requires { ⌜ Askable probe × (m ≤ timeMost) ⌝ }
-    ensures { λ r. ⌜ ShowsIf (Refuses (chargedIn (now (core .entry)) n) probe m) r ⌝ }
+    ensures { λ r. ⌜ ShowsIf (ProbeRefuses (chargedIn (now (core .entry)) n) probe m) r ⌝ }
 {
     match probe {
         Probe::Window(base, top) => match climb(core, n, base + m, top) {
@@ -47,7 +47,7 @@ pub fn refused(core: &[u64; CORE_NUMBERS], n: usize, probe: Probe, m: u64) -> bo
 pub fn lowered(core: &[u64; CORE_NUMBERS], n: usize, probe: Probe, from: u64, top: u64) -> u64
     requires { ⌜ (n ≤ runMost) × Each Ranged (chargedIn (now core) n) ⌝ }
     requires { ⌜ Askable probe × (from ≤ timeMost) × (top ≤ timeMost) ⌝ }
-    ensures { λ r. ⌜ Lowered (Refuses (chargedIn (now (core .entry)) n) probe) top r ⌝ }
+    ensures { λ r. ⌜ Lowered (ProbeRefuses (chargedIn (now (core .entry)) n) probe) top r ⌝ }
 {
     let mut low = from;
     let mut high = top;

@@ -2,10 +2,11 @@
 -- Assumes nothing.
 --
 --   comes-rule, comes-or-else     a chain of rules, and one behind another, come to what their table says
+--   form-breaks, machine-breaks   the tests of a name's form and of a machine's sizes, and where the rule is broken
 --   place-breaks                  a name has a place exactly where one has it
 --   fault-comes, state-comes      the fault of a task, and of a state, is what its table says
 --   state-refused, state-kept     so a state's refusal comes exactly where the table gives it, and none exactly where the table is kept
-use mathlib.Core.Path.{_≡_, refl, sym, ap, _∙_}
+use mathlib.Core.Path.{_≡_, refl, sym, _∙_}
 use mathlib.Core.Bool.{Bool, true, false, cond, true≢false}
 use mathlib.Core.Logic.{inl, inr, _↔_}
 use mathlib.Core.List.{List, [], _∷_, _++_}
@@ -16,17 +17,18 @@ use lib.Dec.{eqb, leb}
 use lib.ListN.{take}
 use Rattle.demand.specs.declared.Costs.{Costs}
 use Rattle.demand.specs.Sizes.{sized, sizedCosts}
-use Rattle.demand.specs.Tables.{Rule, _if_carrying_, Gives, Kept, downEach}
+use Rattle.demand.specs.Tables.{Rule, _if_carrying_, Not, Gives, Kept, downEach}
 use Rattle.demand.proofs.RefusalLaws.{sized-breaks, costs-break}
 use Rattle.demand.proofs.TableLaws.{Comes, none, here, next, comes-kept, comes-refused, comes-front, comes-behind}
-use Rattle.demand.proofs.TableLaws.{Breaks, breaks-kept, breaks-test, breaks-leb}
+use Rattle.demand.proofs.TableLaws.{Breaks, breaks-kept, breaks-exact, breaks-leb}
 use Rattle.task.specs.declared.Name.{Name}
 use Rattle.task.specs.declared.Task.{Task}
 use Rattle.task.specs.declared.Machine.{Machine}
-use Rattle.task.specs.Names.{formed, sameName}
-use Rattle.task.specs.Tasks.{tasksMost, wholePiece, sizedMachine, placeBy, placeOf, rule, orElse, faultOf, firstFault, stateFault}
+use Rattle.task.specs.Names.{Formed, formed, sameName}
+use Rattle.task.specs.Tasks.{tasksMost, wholePiece, SizedMachine, sizedMachine, placeBy, placeOf, rule, orElse, faultOf, firstFault, stateFault}
 use Rattle.task.specs.Refusals.{SomeNamed, taskTable, stateTable}
-use Rattle.task.proofs.NameLaws.{same-name-exact, same-name-refl}
+use Rattle.task.proofs.NameLaws.{formed-exact, same-name-exact}
+use Rattle.task.proofs.TaskLaws.{machine-exact}
 
 -- ---- chains of rules
 
@@ -39,6 +41,14 @@ pub comes-or-else : {rules more : List Rule} {m c : ℕ} (n : ℕ) → Comes rul
 comes-or-else {rules} {more} zero first then = comes-behind rules (comes-kept first .0 refl) then
 comes-or-else {rules} {more} (suc n) first then = comes-front first more
 
+-- ---- the tests
+
+pub form-breaks : (n : Name) → Breaks (Not (Formed n)) (formed n)
+form-breaks n = breaks-exact (formed n) (formed-exact n)
+
+pub machine-breaks : (m : Machine) → Breaks (Not (SizedMachine m)) (sizedMachine m)
+machine-breaks m = breaks-exact (sizedMachine m) (machine-exact m)
+
 -- ---- names
 
 module _ {A : Type 0} (key : A → Name) (n : Name) where
@@ -48,11 +58,11 @@ module _ {A : Type 0} (key : A → Name) (n : Name) where
     where
       by : (b : Bool) → sameName n (key x) ≡ b → Breaks (SomeNamed key n xs) (eqb (placeBy key (k + 1) n xs) 0)
           → Breaks (SomeNamed key n (x ∷ xs)) (eqb (cond b k (placeBy key (k + 1) n xs)) 0)
-      by true same more = record { breaks = λ e. inl (sym (same-name-exact n (key x) same)); fails = λ h. ne-eqb k 0 (λ e. omega arith) }
+      by true same more = record { breaks = λ e. inl (sym (same-name-exact n (key x) .0 same)); fails = λ h. ne-eqb k 0 (λ e. omega arith) }
       by false other more = record { breaks = λ e. inr (more .breaks e); fails = fails-by }
         where
           fails-by : SomeNamed key n (x ∷ xs) → eqb (placeBy key (k + 1) n xs) 0 ≡ false
-          fails-by (inl is) = absurd (true≢false (sym (same-name-refl n) ∙ (ap (sameName n) (sym is) ∙ other)))
+          fails-by (inl is) = absurd (true≢false (sym (same-name-exact n (key x) .1 (sym is)) ∙ other))
           fails-by (inr h) = more .fails h
 
   pub place-breaks : (xs : List A) → Breaks (SomeNamed key n xs) (eqb (placeBy key 1 n xs) 0)
@@ -63,7 +73,7 @@ module _ {A : Type 0} (key : A → Name) (n : Name) where
 pub fault-comes : (above : List Task) (t : Task) → Comes (taskTable above t) (faultOf above t) 0
 unfolding faultOf
 fault-comes above t =
-    comes-rule (formed (t .name)) (breaks-test (formed (t .name))) 7
+    comes-rule (formed (t .name)) (form-breaks (t .name)) 7
     (comes-rule (sized (wholePiece (t .times))) (sized-breaks (wholePiece (t .times))) 2
     (comes-rule (eqb (placeOf 1 (t .name) above) 0) (place-breaks (λ (u : Task). u .name) (t .name) above) 3
     none))
@@ -76,7 +86,7 @@ faults-come above k (t ∷ ts) = comes-or-else (faultOf above t) (fault-comes ab
 pub state-comes : (m : Machine) (c : Costs) (n : ℕ) (ts : List Task) → Comes (stateTable m c n ts) (stateFault m c n ts) 0
 unfolding stateTable stateFault
 state-comes m c n ts =
-    comes-rule (sizedMachine m) (breaks-test (sizedMachine m)) 0
+    comes-rule (sizedMachine m) (machine-breaks m) 0
     (comes-rule (sizedCosts c) (costs-break c) 1
     (comes-rule (leb n tasksMost) (breaks-leb n tasksMost) 5
     (faults-come [] 1 (take n ts))))

@@ -8,14 +8,17 @@
 --   fault-form, fault-free      a task with a bad name; a good one
 --   rule-fine, or-else-fine     a rule that gives no number is kept
 --   tasks-none, tasks-listed, tasks-at      a list in its array
+--   machine-exact               a machine is within its sizes exactly where its test says so
 --   Good, Sane, state-sane      what is known of tasks, and of a machine with costs and tasks, that break no rule
 use mathlib.Core.Path.{_≡_, refl, sym, ap, _∙_}
-use mathlib.Core.Bool.{Bool, true, false, _&&_}
+use mathlib.Core.Bool.{Bool, true, false}
+use mathlib.Core.Logic.{_↔_}
 use mathlib.Core.List.{List, [], _∷_, _++_}
 use Prim.Native.Nat.{ℕ, zero, suc, _+_, _≤_, _<_}
 use native.Mathlib.Nat.{le-of-lt}
 use native.Mathlib.Numerals.{add-one}
 use native.Mathlib.Omega.{arith}
+use borrow.Author.Needs.{needs}
 use borrow.Author.Tests.{eq-eqb, ne-eqb, eqb-true, leb-true}
 use lib.Dec.{eqb, leb}
 use lib.ListN.{length, take, drop, getD, replicate, length-take, drop-of-length-le, List·getD-append}
@@ -26,10 +29,10 @@ use Rattle.task.specs.declared.Task.{Task}
 use Rattle.task.specs.declared.Machine.{Machine}
 use Rattle.demand.specs.declared.Costs.{Costs}
 use Rattle.demand.specs.Sizes.{sized, sizedCosts, Sized, SizedCosts, Each, timeMost}
-use Rattle.demand.proofs.SizeLaws.{sized-true, sized-costs-true}
+use Rattle.demand.proofs.SizeLaws.{tells-exact, Bounds, tells-bounds, sized-exact, costs-exact}
 use Rattle.task.specs.Names.{formed, sameName}
 use Rattle.task.specs.Tasks.{wholePiece, placeBy, placeOf, faultOf, firstFault, orElse, past, taskAt, noTask}
-use Rattle.task.specs.Tasks.{tasksOf, listOf, rule, stateFault, sizedMachine, coresMost, tasksMost}
+use Rattle.task.specs.Tasks.{tasksOf, listOf, rule, stateFault, SizedMachine, sizedMachine, coresMost, tasksMost}
 
 -- ---- the place of a name, among things that have one
 
@@ -133,10 +136,16 @@ module _ (above : List Task) (t : Task) where
 
 -- ---- what is known where no rule is broken
 
-both-true : (a b : Bool) → (a && b) ≡ true → (a ≡ true) × (b ≡ true)
-both-true true b e = (refl, e)
-both-true false true e = (e, refl)
-both-true false false e = (e, e)
+machine-bounds : Machine → List (ℕ × ℕ)
+machine-bounds m = (m .grain, timeMost) ∷ (1, m .grain) ∷ (m .cores, coresMost) ∷ (1, m .cores) ∷ []
+
+pub machine-exact : (m : Machine) → (sizedMachine m ≡ true) ↔ SizedMachine m
+unfolding sizedMachine machine-bounds
+machine-exact m =
+    let exact = tells-exact (Bounds (machine-bounds m)) (sizedMachine m) (tells-bounds (machine-bounds m)) in (
+      (λ e. let b = exact .0 e in record { cores-some = b .0 .0 .0 .1; cores-fit = b .0 .0 .1; grain-some = b .0 .1; grain-fits = b .1 }),
+      λ s. exact .1 (search needs),
+    )
 
 pub rule-fine : (b : Bool) (n rest : ℕ) → rule b (suc n) rest ≡ 0 → (b ≡ true) × (rest ≡ 0)
 rule-fine true n rest e = (refl, e)
@@ -158,7 +167,7 @@ fault-good above t e =
     let a = rule-fine (formed (t .name)) 7 (rule (sized (wholePiece (t .times))) 3 (rule (eqb (placeOf 1 (t .name) above) 0) 4 0)) e in
     let b = rule-fine (sized (wholePiece (t .times))) 2 (rule (eqb (placeOf 1 (t .name) above) 0) 4 0) (a .1) in
     let d = rule-fine (eqb (placeOf 1 (t .name) above) 0) 3 0 (b .1) in
-    record { named = a .0; timed = sized-true (wholePiece (t .times)) (b .0); alone = eqb-true (placeOf 1 (t .name) above) 0 (d .0) }
+    record { named = a .0; timed = sized-exact (wholePiece (t .times)) .0 (b .0); alone = eqb-true (placeOf 1 (t .name) above) 0 (d .0) }
 
 faults-timed : (above ts : List Task) → firstFault above ts ≡ 0 → Each (λ t. Sized (wholePiece (t .times))) ts
 faults-timed above [] e = tt
@@ -178,20 +187,18 @@ pub record Sane (m : Machine) (c : Costs) (n : ℕ) (ts : List Task) : Type 0 wh
   pub timed : Each (λ t. Sized (wholePiece (t .times))) (take n ts)
 
 pub state-sane : (m : Machine) (c : Costs) (n : ℕ) (ts : List Task) → stateFault m c n ts ≡ 0 → Sane m c n ts
-unfolding stateFault sizedMachine
+unfolding stateFault
 state-sane m c n ts e =
     let a = rule-fine (sizedMachine m) 0 (rule (sizedCosts c) 2 (rule (leb n tasksMost) 6 (firstFault [] (take n ts)))) e in
     let b = rule-fine (sizedCosts c) 1 (rule (leb n tasksMost) 6 (firstFault [] (take n ts))) (a .1) in
     let d = rule-fine (leb n tasksMost) 5 (firstFault [] (take n ts)) (b .1) in
-    let x = both-true (leb 1 (m .cores) && leb (m .cores) coresMost && leb 1 (m .grain)) (leb (m .grain) timeMost) (a .0) in
-    let y = both-true (leb 1 (m .cores) && leb (m .cores) coresMost) (leb 1 (m .grain)) (x .0) in
-    let z = both-true (leb 1 (m .cores)) (leb (m .cores) coresMost) (y .0) in
+    let machine = machine-exact m .0 (a .0) in
     record {
-      cores-some = leb-true 1 (m .cores) (z .0);
-      cores-fit = leb-true (m .cores) coresMost (z .1);
-      grain-some = leb-true 1 (m .grain) (y .1);
-      grain-fits = leb-true (m .grain) timeMost (x .1);
-      costs = sized-costs-true c (b .0);
+      cores-some = machine .cores-some;
+      cores-fit = machine .cores-fit;
+      grain-some = machine .grain-some;
+      grain-fits = machine .grain-fits;
+      costs = costs-exact c .0 (b .0);
       few = leb-true n tasksMost (d .0);
       faultless = d .1;
       timed = faults-timed [] (take n ts) (d .1);

@@ -4,13 +4,16 @@
 --   noName             no byte: what a struct has where nothing is named
 --   nameByte b         b may stand in a name
 --   spelt n bs         n name bytes, and zeros behind them
---   formed n           the name n has its form
+--   Formed n           the name n has its form
+--   formed n           the same as a test; `proofs/NameLaws.antt` has that it holds exactly where the name has its form
 --   sameName a b       the names are equal; `proofs/NameLaws.antt` has that this is equality of the names
 use mathlib.Core.Bool.{Bool, true, false, cond, _&&_, _||_}
 use mathlib.Core.List.{List, [], _∷_}
-use Prim.Native.Nat.{ℕ, _+_}
+use mathlib.Core.Path.{_≡_}
+use Prim.Native.Nat.{ℕ, _+_, _≤_}
 use lib.Dec.{leb, ltb, eqb}
-use lib.ListN.{replicate}
+use lib.ListN.{length, take, drop, replicate}
+use Rattle.demand.specs.Sizes.{Each}
 use Rattle.task.specs.declared.Name.{Name}
 
 abbrev pub nameMost : ℕ
@@ -25,6 +28,13 @@ between low high b = leb low b && leb b high
 -- a to z, A to Z, 0 to 9, hyphen, full stop
 unfoldable pub nameByte : ℕ → Bool
 nameByte b = between 97 122 b || between 65 90 b || between 48 57 b || eqb b 45 || eqb b 46
+
+-- In a struct there are 24 bytes, so a length within them is 24 at the most.
+pub record Formed (n : Name) : Type 0 where
+  pub some : 1 ≤ n .len
+  pub few : n .len ≤ length (n .bytes)
+  pub spells : Each (λ b. nameByte b ≡ true) (take (n .len) (n .bytes))
+  pub zeros : Each (λ b. b ≡ 0) (drop (n .len) (n .bytes))
 
 -- b may stand at place i of a name of length n in its 24 bytes
 abbrev pub fitsAt : ℕ → ℕ → ℕ → Bool

@@ -6,7 +6,6 @@
 --   taskTable above t                  one task, below others
 --   stateTable m c n ts                all
 use mathlib.Core.Path.{_≡_}
-use mathlib.Core.Bool.{false}
 use mathlib.Core.Logic.{_⊎_}
 use mathlib.Core.List.{List, [], _∷_, _++_}
 use Prim.Native.Nat.{ℕ, _<_}
@@ -18,8 +17,8 @@ use Rattle.task.specs.declared.Name.{Name}
 use Rattle.task.specs.declared.Part.{Part}
 use Rattle.task.specs.declared.Task.{Task}
 use Rattle.task.specs.declared.Machine.{Machine}
-use Rattle.task.specs.Names.{formed}
-use Rattle.task.specs.Tasks.{tasksMost, wholePiece, sizedMachine}
+use Rattle.task.specs.Names.{Formed}
+use Rattle.task.specs.Tasks.{tasksMost, wholePiece, SizedMachine}
 
 abbrev pub SomeNamed : {A : Type 0} → (A → Name) → Name → List A → Type 0
 SomeNamed key n [] = ⊥
@@ -33,14 +32,14 @@ PartNamed n ps = SomeNamed (λ p. p .name) n ps
 
 abbrev pub taskTable : List Task → Task → List Rule
 taskTable above t =
-    8 if (formed (t .name) ≡ false) carrying 0
+    8 if Not (Formed (t .name)) carrying 0
     ∷ 3 if Not (Sized (wholePiece (t .times))) carrying 0
     ∷ 4 if TaskNamed (t .name) above carrying 0
     ∷ []
 
 unfoldable pub stateTable : Machine → Costs → ℕ → List Task → List Rule
 stateTable m c n ts =
-    1 if (sizedMachine m ≡ false) carrying 0
+    1 if Not (SizedMachine m) carrying 0
     ∷ 2 if Not (SizedCosts c) carrying 0
     ∷ 6 if (tasksMost < n) carrying 0
     ∷ downEach (λ above k t. taskTable above t) (λ above t. above ++ (t ∷ [])) [] 1 (take n ts)

@@ -1,7 +1,7 @@
 -- Parts, tasks and the machine, and what breaks a rule for them: document 01, "Sizes", "Refusal numbers", "Edits on a held plan".
 --
 --   wholePiece t       the whole piece of a task with the times t
---   sizedMachine m     m and grain are within their sizes
+--   SizedMachine m     m and grain are within their sizes; sizedMachine m: the same as a test
 --   noTimes, noPart, noTask, noMachine   what a struct has where nothing is said: zeros
 --   taskOf n p         the task n fitted with the part p: every task is made so
 --   placeBy key k n xs the place of the first of xs with the name n, counted from k, or 0
@@ -15,7 +15,7 @@
 --   stateFault m c n ts   1, then 2, then 6, then the first bad task's
 use mathlib.Core.Bool.{Bool, true, false, cond, _&&_}
 use mathlib.Core.List.{List, [], _∷_, _++_}
-use Prim.Native.Nat.{ℕ, zero, suc, _+_}
+use Prim.Native.Nat.{ℕ, zero, suc, _+_, _≤_}
 use lib.Dec.{leb, eqb}
 use lib.ListN.{take, length, getD}
 use Rattle.demand.specs.declared.Kind.the-variants.{Whole}
@@ -54,6 +54,12 @@ taskOf n p = record { name = n; times = p .times }
 
 unfoldable pub wholePiece : Times → Piece
 wholePiece t = record { kind = Whole; budget = t .worst; window = t .deadline; period = t .period; jitter = t .jitter; preempt = t .preempt; migrate = t .migrate }
+
+pub record SizedMachine (m : Machine) : Type 0 where
+  pub cores-some : 1 ≤ m .cores
+  pub cores-fit : m .cores ≤ coresMost
+  pub grain-some : 1 ≤ m .grain
+  pub grain-fits : m .grain ≤ timeMost
 
 unfoldable pub sizedMachine : Machine → Bool
 sizedMachine m = leb 1 (m .cores) && leb (m .cores) coresMost && leb 1 (m .grain) && leb (m .grain) timeMost

@@ -44,11 +44,11 @@ flow-share q pos l v asked share work =
     flat : (j c : ℕ) → j * (c * allTime) ≡ allTime * (j * c)
     flat j c = simp (mul-comm, mul-left-comm)
 
-pub flow-work : (q : Charged) → Recurs q → (l : ℕ) (v : Flow) → v .asked ≡ busyLoad l q → v .share ≡ 0 → v .work ≡ v .asked → Flows (λ m. busyLoad m q) l v
-flow-work q pos l v asked share work =
+pub flow-work : (q : Charged) (l : ℕ) (v : Flow) → v .asked ≡ busyLoad l q → v .share ≡ 0 → v .work ≡ v .asked → Flows (λ m. busyLoad m q) l v
+flow-work q l v asked share work =
     record {
       exact = asked;
-      below = λ m h. omega (arith, ap (λ (s : ℕ). m * s) share, work, asked, busy-load-mono pos h);
+      below = λ m h. omega (arith, ap (λ (s : ℕ). m * s) share, work, asked, busy-load-mono q h);
     }
 
 -- ---- a core

@@ -39,25 +39,25 @@ use Rattle.verdicts.specs.Laid.{term}
 use Rattle.demand.proofs.ArrayLaws.{firsts-length, firsts-same, firsts-last, firsts-front, sets-before, sets-there}
 use Rattle.demand.proofs.BusyLaws.{tight-of-last}
 use Rattle.demand.proofs.Sums.{total-mono, total-snoc, each-front, each-last}
-use Rattle.demand.proofs.DemandLaws.{Recurs, jobs-due-mono, load-mono, interrupts-mono, busy-load-mono, largest-snoc, earliest-snoc}
+use Rattle.demand.proofs.DemandLaws.{jobs-due-mono, load-mono, interrupts-mono, busy-load-mono, largest-snoc, earliest-snoc}
 
 -- ---- the sums
 
-pub term-mono : (s : Sum) {q : Charged} → Recurs q → {t u : ℕ} → t ≤ u → term s t q ≤ term s u q
-term-mono Load pos h = load-mono pos h
-term-mono Interrupts pos h = interrupts-mono pos h
-term-mono Jobs {q} pos h = mul-le-mul-right (q .charge) (jobs-due-mono pos h)
-term-mono Busy pos h = busy-load-mono pos h
+pub term-mono : (s : Sum) (q : Charged) {t u : ℕ} → t ≤ u → term s t q ≤ term s u q
+term-mono Load q h = load-mono q h
+term-mono Interrupts q h = interrupts-mono q h
+term-mono Jobs q h = mul-le-mul-right (q .charge) (jobs-due-mono q h)
+term-mono Busy q h = busy-load-mono q h
 
-pub sum-mono : (qs : List Charged) → Each Recurs qs → (s : Sum) {t u : ℕ} → t ≤ u → total (term s t) qs ≤ total (term s u) qs
-sum-mono qs recurs s {t} {u} h = total-mono Recurs (term s t) (term s u) (λ q pos. term-mono s pos h) qs recurs
+pub sum-mono : (qs : List Charged) (s : Sum) {t u : ℕ} → t ≤ u → total (term s t) qs ≤ total (term s u) qs
+sum-mono qs s {t} {u} h = total-mono (term s t) (term s u) (λ q. term-mono s q h) qs
 
 -- what the code climbs by: a base and one of the sums
 abbrev pub asked : Sum → ℕ → List Charged → ℕ → ℕ
 asked s base qs t = base + total (term s t) qs
 
-pub asked-mono : (s : Sum) (base : ℕ) (qs : List Charged) → Each Recurs qs → (m n : ℕ) → m ≤ n → asked s base qs m ≤ asked s base qs n
-asked-mono s base qs recurs m n h = omega (arith, sum-mono qs recurs s h)
+pub asked-mono : (s : Sum) (base : ℕ) (qs : List Charged) (m n : ℕ) → m ≤ n → asked s base qs m ≤ asked s base qs n
+asked-mono s base qs m n h = omega (arith, sum-mono qs s h)
 
 pub tight-window-asked : (b : ℕ) (qs : List Charged) (q : Charged) (top : ℕ)
     → tightWindow b qs q top ≡ later (q .jitter) (leastHolding (asked Interrupts (b + q .charge) qs) (top - q .jitter))

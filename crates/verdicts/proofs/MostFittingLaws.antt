@@ -20,11 +20,11 @@ use lib.Dec.{ltb}
 use lib.ListN.{length, length-append}
 use Rattle.demand.specs.declared.Charged.{Charged}
 use Rattle.verdicts.specs.declared.most_fitting.Lowering.{Lowering}
-use Rattle.demand.specs.Sizes.{Each, Tells}
+use Rattle.demand.specs.Sizes.{Tells}
 use Rattle.demand.specs.Demand.{jobsDue, interrupts, largestWindow, demand}
 use Rattle.verdicts.specs.MostFitting.{beside, Squeezed, FitsIn, allFit, mostFitting}
 use Rattle.verdicts.specs.ways.ChargeWalk.{FitsInto, Levels, Stands, Lowers, lastBelow}
-use Rattle.demand.proofs.DemandLaws.{Recurs, jobs-due-mono, interrupts-mono, demand-mono}
+use Rattle.demand.proofs.DemandLaws.{jobs-due-mono, interrupts-mono, demand-mono}
 use Rattle.verdicts.specs.declared.most_fitting.Look.{Look}
 
 -- ---- the greatest charge that fits in a span
@@ -201,30 +201,29 @@ module _ (b : ℕ) (qs : List Charged) (q : Charged) where
       };
     }
 
-    module _ (recurs : Each Recurs qs) (own : Recurs q) where
-      beside-mono : (f : ℕ) {t u : ℕ} → t ≤ u → (largestWindow qs ≤ u → largestWindow qs ≤ t) → beside b qs q f t ≤ beside b qs q f u
-      unfolding beside
-      beside-mono f {t} {u} h side =
-          omega (arith, demand-mono qs recurs b h side, interrupts-mono own h, mul-le-mul-right f (jobs-due-mono own h))
+    beside-mono : (f : ℕ) {t u : ℕ} → t ≤ u → (largestWindow qs ≤ u → largestWindow qs ≤ t) → beside b qs q f t ≤ beside b qs q f u
+    unfolding beside
+    beside-mono f {t} {u} h side =
+        omega (arith, demand-mono qs b h side, interrupts-mono q h, mul-le-mul-right f (jobs-due-mono q h))
 
-      -- the walk goes on below `end`
-      module _ (w end rest jobs : ℕ) (widest : w ≡ largestWindow qs)
-          (next : (rest + jobs * v .charge ≤ end) × (end ≤ s .end - 1) × (w ≤ s .end - 1 → w ≤ end)) where
-        pub lowers-below : ((y : ℕ) → beside b qs q y (s .end - 1) ≡ rest + jobs * y) → Lowers b qs q a s (lastBelow (v .charge) end)
-        lowers-below asks = record {
-          most = level .most;
-          caps = looked;
-          calm = λ one u from below.
-              omega (
-                arith,
-                next .0,
-                asks (v .charge),
-                beside-mono (v .charge) {t = u} {u = s .end - 1} (omega arith) (λ wide. omega (arith, widest, next .2 (omega (arith, widest)))),
-              );
-          down = omega (arith, next .1);
-          less = omega (arith, next .1, level .most);
-          stands = stands-last a (v .charge) end;
-        }
+    -- the walk goes on below `end`
+    module _ (w end rest jobs : ℕ) (widest : w ≡ largestWindow qs)
+        (next : (rest + jobs * v .charge ≤ end) × (end ≤ s .end - 1) × (w ≤ s .end - 1 → w ≤ end)) where
+      pub lowers-below : ((y : ℕ) → beside b qs q y (s .end - 1) ≡ rest + jobs * y) → Lowers b qs q a s (lastBelow (v .charge) end)
+      lowers-below asks = record {
+        most = level .most;
+        caps = looked;
+        calm = λ one u from below.
+            omega (
+              arith,
+              next .0,
+              asks (v .charge),
+              beside-mono (v .charge) {t = u} {u = s .end - 1} (omega arith) (λ wide. omega (arith, widest, next .2 (omega (arith, widest)))),
+            );
+        down = omega (arith, next .1);
+        less = omega (arith, next .1, level .most);
+        stands = stands-last a (v .charge) end;
+      }
 
   -- ---- one look more
 

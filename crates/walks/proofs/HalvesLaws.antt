@@ -33,7 +33,7 @@ use Rattle.demand.specs.Split.{pieceOf, firstPiece, lastPiece, passes, greatest
 use Rattle.demand.proofs.Sums.{each-snoc}
 use Rattle.demand.proofs.BusyLaws.{least-unique}
 use Rattle.demand.proofs.VerdictLaws.{verdict-empty}
-use Rattle.demand.proofs.SplitLaws.{Parts, split-parts, split-means, Free, tight-is-budget}
+use Rattle.demand.proofs.SplitLaws.{Parts, split-parts, split-exact, Free, tight-is-budget}
 use Rattle.walks.specs.Way.{Spot, Placed, placedAs, Landing, refuses, fine, stuck, walkOver, rowOf}
 use Rattle.walks.specs.Shares.{Divides, Kinds, Shares, nil, more}
 use Rattle.walks.specs.Kept.{Meet}
@@ -189,7 +189,7 @@ module _ {A : Type 0} (c : Costs) (g m : ℕ) (costs : SizedCosts c) (w : Piece)
   keeps-two : (p : ℕ) (row : List Piece) (x v : ℕ) → Fit m done (record { core = p; row = row }) log → suc p < m → Fine c row
       → passes (verdictOf c (row ++ (w ∷ []))) ≡ false → greatestSplit c g row w ≡ Cut x v → IfLands Kept (inTwo c g w p x v)
   keeps-two p row x v h next has never e =
-      let parts = split-parts c g row w costs (has .sizes) (right .size) x v e in
+      let parts = split-parts c g row w costs (right .size) x v e in
       let f = firstPiece w x v in
       let l = lastPiece c w x v in
       let pair : List (Placed A) = record { on = p; item = a; piece = f } ∷ record { on = suc p; item = a; piece = l } ∷ [] in
@@ -204,7 +204,7 @@ module _ {A : Type 0} (c : Costs) (g m : ℕ) (costs : SizedCosts c) (w : Piece)
         },
         halved p x v next parts,
         two-pieces {p = p} {x = x} {v = v} (rw (h .here) (passes-not (verdictOf c (row ++ (w ∷ []))) never))
-            (rw (h .here) (subst (Splits c g row w) e (split-means c g row w (has .sizes) (right .size)))),
+            (rw (h .here) (split-exact c g row w (Cut x v) .0 e)),
         (
           rw on-first (record { sizes = each-snoc Sized row f (has .sizes) (parts .first-sized); passing = parts .first-passes }),
           (rw on-next (record { sizes = (parts .last-sized, tt); passing = parts .last-passes }), tt),

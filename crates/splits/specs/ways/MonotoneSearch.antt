@@ -1,7 +1,7 @@
 -- What probing for an end promises. It is a way and no meaning; the laws are in `proofs/MonotoneSearchLaws.antt`.
 --
 --   ShowsIf P r            an answer of true shows P
---   Refuses qs k m       the number m is refused by the probe k beside the pieces qs; then so is every greater one
+--   ProbeRefuses qs k m  the number m is refused by the probe k beside the pieces qs; then so is every greater one
 --   Askable k            the numbers of a probe are such that no sum wraps
 --   Lowered P top r      r is the top, or below it with P
 use mathlib.Core.Bool.{Bool, true, false}
@@ -23,10 +23,10 @@ abbrev pub ShowsIf : Type 0 → Bool → Type 0
 ShowsIf P true = P
 ShowsIf P false = Unit {0}
 
-abbrev pub Refuses : List Charged → Probe → ℕ → Type 0
-Refuses qs (Window base top) m = (t : ℕ) → t ≤ top → Holds (λ u. base + m + total (term Interrupts u) qs) t → ⊥
-Refuses qs (Calls come) m = come ≤ total (term Interrupts m) qs
-Refuses qs (Due most) m = most < total (term Jobs m) qs
+abbrev pub ProbeRefuses : List Charged → Probe → ℕ → Type 0
+ProbeRefuses qs (Window base top) m = (t : ℕ) → t ≤ top → Holds (λ u. base + m + total (term Interrupts u) qs) t → ⊥
+ProbeRefuses qs (Calls come) m = come ≤ total (term Interrupts m) qs
+ProbeRefuses qs (Due most) m = most < total (term Jobs m) qs
 
 abbrev pub Askable : Probe → Type 0
 Askable (Window base top) = (base ≤ 9000000) × (top ≤ busyMost)

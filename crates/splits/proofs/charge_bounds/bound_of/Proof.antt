@@ -10,7 +10,6 @@ use Rattle.verdicts.specs.ChargedArray.{chargedIn}
 use Rattle.demand.specs.ways.Ranges.{Ranged}
 use Rattle.demand.proofs.BusyLaws.{busy-length-within}
 use Rattle.splits.proofs.ChargeBoundLaws.{bound-most, bound-unsettled, unsettled-from}
-use Rattle.demand.proofs.ChargeLaws.{all-recurs}
 use Rattle.verdicts.proofs.ChargedArrayLaws.{charged-in-is, charged-in-front, charged-at-each}
 use borrow.Author.Needs.{needs}
 use Rattle.splits.proofs.charge_bounds.bound_of.Statement.{statement}
@@ -93,7 +92,7 @@ busy-cap-requires c κs =
         (
           c .before .guess .ensures,
           unsettled-from qs q q refl refl refl rs (charged-in-is (s .core .now) (s .n) q (charged-at .ensures))
-              (all-recurs rs (pre .0 .2)) (sym (at-climb-busy .climb-busy .ensures) ∙ c .before .before .before .enum-told .given .1),
+              (sym (at-climb-busy .climb-busy .ensures) ∙ c .before .before .before .enum-told .given .1),
         ),
       ),
     )
@@ -116,7 +115,7 @@ bound-within-requires c κs =
         (
           pre .1 .0,
           least-live .ensures .1,
-          busy-length-within rs (all-recurs rs (pre .0 .2)) (l .given .0 .0) busy,
+          busy-length-within rs (l .given .0 .0) busy,
           pre .1 .1,
         ),
         (least-live .ensures .0, busy),

@@ -7,9 +7,7 @@ use Rattle.demand.specs.declared.Charged.{Charged}
 use Rattle.splits.specs.ways.ChargeBounds.{withCharge}
 use Rattle.verdicts.specs.ChargedArray.{chargedIn}
 use Rattle.demand.specs.ways.Ranges.{Ranged}
-use Rattle.demand.specs.Sizes.{Each}
 use Rattle.splits.proofs.ChargeBoundLaws.{charge-ranged, unsettled-from}
-use Rattle.demand.proofs.ChargeLaws.{all-recurs}
 use Rattle.splits.proofs.SplitSearchLaws.{laid-kept}
 use Rattle.demand.proofs.Sums.{each-snoc}
 use borrow.Author.Needs.{needs}
@@ -54,11 +52,8 @@ returns c =
     let put-charged = c .before .before .before .before .put-charged in
     let with-charge = c .before .before .before .before .before .with-charge in
     let laid = put-charged .ensures .0 ∙ ap (λ (o : Charged). qs ++ (o ∷ [])) (with-charge .ensures) in
-    let rs = chargedIn (put-charged .last .0) (s .n + 1) in
-    let pre = c .before .before .before .before .before .before .before .pre in
-    let ranged : Each Ranged rs = rw laid (each-snoc Ranged qs r (pre .0 .2) (charge-ranged (s .q) (s .f) (pre .1 .0) (pre .1 .1))) in (
-      unsettled-from qs (s .q) r refl refl refl rs laid (all-recurs rs ranged) (sym (c .before .before .climb-busy .ensures)
-          ∙ c .enum-told .given .1),
+    let rs = chargedIn (put-charged .last .0) (s .n + 1) in (
+      unsettled-from qs (s .q) r refl refl refl rs laid (sym (c .before .before .climb-busy .ensures) ∙ c .enum-told .given .1),
       laid-kept (s .core .now) (put-charged .last .0) (s .n) r laid (put-charged .ensures .1),
     )
 

@@ -3,7 +3,7 @@ use borrow.Author.Needs.{needs}
 use Prim.Native.Nat.{_+_, _-_, _≤_, _<_}
 use native.Mathlib.Omega.{arith}
 use Rattle.verdicts.specs.ChargedArray.{chargedIn}
-use Rattle.splits.specs.ways.MonotoneSearch.{Refuses, Lowered}
+use Rattle.splits.specs.ways.MonotoneSearch.{ProbeRefuses, Lowered}
 use Rattle.demand.specs.Sizes.{timeMost}
 use Rattle.splits.proofs.MonotoneSearchLaws.{lowered-start, lowered-next, low-next, nearer}
 use Rattle.splits.proofs.monotone_search.lowered.Statement.{statement}
@@ -15,7 +15,7 @@ use Rattle.splits.proofs.monotone_search.pick.Reads as pick-reads
 use Rattle.splits.proofs.monotone_search.refused.Reads as refused-reads
 
 abbrev Inv-loop : tie.InvT-loop
-Inv-loop core n probe from top low₀ high₀ low high = (from ≤ low) × (low ≤ timeMost) × Lowered (Refuses (chargedIn core n) probe) top high
+Inv-loop core n probe from top low₀ high₀ low high = (from ≤ low) × (low ≤ timeMost) × Lowered (ProbeRefuses (chargedIn core n) probe) top high
 
 abbrev μ-loop : tie.MeasureT-loop
 μ-loop core n probe from top low₀ high₀ low high = high - low
@@ -23,7 +23,7 @@ abbrev μ-loop : tie.MeasureT-loop
 loop-holds : tie.Need-loop-holds Inv-loop μ-loop
 loop-holds c =
     let s = c .args in
-    (omega arith, c .pre .1 .1, lowered-start (Refuses (chargedIn (s .core .now) (s .n)) (s .probe)) (s .top))
+    (omega arith, c .pre .1 .1, lowered-start (ProbeRefuses (chargedIn (s .core .now) (s .n)) (s .probe)) (s .top))
 
 add-loop : tie.Need-add-loop Inv-loop μ-loop
 add-loop c = search needs
@@ -75,7 +75,7 @@ loop-again c =
     let pre = c .before .before .before .before .before .before .pre in (
       omega (arith, next .0, loop .inv .0),
       omega (arith, next .1, loop .inv .2 .most, pre .1 .2),
-      lowered-next (Refuses (chargedIn (s .core .now) (s .n)) (s .probe)) (refused .result) (s .top) low m (loop .high)
+      lowered-next (ProbeRefuses (chargedIn (s .core .now) (s .n)) (s .probe)) (refused .result) (s .top) low m (loop .high)
           (c .pick2 .result) above below (c .pick2 .ensures) (refused .ensures) (loop .inv .2),
     )
 

@@ -4,8 +4,7 @@ use mathlib.Core.Path.{sym, subst, _∙_}
 use native.Mathlib.Omega.{arith}
 use Rattle.splits.specs.declared.monotone_search.Probe.{Probe}
 use Rattle.verdicts.specs.ChargedArray.{chargedIn}
-use Rattle.splits.specs.ways.MonotoneSearch.{Refuses, Askable}
-use Rattle.demand.proofs.ChargeLaws.{all-recurs}
+use Rattle.splits.specs.ways.MonotoneSearch.{ProbeRefuses, Askable}
 use Rattle.splits.proofs.MonotoneSearchLaws.{shows-le, shows-lt, climbed-none}
 use borrow.Author.Needs.{needs}
 use Rattle.splits.proofs.monotone_search.refused.Statement.{statement}
@@ -53,9 +52,8 @@ returns c =
     let s = c .before .before .before .before .before .before .args in
     let qs = chargedIn (s .core .now) (s .n) in
     let probe = c .before .before .before .before .probe in
-    let pre = c .before .before .before .before .before .before .pre in
-    subst (λ (k : Probe). Refuses qs k (s .m)) (sym (probe .given .1))
-    (climbed-none qs (probe .given .0 .0) (probe .given .0 .1 .0) (all-recurs qs (pre .0 .1)) (s .m)
+    subst (λ (k : Probe). ProbeRefuses qs k (s .m)) (sym (probe .given .1))
+    (climbed-none qs (probe .given .0 .0) (probe .given .0 .1 .0) (s .m)
     (sym (c .enum-told .given .1) ∙ c .before .before .climb .ensures))
 
 returns-2 : tie.Need-returns-2
@@ -66,16 +64,16 @@ returns-3 c =
     let s = c .before .before .before .before .args in
     let qs = chargedIn (s .core .now) (s .n) in
     let probe2 = c .before .before .probe2 in
-    shows-le (Refuses qs (s .probe) (s .m)) (probe2 .given .0 .0) (c .sum-at .result)
-    (λ come. subst (λ (k : Probe). Refuses qs k (s .m)) (sym (probe2 .given .1)) (omega (arith, come, c .sum-at .ensures .0)))
+    shows-le (ProbeRefuses qs (s .probe) (s .m)) (probe2 .given .0 .0) (c .sum-at .result)
+    (λ come. subst (λ (k : Probe). ProbeRefuses qs k (s .m)) (sym (probe2 .given .1)) (omega (arith, come, c .sum-at .ensures .0)))
 
 returns-4 : tie.Need-returns-4
 returns-4 c =
     let s = c .before .before .before .before .args in
     let qs = chargedIn (s .core .now) (s .n) in
     let probe3 = c .before .before .probe3 in
-    shows-lt (Refuses qs (s .probe) (s .m)) (probe3 .given .0 .0) (c .sum-at2 .result)
-    (λ more. subst (λ (k : Probe). Refuses qs k (s .m)) (sym (probe3 .given .1)) (omega (arith, more, c .sum-at2 .ensures .0)))
+    shows-lt (ProbeRefuses qs (s .probe) (s .m)) (probe3 .given .0 .0) (c .sum-at2 .result)
+    (λ more. subst (λ (k : Probe). ProbeRefuses qs k (s .m)) (sym (probe3 .given .1)) (omega (arith, more, c .sum-at2 .ensures .0)))
 
 pub refused-spec : {M : Type 1} → statement M
 refused-spec =

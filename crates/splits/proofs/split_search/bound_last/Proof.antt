@@ -109,7 +109,7 @@ returns-2 c =
     let pre = c .before .before .before .before .before .before .before .pre in (
       (
         pre .1 .1 .1 .0,
-        λ y v less pass. last-undecided (s .costs) (s .task) (s .x) y (s .w) v (pre .1 .0) less (sym judged
+        λ y v less pass. last-undecided (s .costs) (s .task) (s .x) y (s .w) v less (sym judged
             ∙ c .enum-told2 .given .1) pass,
       ),
       lay-last .ensures .2,

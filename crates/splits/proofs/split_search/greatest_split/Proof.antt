@@ -14,7 +14,7 @@ use Rattle.demand.specs.ways.ChargedSplit.{Chosen, tightBeside}
 use Rattle.demand.proofs.ChargeLaws.{all-countable}
 use Rattle.splits.proofs.SplitSearchLaws.{ready-laid, ready-kept, kept-again}
 use Rattle.demand.proofs.ChargedSplitLaws.{splits-of}
-use Rattle.demand.proofs.SplitLaws.{split-is, split-none}
+use Rattle.demand.proofs.SplitLaws.{split-exact, split-none}
 use Rattle.splits.proofs.split_search.greatest_split.Statement.{statement}
 use Rattle.splits.proofs.split_search.greatest_split.Tie as tie
 use Rattle.splits.proofs.split_search.greatest_split.Reads as reads
@@ -107,9 +107,8 @@ returns-2 c =
     let lay-out = c .before .before .before .before .before .before .before .lay-out in
     let row : chargedIn (start-of .last .0) n ≡ coreOf (s .costs) ps = start-of .ensures .1 .same ∙ (least-sum .ensures .2 .same ∙ lay-out .ensures .0) in
     let chosen = subst (λ (qs : List Charged). Chosen (s .costs) (s .grain) qs (s .task) (c .search .result)) row (c .search .ensures) in
-    let pre = c .before .before .before .before .before .before .before .before .before .before .pre in
-    split-is (s .costs) (s .grain) ps (s .task) (pre .1 .0 .1) (pre .1 .1) (c .search .result)
-    (splits-of (s .costs) ps (s .task) (s .grain) (c .search .result) chosen)
+    sym (split-exact (s .costs) (s .grain) ps (s .task) (c .search .result) .1
+    (splits-of (s .costs) ps (s .task) (s .grain) (c .search .result) chosen))
 
 pub greatest-split-spec : {M : Type 1} → statement M
 greatest-split-spec =

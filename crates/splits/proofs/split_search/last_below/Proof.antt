@@ -7,7 +7,6 @@ use Rattle.demand.specs.declared.Charged.{Charged}
 use Rattle.verdicts.specs.ChargedArray.{chargedIn}
 use Rattle.demand.specs.ways.ChargedSplit.{Tight}
 use Rattle.splits.specs.ways.SplitSearch.{Misses}
-use Rattle.demand.proofs.ChargeLaws.{all-recurs}
 use Rattle.splits.proofs.SplitSearchLaws.{ready-kept, kept-again}
 use Rattle.splits.proofs.SkipLaws.{skips-last}
 use borrow.Author.Needs.{needs}
@@ -84,7 +83,7 @@ returns c =
     (lay-first .ensures .1 .same) (c .window-below .ensures .0) in
     let less = c .before .before .before .less in
     let sum-at = c .before .before .before .before .before .sum-at in (
-      skips-last (s .costs) qs (s .task) (all-recurs qs (pre .1 .1 .0 .ranged)) (pre .1 .0) (s .x) t (s .w) (s .s) tight
+      skips-last (s .costs) qs (s .task) (s .x) t (s .w) (s .s) tight
           (omega (arith, found .3)) (pre .1 .1 .1 .1) (chargedIn new (s .n + 1)) (lay-first .ensures .0) (sum-at .result) (less .result)
           (lowered .result) (c .window-below .result) (sum-at .ensures .0) (less .ensures) (lowered .ensures) misses,
       kept-again (s .core .now) new (c .window-below .last .0) (s .n) (lay-first .ensures .1) (c .window-below .ensures .1),

@@ -4,7 +4,6 @@ use Prim.Native.Nat.{ℕ, _+_, _-_}
 use native.Mathlib.Omega.{arith}
 use Rattle.demand.specs.Answer.{tightOfLast}
 use Rattle.verdicts.specs.ChargedArray.{chargedIn}
-use Rattle.demand.proofs.ChargeLaws.{all-recurs}
 use Rattle.demand.proofs.ChargedSplitLaws.{tight-in}
 use borrow.Author.Needs.{needs}
 use Rattle.splits.proofs.split_search.tight_first.Statement.{statement}
@@ -37,9 +36,8 @@ returns c =
     let s = c .before .before .before .before .before .before .args in
     let qs = chargedIn (s .core .now) (s .n) in
     let lay-first = c .before .before .before .lay-first in
-    let rs = chargedIn (lay-first .last .0) (s .n + 1) in
-    let pre = c .before .before .before .before .before .before .pre in (
-      tight-in (s .costs) qs (s .task) (s .x) (all-recurs qs (pre .1 .1 .0 .ranged)) (pre .1 .0) rs (lay-first .ensures .0) (c .tight-of .result)
+    let rs = chargedIn (lay-first .last .0) (s .n + 1) in (
+      tight-in (s .costs) qs (s .task) (s .x) rs (lay-first .ensures .0) (c .tight-of .result)
           (c .tight-of .ensures ∙ ap (λ (b : ℕ). tightOfLast b rs rs) (c .before .stall-of .ensures .0)),
       lay-first .ensures .1,
     )

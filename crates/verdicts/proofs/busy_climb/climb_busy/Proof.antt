@@ -6,7 +6,6 @@ use native.Mathlib.Omega.{arith}
 use Rattle.demand.specs.Busy.{busySum, Clear}
 use Rattle.verdicts.specs.ChargedArray.{chargedIn}
 use Rattle.demand.proofs.BusyLaws.{clear-one, busy-found, busy-nothing, busy-sum-mono}
-use Rattle.demand.proofs.ChargeLaws.{all-recurs}
 use Rattle.verdicts.proofs.BusyClimbLaws.{clear-leap}
 use Rattle.verdicts.proofs.busy_climb.climb_busy.Statement.{statement}
 use Rattle.verdicts.proofs.busy_climb.climb_busy.Tie as tie
@@ -32,7 +31,7 @@ returns c =
     let s = c .before .before .before .args in
     let qs = chargedIn (s .core .now) (s .n) in
     let loop = c .before .before .loop in
-    busy-nothing qs (all-recurs qs (c .before .before .before .pre .1)) (loop .l) (c .if1 .taken) (loop .inv .1)
+    busy-nothing qs (loop .l) (c .if1 .taken) (loop .inv .1)
 
 add-flow-at : tie.Need-add-flow-at Inv-loop μ-loop
 add-flow-at c = search needs
@@ -45,8 +44,7 @@ returns-2 c =
     let s = c .before .before .before .before .before .before .args in
     let qs = chargedIn (s .core .now) (s .n) in
     let o = c .before .before .before .before .before .loop in
-    let pre = c .before .before .before .before .before .before .pre in
-    busy-found qs (all-recurs qs (pre .1)) (o .l) (o .inv .0) (omega arith)
+    busy-found qs (o .l) (o .inv .0) (omega arith)
     (omega (arith, c .before .before .flow-at .ensures .0 .exact, c .if2 .taken)) (o .inv .1)
 
 reach-of-requires : tie.Need-reach-of-requires Inv-loop μ-loop
@@ -67,9 +65,8 @@ loop-again c =
     let qs = chargedIn (s .core .now) (s .n) in
     let o = c .before .before .before .before .before .before .before .loop in
     let f = c .before .before .before .before .flow-at in
-    let pre = c .before .before .before .before .before .before .before .before .pre in
     let clear =
-    clear-leap (busySum qs) (busy-sum-mono qs (all-recurs qs (pre .1))) (o .l) (f .result) (c .before .reach-of .result) (o .inv .0)
+    clear-leap (busySum qs) (busy-sum-mono qs) (o .l) (f .result) (c .before .reach-of .result) (o .inv .0)
     (o .inv .1) (f .ensures .0) (c .before .reach-of .ensures .0) in
     (search needs, rw (c .greater .ensures) clear, search needs)
 

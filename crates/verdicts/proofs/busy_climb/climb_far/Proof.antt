@@ -5,7 +5,6 @@ use native.Mathlib.Omega.{arith}
 use Rattle.demand.specs.Busy.{busySum, Clear}
 use Rattle.verdicts.specs.ChargedArray.{chargedIn}
 use Rattle.demand.proofs.BusyLaws.{busy-found, busy-nothing, busy-sum-mono}
-use Rattle.demand.proofs.ChargeLaws.{all-recurs}
 use Rattle.verdicts.proofs.BusyClimbLaws.{clear-leap}
 use Rattle.verdicts.proofs.ReleaseSumLaws.{clear-past}
 use Rattle.verdicts.proofs.busy_climb.climb_far.Statement.{statement}
@@ -38,8 +37,7 @@ returns c =
     let s = c .before .before .before .before .before .args in
     let qs = chargedIn (s .core .now) (s .n) in
     let o = c .before .before .before .before .loop in
-    let pre = c .before .before .before .before .before .pre in
-    busy-found qs (all-recurs qs (pre .0 .1)) (o .l) (o .inv .0) (omega arith)
+    busy-found qs (o .l) (o .inv .0) (omega arith)
     (omega (arith, c .before .before .flow-at .ensures .0 .exact, c .if1 .taken)) (o .inv .1)
 
 reach-of-requires : tie.Need-reach-of-requires Inv-loop μ-loop
@@ -63,7 +61,7 @@ leap-requires c κs =
     let f = c .before .before .before .before .flow-at in
     let exact = f .ensures .0 .exact in
     let next =
-    clear-leap (busySum qs) (busy-sum-mono qs (all-recurs qs (pre .1))) (o .l) (f .result) (c .before .reach-of .result) (o .inv .0)
+    clear-leap (busySum qs) (busy-sum-mono qs) (o .l) (f .result) (c .before .reach-of .result) (o .inv .0)
     (o .inv .1) (f .ensures .0) (c .before .reach-of .ensures .0) in (
       pre,
       (
@@ -85,16 +83,14 @@ returns-2 c =
     let s = c .before .before .before .before .before .before .before .before .before .before .args in
     let qs = chargedIn (s .core .now) (s .n) in
     let leap = c .before .before .leap in
-    let pre = c .before .before .before .before .before .before .before .before .before .before .pre in
-    busy-nothing qs (all-recurs qs (pre .0 .1)) (leap .result) (c .if3 .taken) (leap .ensures .1)
+    busy-nothing qs (leap .result) (c .if3 .taken) (leap .ensures .1)
 
 returns-3 : tie.Need-returns-3 Inv-loop μ-loop
 returns-3 c =
     let s = c .before .before .before .before .before .before .before .before .before .before .args in
     let qs = chargedIn (s .core .now) (s .n) in
     let held = c .before .before .leap .ensures in
-    let pre = c .before .before .before .before .before .before .before .before .before .before .pre in
-    busy-found qs (all-recurs qs (pre .0 .1)) (c .before .before .leap .result) (omega arith) (omega arith) (held .2 (c .before .if2 .taken)) (held .1)
+    busy-found qs (c .before .before .leap .result) (omega arith) (omega arith) (held .2 (c .before .if2 .taken)) (held .1)
 
 loop-less : tie.Need-loop-less Inv-loop μ-loop
 loop-less c = search needs
@@ -107,7 +103,7 @@ returns-4 : tie.Need-returns-4 Inv-loop μ-loop
 returns-4 c =
     let s = c .before .before .args in
     let qs = chargedIn (s .core .now) (s .n) in
-    busy-nothing qs (all-recurs qs (c .before .before .pre .0 .1)) (c .before .loop .l) (omega arith) (c .before .loop .inv .1)
+    busy-nothing qs (c .before .loop .l) (omega arith) (c .before .loop .inv .1)
 
 pub climb-far-spec : {M : Type 1} → statement M
 climb-far-spec =

@@ -59,7 +59,7 @@ returns-2 c =
     let ranged = c .before .before .before .before .before .pre .0 in
     let jobs = c .before .before .ceil-div .result in
     let few = prod-le 101000000 2300000 {a = jobs} {b = q .charge + q .release + q .ipi} (search needs) (search needs) in
-    (flow-work q (ranged-recurs q ranged) (s .l) _ (unfold busyLoad in cc) refl refl, omega (arith, few), search needs, omega (arith, few))
+    (flow-work q (s .l) _ (unfold busyLoad in cc) refl refl, omega (arith, few), search needs, omega (arith, few))
 
 pub flow-of-spec : {M : Type 1} → statement M
 flow-of-spec =

@@ -7,7 +7,6 @@ use Rattle.verdicts.specs.ChargedArray.{chargedIn}
 use Rattle.demand.specs.Busy.{Clear}
 use Rattle.demand.proofs.BusyLaws.{clear-one, clear-step, least-holding-is}
 use Rattle.verdicts.proofs.ChargedArrayLaws.{asked, asked-mono}
-use Rattle.demand.proofs.ChargeLaws.{all-recurs}
 use Rattle.verdicts.proofs.lengths.climb.Statement.{statement}
 use Rattle.verdicts.proofs.lengths.climb.Tie as tie
 use Rattle.verdicts.proofs.lengths.climb.Reads as reads
@@ -34,8 +33,7 @@ returns c =
     let s = c .before .before .before .before .args in
     let qs = chargedIn (s .core .now) (s .n) in
     let loop = c .before .before .before .loop in
-    let pre = c .before .before .before .before .pre in
-    least-holding-is (asked (s .sum) (s .base) qs) (asked-mono (s .sum) (s .base) qs (all-recurs qs (pre .0 .1))) (s .top) (At (loop .l))
+    least-holding-is (asked (s .sum) (s .base) qs) (asked-mono (s .sum) (s .base) qs) (s .top) (At (loop .l))
     (record { here = record { some = loop .inv .0; fits = omega arith }; none-below = loop .inv .1 }, search needs)
 
 loop-less : tie.Need-loop-less Inv-loop μ-loop
@@ -45,18 +43,17 @@ loop-again : tie.Need-loop-again Inv-loop μ-loop
 loop-again c =
     let s = c .before .before .before .before .args in
     let qs = chargedIn (s .core .now) (s .n) in
-    let loop = c .before .before .before .loop in
-    let pre = c .before .before .before .before .pre in (
+    let loop = c .before .before .before .loop in (
       search needs,
       rw (c .before .sum-at .ensures .0) (clear-step (asked (s .sum) (s .base) qs)
-          (asked-mono (s .sum) (s .base) qs (all-recurs qs (pre .0 .1))) (loop .l) (loop .inv .1) (omega arith)),
+          (asked-mono (s .sum) (s .base) qs) (loop .l) (loop .inv .1) (omega arith)),
     )
 
 returns-2 : tie.Need-returns-2 Inv-loop μ-loop
 returns-2 c =
     let s = c .before .before .args in
     let qs = chargedIn (s .core .now) (s .n) in
-    least-holding-is (asked (s .sum) (s .base) qs) (asked-mono (s .sum) (s .base) qs (all-recurs qs (c .before .before .pre .0 .1))) (s .top) Nothing
+    least-holding-is (asked (s .sum) (s .base) qs) (asked-mono (s .sum) (s .base) qs) (s .top) Nothing
     (λ k h p. c .before .loop .inv .1 k (omega arith) p)
 
 pub climb-spec : {M : Type 1} → statement M

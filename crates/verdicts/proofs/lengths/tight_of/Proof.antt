@@ -9,7 +9,6 @@ use Rattle.demand.specs.Busy.{later}
 use Rattle.verdicts.specs.ChargedArray.{chargedIn}
 use Rattle.demand.specs.ways.Ranges.{Ranged}
 use Rattle.demand.proofs.BusyLaws.{found-within}
-use Rattle.demand.proofs.ChargeLaws.{all-recurs}
 use borrow.Author.Needs.{needs}
 use Rattle.verdicts.proofs.lengths.tight_of.Statement.{statement}
 use Rattle.verdicts.proofs.lengths.tight_of.Tie as tie
@@ -63,7 +62,7 @@ add-t13 c =
     omega (
       arith,
       found-within (asked Interrupts (s .b + charged-at .result .charge) qs)
-          (asked-mono Interrupts (s .b + charged-at .result .charge) qs (all-recurs qs (pre .0 .2))) (less .result) (c .before .t .given .0 .0)
+          (asked-mono Interrupts (s .b + charged-at .result .charge) qs) (less .result) (c .before .t .given .0 .0)
           (sym (c .before .before .before .climb .ensures) ∙ c .before .t .given .1),
     )
 

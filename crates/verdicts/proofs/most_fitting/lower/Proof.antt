@@ -3,7 +3,6 @@
 use Prim.Native.Nat.{_≤_, _-_}
 use native.Mathlib.Omega.{arith}
 use Rattle.verdicts.specs.ChargedArray.{chargedIn}
-use Rattle.demand.proofs.ChargeLaws.{all-recurs, ranged-recurs}
 use Rattle.verdicts.proofs.MostFittingLaws.{lowers-none, lowers-look, lowers-below, asked-before, asked-last}
 use borrow.Author.Needs.{needs}
 use Rattle.verdicts.proofs.most_fitting.lower.Statement.{statement}
@@ -87,7 +86,7 @@ returns-2 c =
     let pre = at-level .before .pre in
     rw (c .last-below2 .ensures)
     (lowers-below (s .b) qs (s .q) (s .a) (s .s) (pre .1 .1 .1 .0) (pre .1 .1 .1 .1) (level-at .result) (level-at .ensures)
-    (all-recurs qs (pre .0 .1)) (ranged-recurs (s .q) (pre .1 .0)) (s .w) (c .before .next-end .result) (s .s .rest) (s .s .jobs)
+    (s .w) (c .before .next-end .result) (s .s .rest) (s .s .jobs)
     (pre .1 .1 .0 .1) (c .before .next-end .ensures) (pre .1 .1 .1 .1 .asks (omega (arith, at-if2 .if2 .taken))))
 
 mul-next-end-2 : tie.Need-mul-next-end-2
@@ -121,7 +120,7 @@ returns-3 c =
     let some : 1 ≤ level-at .result .charge = omega (arith, at-if1 .if1 .left) in
     rw (c .last-below3 .ensures)
     (lowers-below (s .b) qs (s .q) (s .a) (s .s) (pre .1 .1 .1 .0) (pre .1 .1 .1 .1) (level-at .result) (level-at .ensures)
-    (all-recurs qs (pre .0 .1)) (ranged-recurs (s .q) (pre .1 .0)) (s .w) (c .before .next-end2 .result)
+    (s .w) (c .before .next-end2 .result)
     (level-at .result .rest) (level-at .result .jobs) (pre .1 .1 .0 .1) (c .before .next-end2 .ensures)
     (asked-last (s .b) qs (s .q) (s .a) (s .s) (pre .1 .1 .1 .0) (pre .1 .1 .1 .1) (level-at .result) (level-at .ensures) last some))
 

@@ -5,7 +5,6 @@ use native.Mathlib.Omega.{arith}
 use Rattle.demand.specs.declared.Verdict.the-variants.{Passes, Overloaded}
 use Rattle.verdicts.specs.ChargedArray.{chargedIn}
 use Rattle.demand.specs.Verdict.{Calm}
-use Rattle.demand.proofs.ChargeLaws.{all-recurs}
 use Rattle.demand.proofs.VerdictLaws.{calm-more, scan-is}
 use Rattle.verdicts.proofs.spans.descend.Statement.{statement}
 use Rattle.verdicts.proofs.spans.descend.Tie as tie
@@ -55,10 +54,9 @@ loop-again : tie.Need-loop-again Inv-loop μ-loop
 loop-again c =
     let s = c .before .before .before .before .before .before .args in
     let qs = chargedIn (s .core .now) (s .n) in
-    let loop = c .before .before .before .before .loop in
-    let pre = c .before .before .before .before .before .before .pre in (
+    let loop = c .before .before .before .before .loop in (
       omega arith,
-      calm-more (s .b) qs (all-recurs qs (pre .0 .1)) (loop .end - 1) (c .next-end .result) (s .a + s .l) (omega arith)
+      calm-more (s .b) qs (loop .end - 1) (c .next-end .result) (s .a + s .l) (omega arith)
           (λ wide. omega (arith, c .next-end .ensures .2 (omega arith))) (λ u from below. loop .inv .1 u (omega arith) below),
     )
 

@@ -9,7 +9,6 @@ use Rattle.demand.specs.Demand.{leastLive}
 use Rattle.verdicts.specs.ChargedArray.{chargedIn}
 use Rattle.demand.specs.Verdict.{overSpan, scan}
 use Rattle.demand.proofs.BusyLaws.{busy-length-within}
-use Rattle.demand.proofs.ChargeLaws.{all-recurs}
 use Rattle.verdicts.proofs.ChargedArrayLaws.{charged-in-length}
 use Rattle.demand.proofs.VerdictLaws.{verdict-span, verdict-empty}
 use borrow.Author.Needs.{needs}
@@ -48,7 +47,7 @@ descend-requires c κs =
       (
         pre .1,
         omega (arith, c .least-live .ensures, least-live-fits qs (pre .0 .1)),
-        busy-length-within qs (all-recurs qs (pre .0 .1)) (l .given .0 .0) (sym (climb-busy .ensures) ∙ l .given .1),
+        busy-length-within qs (l .given .0 .0) (sym (climb-busy .ensures) ∙ l .given .1),
       ),
     )
 
