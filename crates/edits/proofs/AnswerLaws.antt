@@ -15,12 +15,12 @@ use mathlib.Core.Path.{_≡_, refl, sym, ap, _∙_, subst}
 use mathlib.Core.Bool.{Bool, true, false, cond}
 use mathlib.Core.Logic.{_⊎_, inl, inr}
 use mathlib.Core.List.{List, []}
-use Prim.Native.Nat.{_≤_, ℕ, zero, suc, _-_}
+use Prim.Native.Nat.{_≤_, ℕ, zero, suc}
 use native.Mathlib.Omega.{arith}
 use borrow.Author.Tests.{eqb-true, eqb-false}
 use lib.Dec.{eqb, leb}
-use lib.ListN.{length, take, replicate}
-use lib.Seq.{take-length, take-append-seam}
+use lib.ListN.{length, take}
+use lib.Seq.{take-length}
 use Rattle.demand.specs.declared.Costs.{Costs}
 use Rattle.demand.specs.Sizes.{sizedCosts}
 use Rattle.task.specs.declared.Task.{Task}

@@ -8,22 +8,23 @@
 --   held-before, held-after      what an accepted edit of a held plan keeps
 use mathlib.Core.Path.{_≡_, refl, sym, ap, _∙_, subst}
 use mathlib.Core.Bool.{Bool, true, false, cond}
-use mathlib.Core.Logic.{_⊎_, inl, inr}
+use mathlib.Core.Logic.{inl, inr}
 use mathlib.Core.List.{List, [], _∷_, map}
 use Prim.Native.Nat.{ℕ, zero, suc, _<_}
 use native.Mathlib.Omega.{arith}
 use borrow.Author.Tests.{eqb-false}
 use lib.Dec.{eqb, leb}
-use lib.ListN.{length, take, getD}
+use lib.ListN.{length, getD}
 use Rattle.demand.specs.declared.Costs.{Costs}
 use Rattle.demand.specs.Sizes.{sizedCosts}
 use Rattle.task.specs.declared.Name.{Name}
 use Rattle.task.specs.declared.Task.{Task}
 use Rattle.task.specs.declared.Machine.{Machine}
-use Rattle.task.specs.Tasks.{coresMost, tasksMost, rule, sizedMachine, firstFault, stateFault, placeOf}
+use Rattle.task.specs.Names.{sameName}
+use Rattle.task.specs.Tasks.{coresMost, tasksMost, rule, sizedMachine, firstFault, stateFault, taskAt}
+use Rattle.walks.specs.Lists.{only}
 use Rattle.walks.specs.Edits.{edited}
 use Rattle.walks.specs.Kept.{Among, Behind, Meet}
-use Rattle.plan.specs.declared.Stored.{Stored}
 use Rattle.plan.specs.declared.Plan.{Plan}
 use Rattle.plan.specs.declared.Reply.{Reply}
 use Rattle.plan.specs.Walk.{taskWay}
@@ -31,7 +32,7 @@ use Rattle.plan.specs.Layout.{keptPiece}
 use Rattle.plan.specs.Plan.{planOf}
 use Rattle.plan.proofs.Theorems.{plan-faultless}
 use Rattle.edits.specs.Edits.{byName, TaskEdit, tasksHeld, editFault, backAt, settled, editOf, SameAnswer, afresh, Afresh, rowIn, Held, played}
-use Rattle.edits.specs.Kept.{inOrder, ofPlace, piecesOn, Keeps, editedName, Ahead}
+use Rattle.edits.specs.Kept.{inOrder, piecesOn, Keeps, editedName, Ahead}
 use Rattle.edits.proofs.AnswerLaws.{Made, Answered, plan-is, edit-answered}
 use Rattle.edits.proofs.Theorems.{edit-before, edit-after, edit-same}
 use Rattle.edits.proofs.HeldMeaning.{LikeAfresh, held-exact}
@@ -112,7 +113,7 @@ module _ (s : Plan) (held : Held s) where
   -- what the state shows is what the plan worked out afresh does
   shows : (b : Name) (q : ℕ) → q < coresMost → piecesOn s b q ≡ piecesOn (afresh s .plan) b q
   unfolding piecesOn
-  shows b q low = λ i. map keptPiece (ofPlace (placeOf 1 b (sym (made .tasks-are) i)) (like .rows q low i))
+  shows b q low = λ i. map keptPiece (only (λ x. sameName b (taskAt (sym (made .tasks-are) i) (x .task) .name)) (like .rows q low i))
 
   afresh-faultless : (u : Plan) → Afresh u → stateFault (u .machine) (u .costs) (u .tasks .count) (u .tasks .list) ≡ 0
   unfolding Afresh

@@ -1,5 +1,5 @@
 -- The walk that a plan goes by: document 01, "The C=D walk". It is C=D (`walks/specs/Halves.antt`) on the plan's machine, at its costs. It goes over the
--- places of the tasks in the list; `through` makes it the walk over the tasks themselves.
+-- places of the tasks in the list; a place stands for its task, so it is the walk over the tasks themselves (`edits/proofs/HeldLaws.antt`: `walked-tasks`).
 --
 --   wholeOf t            the whole piece of a task
 --   wholeAt ts i         that of the task at place i
@@ -20,7 +20,7 @@ use Rattle.task.specs.declared.Task.{Task}
 use Rattle.task.specs.declared.Machine.{Machine}
 use Rattle.task.specs.Tasks.{wholePiece, taskAt}
 use Rattle.walks.specs.Order.{pack}
-use Rattle.walks.specs.Way.{Way, Ending, through, walkOver}
+use Rattle.walks.specs.Way.{Way, Ending, walkOver}
 use Rattle.walks.specs.Halves.{denser, Stand, halving}
 
 abbrev pub wholeOf : Task → Piece
@@ -36,7 +36,7 @@ abbrev pub taskWay : Machine → Costs → Way Task
 taskWay m c = wayFor m c wholeOf
 
 abbrev pub placeWay : Machine → Costs → List Task → Way ℕ
-placeWay m c ts = through (taskAt ts) (taskWay m c)
+placeWay m c ts = wayFor m c (wholeAt ts)
 
 abbrev pub upto : ℕ → List ℕ
 upto zero = []

@@ -9,13 +9,12 @@
 --   plan-made         so is a plan that comes, of what it was asked for
 --   edit-yields       and what an accepted edit yields, of the state's own machine and costs and the tasks after it
 use mathlib.Core.Path.{_≡_, refl, ap, _∙_}
-use mathlib.Core.List.{List, map}
+use mathlib.Core.List.{List}
 use Prim.Native.Nat.{ℕ, _<_}
 use borrow.Author.Tests.{lt-leb}
 use lib.Count.{ones}
 use lib.ListN.{length, take, getD}
 use lib.Dec.{eqb}
-use Rattle.demand.specs.declared.Piece.{Piece}
 use Rattle.demand.specs.declared.Costs.{Costs}
 use Rattle.demand.specs.Sizes.{Sized, Each}
 use Rattle.demand.specs.Charge.{coreOf, stall}

@@ -36,11 +36,11 @@
 --   kept-before, kept-after         what an accepted edit of a held plan keeps
 --   same-state                      where kept-after asks for the same state, that is the same core with the same row
 -- Assumes nothing.
-use mathlib.Core.Path.{_≡_, refl, sym, ap, _∙_, subst}
+use mathlib.Core.Path.{_≡_, sym, ap, _∙_, subst}
 use mathlib.Core.Logic.{_↔_}
 use mathlib.Core.List.{List, [], _∷_, _++_, map}
-use Prim.Native.Nat.{ℕ, suc, _+_, _*_, _^_, _≤_, _<_}
-use lib.ListN.{length, take, drop, getD}
+use Prim.Native.Nat.{ℕ, suc, _+_, _*_, _^_, _<_}
+use lib.ListN.{length, take, drop}
 use Rattle.demand.specs.declared.Piece.{Piece}
 use Rattle.demand.specs.declared.Costs.{Costs}
 use Rattle.demand.specs.declared.Split.{Split}
@@ -288,15 +288,17 @@ told-apart sheet sheet′ text is is′ =
 
 -- ---- demand 3: edits
 
-pub begun-held : (s : Plan) → Afresh s → Held s
+pub begun-held : (s : Plan) → planOf (s .machine) (s .costs) (s .tasks .count) (s .tasks .list) ≡ accepted s → Held s
+unfolding Afresh
 begun-held s = afresh-held s
 
 pub after-any : (es : List TaskEdit) (s : Plan) → Held s
     → Held (played es s) × (played es s .machine ≡ s .machine) × (played es s .costs ≡ s .costs)
 after-any es s = after-held es s
 
-pub after-any-afresh : (es : List TaskEdit) (s : Plan) → Afresh s
+pub after-any-afresh : (es : List TaskEdit) (s : Plan) → planOf (s .machine) (s .costs) (s .tasks .count) (s .tasks .list) ≡ accepted s
     → planOf (s .machine) (s .costs) (played es s .tasks .count) (played es s .tasks .list) ≡ accepted (played es s)
+unfolding Afresh
 after-any-afresh es s = after-edits-afresh es s
 
 pub edit-yields : (e : TaskEdit) (s : Plan) → editOf e s .number ≡ 0
