@@ -1,6 +1,7 @@
 -- What a held plan's rows show of the walk over its tasks: the walk goes over places in the task list, and `walks` tells it as the walk over the tasks.
 -- Assumes nothing.
 --
+--   in-order               the packing order of the places is that of the tasks
 --   walked-tasks           the walk over places is the walk over the tasks
 --   Timed t                no D is 0: what the packing order asks of a task
 --   Told s, held-told      a held plan's walk over its tasks, and what it shows of each name
@@ -23,10 +24,12 @@ use Rattle.task.specs.Names.{sameName}
 use Rattle.task.specs.Tasks.{wholePiece, past, taskAt}
 use Rattle.task.proofs.TaskLaws.{state-sane}
 use Rattle.walks.specs.Lists.{Apart, keep, only}
+use Rattle.walks.specs.Order.{pack}
 use Rattle.walks.specs.Way.{Placed, fine, walkOf, onCore, relabel, relabelled}
 use Rattle.walks.specs.Kept.{ofKey}
-use Rattle.walks.specs.Halves.{Stand}
+use Rattle.walks.specs.Halves.{denser, Stand}
 use Rattle.walks.proofs.ListLaws.{only-map}
+use Rattle.walks.proofs.OrderLaws.{pack-map}
 use Rattle.walks.proofs.WayLaws.{of-map}
 use Rattle.walks.proofs.KeptLaws.{shareOn, Sorts}
 use Rattle.plan.specs.declared.Stored.{Stored}
@@ -39,7 +42,7 @@ use Rattle.plan.specs.Shows.{storedOf, numbersOn, LayoutShows}
 use Rattle.plan.proofs.GoingLaws.{piece-stored}
 use Rattle.plan.proofs.Theorems.{plan-faultless, plan-comes, plan-shows}
 use Rattle.edits.specs.Edits.{byName, tasksHeld, Afresh}
-use Rattle.edits.specs.Kept.{piecesOn}
+use Rattle.edits.specs.Kept.{inOrder, piecesOn}
 use Rattle.edits.proofs.NameSets.{faults-known}
 
 -- ---- places as tasks
@@ -49,9 +52,17 @@ map-upto ts zero h = refl
 map-upto ts (suc n) h = map-append (taskAt ts) (upto n) (n ∷ [])
     ∙ (ap (λ (z : List Task). z ++ (taskAt ts n ∷ [])) (map-upto ts n (omega arith)) ∙ sym (take-suc ts n past h))
 
+all-upto : (ts : List Task) → map (taskAt ts) (upto (length ts)) ≡ ts
+all-upto ts = map-upto ts (length ts) (omega arith) ∙ take-length ts
+
+pub in-order : (ts : List Task) → inOrder ts ≡ pack (λ a b. denser (wholeOf a) (wholeOf b)) ts
+in-order ts =
+    let beats : Task → Task → Bool = λ a b. denser (wholeOf a) (wholeOf b) in
+    pack-map (taskAt ts) beats (upto (length ts)) ∙ ap (pack beats) (all-upto ts)
+
 pub walked-tasks : (m : Machine) (c : Costs) (ts : List Task) → relabelled (taskAt ts) (walked m c ts) ≡ walkOf (taskWay m c) ts
 unfolding walked
-walked-tasks m c ts = of-map (taskAt ts) (taskWay m c) (upto (length ts)) ∙ ap (walkOf (taskWay m c)) (map-upto ts (length ts) (omega arith) ∙ take-length ts)
+walked-tasks m c ts = of-map (taskAt ts) (taskWay m c) (upto (length ts)) ∙ ap (walkOf (taskWay m c)) (all-upto ts)
 
 -- ---- a name's pieces
 

@@ -16,17 +16,15 @@ use Rattle.task.specs.declared.Task.{Task}
 use Rattle.task.specs.Names.{sameName}
 use Rattle.task.specs.Tasks.{coresMost, taskAt}
 use Rattle.walks.specs.Lists.{only}
-use Rattle.walks.specs.Order.{pack}
 use Rattle.walks.specs.Edits.{editedKey}
 use Rattle.walks.specs.Kept.{Among, Before}
-use Rattle.walks.specs.Halves.{denser}
 use Rattle.plan.specs.declared.Plan.{Plan}
-use Rattle.plan.specs.Walk.{wholeOf}
+use Rattle.plan.specs.Walk.{packed}
 use Rattle.plan.specs.Layout.{keptPiece}
 use Rattle.edits.specs.Edits.{byName, TaskEdit, tasksHeld, rowIn}
 
 abbrev pub inOrder : List Task → List Task
-inOrder ts = pack (λ a b. denser (wholeOf a) (wholeOf b)) ts
+inOrder ts = map (taskAt ts) (packed ts)
 
 unfoldable pub piecesOn : Plan → Name → ℕ → List Piece
 piecesOn s n q = map keptPiece (only (λ x. sameName n (taskAt (tasksHeld s) (x .task) .name)) (rowIn s q))

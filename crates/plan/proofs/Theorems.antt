@@ -10,6 +10,7 @@
 --   no-room-place         and it is one of the first n
 --   packing-order         the packing order has the place of each task, once
 --   packing-ranked        greater C/D first: none stands behind one that it beats, and ties stand by earlier task
+--   packing-one           and a list of which both are so is the packing order
 --   all-placed            every task is placed: whole on a core, or by its greatest split on a core and the next; nothing else is placed of it
 --   budgets-add           the budgets of a task's pieces add to C
 --   windows-add           their windows add to D
@@ -62,6 +63,7 @@ use Rattle.plan.specs.Shows.{LayoutShows, WordShows}
 use Rattle.plan.proofs.WalkLaws.{whole-kind, claims, walk-planned, only-seven}
 use Rattle.plan.proofs.PlanLaws.{sized-at, upto-each, fault-seven}
 use Rattle.plan.proofs.PlaceLaws.{byPlace, place-exact, upto-chain, Arranged, arranged, rearranged}
+use Rattle.plan.proofs.RankLaws.{rearranged-one}
 use Rattle.plan.proofs.ShowLaws.{Room, kept, kept-shows}
 use Rattle.plan.proofs.WordLaws.{word-shows}
 
@@ -186,6 +188,10 @@ module _ (m : Machine) (c : Costs) (n : ℕ) (ts : List Task) (faultless : state
       pack-ranked (λ k. 1 ≤ wholeAt (take n ts) k .window) (denserAt (take n ts)) (denser-lawful (wholeAt (take n ts))) (λ i j. i < j) places
       (upto-each (λ k. 1 ≤ wholeAt (take n ts) k .window) (length (take n ts))
       (λ k low. (let size = sized-place k low in omega (arith, size .budget-some, size .budget-fits)))) (upto-chain (length (take n ts)))
+
+  pub packing-one : (ks : List ℕ) → Rearranged (length (take n ts)) ks → Chain (Precedes (denserAt (take n ts)) (λ i j. i < j)) ks → ks ≡ packed (take n ts)
+  packing-one ks all ranked =
+      rearranged-one (denserAt (take n ts)) (length (take n ts)) ks (packed (take n ts)) all (packing-order (take n ts)) ranked packing-ranked
 
   abbrev timesOf : ℕ → Times
   timesOf k = taskAt (take n ts) k .times

@@ -19,7 +19,8 @@
 --   passes, overloaded, undecided   each verdict comes exactly where no rule is broken and its meaning holds; `-told`: on lent bytes, by the number given back
 --   split                           and so does a split
 --   fits-above                      each task of a sheet that is read has the times of the part that its line names, by equal lengths and bytes
---   packing, packing-ranked, walk-order     the walk goes over the tasks in packing order: each task once, greater C/D first, ties by earlier task
+--   packing, packing-ranked         the packing order has each task once, greater C/D first, ties by earlier task
+--   packing-one, walk-order         it is the only order that is so, and the walk goes over the tasks in it
 --   walk-promised                   what a walk that ends well placed: every task, budgets and windows adding up, on the machine's cores, every core passing
 --   plan-made                       a plan that comes is a held plan, of what was asked for
 --   held-promised, held-ones        a held plan's walk placed so, and the number of tasks on a core is that of its pieces
@@ -33,8 +34,8 @@
 --   edit-yields                     an accepted edit yields a held plan, of the same machine and costs, and of the tasks that it should
 --   edit-afresh                     and it is the plan that is answered for these, whatever the rest of the state was
 --   edit-looks-at                   an edit relies on machine, costs and task list alone
---   kept-before, kept-after         what an accepted edit of a held plan keeps
---   same-state                      where kept-after asks for the same state, that is the same core with the same row
+--   kept-before                     an accepted edit of a held plan keeps the pieces of each task before the edited one in both packing orders
+--   kept-after                      and where at a later task the two walks stand at the same core with the same row, of that task and all later ones
 -- Assumes nothing.
 use mathlib.Core.Path.{_≡_, sym, ap, _∙_, subst}
 use mathlib.Core.Logic.{_↔_}
@@ -65,7 +66,7 @@ use Rattle.walks.specs.Lists.{Chain, sumBy}
 use Rattle.walks.specs.Order.{Precedes}
 use Rattle.walks.specs.Way.{Placed, fine, stuck, walkOver, onCore, rowOf}
 use Rattle.walks.specs.Edits.{edited}
-use Rattle.walks.specs.Kept.{Among, Behind, Meet}
+use Rattle.walks.specs.Kept.{Among, Behind}
 use Rattle.walks.specs.Halves.{Stand}
 use Rattle.plan.specs.declared.Plan.{Plan}
 use Rattle.plan.specs.declared.Reply.{Reply}
@@ -74,7 +75,8 @@ use Rattle.plan.specs.Layout.{tasksOn}
 use Rattle.plan.specs.Plan.{planOf}
 use Rattle.plan.specs.Refusals.{planTable}
 use Rattle.plan.specs.Places.{Rearranged, ofTask, TaskPlaced}
-use Rattle.plan.proofs.Theorems.{plan-faultless, plan-comes, packing-order, packing-ranked as ranked, all-placed, budgets-add, windows-add, plan-counts}
+use Rattle.plan.proofs.Theorems.{plan-faultless, plan-comes, packing-order, packing-ranked as ranked, packing-one as only-order}
+use Rattle.plan.proofs.Theorems.{all-placed, budgets-add, windows-add, plan-counts}
 use Rattle.plan.proofs.RefusalLaws.{plan-refused as told-plan, plan-kept}
 use Rattle.sheet.specs.Sheet.{readOf}
 use Rattle.sheet.specs.Fitted.{Fitted, linesOf}
@@ -189,6 +191,10 @@ packing = packing-order
 pub packing-ranked : (m : Machine) (c : Costs) (n : ℕ) (ts : List Task) → Kept (stateTable m c n ts)
     → Chain (Precedes (denserAt (take n ts)) (λ i j. i < j)) (packed (take n ts))
 packing-ranked m c n ts sane = ranked m c n ts (state-kept m c n ts .1 sane)
+
+pub packing-one : (m : Machine) (c : Costs) (n : ℕ) (ts : List Task) → Kept (stateTable m c n ts) → (ks : List ℕ)
+    → Rearranged (length (take n ts)) ks → Chain (Precedes (denserAt (take n ts)) (λ i j. i < j)) ks → ks ≡ packed (take n ts)
+packing-one m c n ts sane = only-order m c n ts (state-kept m c n ts .1 sane)
 
 pub walk-order : (m : Machine) (c : Costs) (ts : List Task) → walked m c ts ≡ walkOver (placeWay m c ts) (packed ts)
 walk-order = in-packing-order
@@ -314,16 +320,14 @@ pub edit-looks-at : (e : TaskEdit) (s t : Plan) → s .machine ≡ t .machine �
     → s .tasks .count ≡ t .tasks .count → SameAnswer (editOf e s) (editOf e t)
 edit-looks-at e s t = edit-relies e s t
 
-pub same-state : (m : Machine) (c : Costs) (p p′ : List Task) (s s′ : Stand) (l l′ : List (Placed Task))
-    → walkOver (taskWay m c) p ≡ fine s l → walkOver (taskWay m c) p′ ≡ fine s′ l′
-    → s .core ≡ s′ .core → s .row ≡ s′ .row → Meet (taskWay m c) p p′
-same-state = same-stand
-
 module _ (e : TaskEdit) (s : Plan) (held : Held s) (taken : editOf e s .number ≡ 0) where
   pub kept-before : (b : Name) → Ahead (editedName e) b (tasksHeld s) → Ahead (editedName e) b (tasksHeld (editOf e s .plan)) → Keeps s (editOf e s .plan) b
   kept-before = held-before s held e taken
 
+  -- the walks over the tasks before b, in the old and in the new packing order, end at one core with one row
   pub kept-after : {p r p′ r′ : List Task} {b b′ : Task} → Behind byName (editedName e) (inOrder (tasksHeld s)) p b r
-      → Behind byName (editedName e) (inOrder (tasksHeld (editOf e s .plan))) p′ b′ r′ → b .name ≡ b′ .name
-      → Meet (taskWay (s .machine) (s .costs)) p p′ → (d : Name) → Among byName d (b ∷ r) → Keeps s (editOf e s .plan) d
-  kept-after = held-after s held e taken
+      → Behind byName (editedName e) (inOrder (tasksHeld (editOf e s .plan))) p′ b′ r′ → b .name ≡ b′ .name → (t t′ : Stand) (l l′ : List (Placed Task))
+      → walkOver (taskWay (s .machine) (s .costs)) p ≡ fine t l → walkOver (taskWay (s .machine) (s .costs)) p′ ≡ fine t′ l′
+      → t .core ≡ t′ .core → t .row ≡ t′ .row → (d : Name) → Among byName d (b ∷ r) → Keeps s (editOf e s .plan) d
+  kept-after {p} {r} {p′} {r′} old new names t t′ l l′ walks walks′ core row =
+      held-after s held e taken old new names (same-stand (s .machine) (s .costs) p p′ t t′ l l′ walks walks′ core row)
