@@ -9,17 +9,18 @@
 --   Ends, replanned-ends   a list that breaks no rule is planned, or refused with 7 and the place of the task that has none
 --   edit-goes              an edit of a state that breaks no rule, and breaks none itself, is the walk over the tasks after it
 --   edit-made              an accepted edit makes a plan of the state's own machine and costs, and of the tasks after it
+--   edit-planned           and is that plan: what is answered for the state's own machine and costs, and the tasks after it
 --   edit-back, edit-keeps  a refused one gives the state back; so either keeps the machine, the costs, and that the plan is held
 use mathlib.Core.Path.{_≡_, refl, sym, ap, _∙_, subst}
 use mathlib.Core.Bool.{Bool, true, false, cond}
 use mathlib.Core.Logic.{_⊎_, inl, inr}
 use mathlib.Core.List.{List, []}
-use Prim.Native.Nat.{_≤_, ℕ, zero, suc, _-_}
+use Prim.Native.Nat.{_≤_, ℕ, zero, suc}
 use native.Mathlib.Omega.{arith}
 use borrow.Author.Tests.{eqb-true, eqb-false}
 use lib.Dec.{eqb, leb}
-use lib.ListN.{length, take, replicate}
-use lib.Seq.{take-length, take-append-seam}
+use lib.ListN.{length, take}
+use lib.Seq.{take-length}
 use Rattle.demand.specs.declared.Costs.{Costs}
 use Rattle.demand.specs.Sizes.{sizedCosts}
 use Rattle.task.specs.declared.Task.{Task}
@@ -128,6 +129,34 @@ edit-made e s number = by (edit-answered e s)
     by : Answered s (edited byName e (tasksHeld s)) (editOf e s) → Made (s .machine) (s .costs) (edited byName e (tasksHeld s)) (editOf e s .plan)
     by (inl r) = r .1
     by (inr r) = absurd (r .0 number)
+
+-- an answer that is accepted is the one that was looked at last
+back-accepted : (k : ℕ) (s : Plan) (r : Reply) → backAt k s r .number ≡ 0 → backAt k s r ≡ r
+back-accepted zero s r number = refl
+back-accepted (suc k) s r number = absurd (omega arith)
+
+settled-accepted : (s : Plan) (r : Reply) → settled s r .number ≡ 0 → settled s r ≡ r
+settled-accepted s r = by (eqb (r .number) 0) refl
+  where
+    by : (t : Bool) → eqb (r .number) 0 ≡ t → cond t r (givenBack s (r .number) (r .carries)) .number ≡ 0 → cond t r (givenBack s (r .number) (r .carries)) ≡ r
+    by true e number = refl
+    by false e number = absurd (eqb-false (r .number) 0 e number)
+
+pub edit-planned : (e : TaskEdit) (s : Plan) → editOf e s .number ≡ 0
+    → planOf (s .machine) (s .costs) (length (edited byName e (tasksHeld s))) (edited byName e (tasksHeld s)) ≡ accepted (editOf e s .plan)
+unfolding editOf
+edit-planned e s number =
+    let ts = edited byName e (tasksHeld s) in
+    let state = stateFault (s .machine) (s .costs) (s .tasks .count) (s .tasks .list) in
+    let own = backAt (editFault e (tasksHeld s)) s (replanned s ts) in
+    let planned = planOf (s .machine) (s .costs) (length ts) ts in
+    let one : editOf e s ≡ own = back-accepted state s own number in
+    let two : own ≡ replanned s ts =
+    back-accepted (editFault e (tasksHeld s)) s (replanned s ts) (ap (λ (r : Reply). r .number) (sym one) ∙ number) in
+    let three : replanned s ts ≡ planned = settled-accepted s planned (ap (λ (r : Reply). r .number) (sym (one ∙ two)) ∙ number) in
+    let all : editOf e s ≡ planned = one ∙ (two ∙ three) in
+    let made = plan-made (s .machine) (s .costs) ts (ap (λ (r : Reply). r .number) (sym all) ∙ number) in
+    made .1 ∙ ap (λ (r : Reply). accepted (r .plan)) (sym (all ∙ made .1))
 
 pub edit-back : (e : TaskEdit) (s : Plan) → (editOf e s .number ≡ 0 → ⊥) → editOf e s .plan ≡ s
 edit-back e s some = by (edit-answered e s)

@@ -8,22 +8,23 @@
 --   held-before, held-after      what an accepted edit of a held plan keeps
 use mathlib.Core.Path.{_≡_, refl, sym, ap, _∙_, subst}
 use mathlib.Core.Bool.{Bool, true, false, cond}
-use mathlib.Core.Logic.{_⊎_, inl, inr}
+use mathlib.Core.Logic.{inl, inr}
 use mathlib.Core.List.{List, [], _∷_, map}
 use Prim.Native.Nat.{ℕ, zero, suc, _<_}
 use native.Mathlib.Omega.{arith}
 use borrow.Author.Tests.{eqb-false}
 use lib.Dec.{eqb, leb}
-use lib.ListN.{length, take, getD}
+use lib.ListN.{length, getD}
 use Rattle.demand.specs.declared.Costs.{Costs}
 use Rattle.demand.specs.Sizes.{sizedCosts}
 use Rattle.task.specs.declared.Name.{Name}
 use Rattle.task.specs.declared.Task.{Task}
 use Rattle.task.specs.declared.Machine.{Machine}
-use Rattle.task.specs.Tasks.{coresMost, tasksMost, rule, sizedMachine, firstFault, stateFault, placeOf}
+use Rattle.task.specs.Names.{sameName}
+use Rattle.task.specs.Tasks.{coresMost, tasksMost, rule, sizedMachine, firstFault, stateFault, taskAt}
+use Rattle.walks.specs.Lists.{only}
 use Rattle.walks.specs.Edits.{edited}
 use Rattle.walks.specs.Kept.{Among, Behind, Meet}
-use Rattle.plan.specs.declared.Stored.{Stored}
 use Rattle.plan.specs.declared.Plan.{Plan}
 use Rattle.plan.specs.declared.Reply.{Reply}
 use Rattle.plan.specs.Walk.{taskWay}
@@ -31,9 +32,10 @@ use Rattle.plan.specs.Layout.{keptPiece}
 use Rattle.plan.specs.Plan.{planOf}
 use Rattle.plan.proofs.Theorems.{plan-faultless}
 use Rattle.edits.specs.Edits.{byName, TaskEdit, tasksHeld, editFault, backAt, settled, editOf, SameAnswer, afresh, Afresh, rowIn, Held, played}
-use Rattle.edits.specs.Kept.{inOrder, ofPlace, piecesOn, Keeps, editedName, Ahead}
+use Rattle.edits.specs.Kept.{inOrder, piecesOn, Keeps, editedName, Ahead}
 use Rattle.edits.proofs.AnswerLaws.{Made, Answered, plan-is, edit-answered}
 use Rattle.edits.proofs.Theorems.{edit-before, edit-after, edit-same}
+use Rattle.edits.proofs.HeldMeaning.{LikeAfresh, held-exact}
 
 -- ---- what an edit relies on
 
@@ -73,11 +75,11 @@ module _ (e : TaskEdit) (s t : Plan) (machine : s .machine ≡ t .machine) (cost
 
 pub afresh-held : (s : Plan) → Afresh s → Held s
 unfolding Afresh
-afresh-held s is = record {
+afresh-held s is = held-exact s .1 (record {
   comes = ap (λ (r : Reply). r .number) is;
   rows = λ q low. ap (λ (r : Reply). rowIn (r .plan) q) (sym is);
   words = λ q low. ap (λ (r : Reply). getD (r .plan .layout .words) q 0) (sym is);
-}
+})
 
 pub edit-held : (e : TaskEdit) (s : Plan) → editOf e s .number ≡ 0 → Held (editOf e s .plan)
 edit-held e s taken = by (edit-answered e s)
@@ -99,16 +101,19 @@ after-held (e ∷ es) s held =
 -- ---- what an accepted edit of a held plan keeps: the plan worked out afresh keeps it, and shows the same
 
 module _ (s : Plan) (held : Held s) where
+  like : LikeAfresh s
+  like = held-exact s .0 held
+
   faultless : stateFault (s .machine) (s .costs) (s .tasks .count) (s .tasks .list) ≡ 0
-  faultless = plan-faultless (s .machine) (s .costs) (s .tasks .count) (s .tasks .list) (held .comes)
+  faultless = plan-faultless (s .machine) (s .costs) (s .tasks .count) (s .tasks .list) (like .comes)
 
   made : Made (s .machine) (s .costs) (tasksHeld s) (afresh s .plan)
-  made = plan-is (s .machine) (s .costs) (s .tasks .count) (s .tasks .list) (held .comes)
+  made = plan-is (s .machine) (s .costs) (s .tasks .count) (s .tasks .list) (like .comes)
 
   -- what the state shows is what the plan worked out afresh does
   shows : (b : Name) (q : ℕ) → q < coresMost → piecesOn s b q ≡ piecesOn (afresh s .plan) b q
   unfolding piecesOn
-  shows b q low = λ i. map keptPiece (ofPlace (placeOf 1 b (sym (made .tasks-are) i)) (held .rows q low i))
+  shows b q low = λ i. map keptPiece (only (λ x. sameName b (taskAt (sym (made .tasks-are) i) (x .task) .name)) (like .rows q low i))
 
   afresh-faultless : (u : Plan) → Afresh u → stateFault (u .machine) (u .costs) (u .tasks .count) (u .tasks .list) ≡ 0
   unfolding Afresh

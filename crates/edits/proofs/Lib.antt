@@ -6,6 +6,7 @@ pub mod HeldLaws
 pub mod FaultLaws
 pub mod AnswerLaws
 pub mod Theorems
+pub mod HeldMeaning
 pub mod HeldTheorems
 pub mod RefusalLaws
 pub mod Examples

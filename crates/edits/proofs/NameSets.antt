@@ -7,23 +7,19 @@
 --   Clean t                a task of right form and sizes
 --   place-none, place-unnamed    the place of a name that no task has
 --   faults-known, faults-none    no fault down a list, told by its tasks
---   place-name             the place of a name is the place of the task that has it
 use mathlib.Core.Path.{_≡_, refl, sym, ap, _∙_}
 use mathlib.Core.Bool.{Bool, true, false, cond}
-use mathlib.Core.Logic.{_⊎_, inl, inr}
 use mathlib.Core.List.{List, [], _∷_, _++_}
-use Prim.Native.Nat.{ℕ, zero, suc, _+_, _≤_, _<_}
-use native.Mathlib.Nat.{not-suc-le-zero, le-of-suc-le-suc}
+use Prim.Native.Nat.{ℕ, _+_, _≤_}
 use native.Mathlib.Omega.{arith}
-use borrow.Author.Tests.{eq-eqb, ne-eqb, eqb-true}
+use borrow.Author.Tests.{eqb-true}
 use lib.Dec.{eqb}
-use lib.ListN.{length, getD}
 use Rattle.demand.specs.Sizes.{Each, sized}
 use Rattle.demand.proofs.Sums.{each-imp, each-snoc, each-front, each-last}
 use Rattle.task.specs.declared.Name.{Name}
 use Rattle.task.specs.declared.Task.{Task}
 use Rattle.task.specs.Names.{formed, sameName}
-use Rattle.task.specs.Tasks.{wholePiece, placeOf, past, taskAt, rule, faultOf, firstFault}
+use Rattle.task.specs.Tasks.{wholePiece, placeOf, rule, faultOf, firstFault}
 use Rattle.task.proofs.NameLaws.{same-name-exact}
 use Rattle.task.proofs.TaskLaws.{fault-free, rule-fine, or-else-fine}
 use Rattle.walks.specs.Lists.{Lacks, Apart}
@@ -111,39 +107,3 @@ faults-none above (t ∷ ts) clean across apart =
     more : (us : List Task) → Across above us → Unnamed (t .name) us → Across (above ++ (t ∷ [])) us
     more [] x y = tt
     more (u ∷ us) x y = (each-snoc (λ v. v .name ≡ u .name → ⊥) above t (x .0) (λ same. y .0 (sym same)), more us (x .1) (y .1))
-
--- ---- the place of a name
-
-place-high : (k : ℕ) (n : Name) (ts : List Task) → 1 ≤ k → (placeOf k n ts ≡ 0) ⊎ (k ≤ placeOf k n ts)
-place-high k n [] some = inl refl
-place-high k n (t ∷ ts) some = by (sameName n (t .name)) (place-high (k + 1) n ts (omega arith))
-  where
-    by : (x : Bool) → (placeOf (k + 1) n ts ≡ 0) ⊎ (k + 1 ≤ placeOf (k + 1) n ts)
-        → (cond x k (placeOf (k + 1) n ts) ≡ 0) ⊎ (k ≤ cond x k (placeOf (k + 1) n ts))
-    by true r = inr (omega arith)
-    by false (inl e) = inl e
-    by false (inr e) = inr (omega arith)
-
-each-get : {A : Type 0} (P : A → Type 0) (l : List A) → Each P l → (i : ℕ) (d : A) → i < length l → P (getD l i d)
-each-get P [] all i d low = absurd (not-suc-le-zero low)
-each-get P (a ∷ l) all zero d low = all .0
-each-get P (a ∷ l) all (suc i) d low = each-get P l (all .1) i d (le-of-suc-le-suc low)
-
-pub place-name : (k : ℕ) (n : Name) (ts : List Task) → 1 ≤ k → Apart (λ t. t .name) ts → (i : ℕ) → i < length ts
-    → eqb (k + i) (placeOf k n ts) ≡ sameName n (taskAt ts i .name)
-place-name k n [] some apart i low = absurd (not-suc-le-zero low)
-place-name k n (t ∷ ts) some apart zero low = by (sameName n (t .name)) (place-high (k + 1) n ts (omega arith))
-  where
-    by : (x : Bool) → (placeOf (k + 1) n ts ≡ 0) ⊎ (k + 1 ≤ placeOf (k + 1) n ts) → eqb (k + 0) (cond x k (placeOf (k + 1) n ts)) ≡ x
-    by true r = eq-eqb (k + 0) k (omega arith)
-    by false (inl e) = ne-eqb (k + 0) (placeOf (k + 1) n ts) (λ z. omega arith)
-    by false (inr e) = ne-eqb (k + 0) (placeOf (k + 1) n ts) (λ z. omega arith)
-place-name k n (t ∷ ts) some apart (suc i) low = by (sameName n (t .name)) refl (place-name (k + 1) n ts (omega arith) (apart .1) i (le-of-suc-le-suc low))
-  where
-    by : (x : Bool) → sameName n (t .name) ≡ x → eqb (k + 1 + i) (placeOf (k + 1) n ts) ≡ sameName n (taskAt ts i .name)
-        → eqb (k + suc i) (cond x k (placeOf (k + 1) n ts)) ≡ sameName n (taskAt ts i .name)
-    by true told r =
-        ne-eqb (k + suc i) k (λ z. omega arith)
-        ∙ sym (differ-name n (taskAt ts i .name) (λ same. each-get (λ u. u .name ≡ t .name → ⊥) ts (apart .0) i past (le-of-suc-le-suc low)
-        (sym same ∙ same-name-exact n (t .name) .0 told)))
-    by false told r = (let e : k + suc i ≡ k + 1 + i = omega arith in ap (λ (z : ℕ). eqb z (placeOf (k + 1) n ts)) e ∙ r)

@@ -27,7 +27,7 @@ use Rattle.task.specs.Tasks.{stateFault}
 use Rattle.plan.specs.declared.Plan.{Plan}
 use Rattle.walks.specs.Way.{Placed, fine, stuck, walkOver, walkOf}
 use Rattle.walks.specs.Edits.{edited}
-use Rattle.walks.specs.Kept.{Among, Behind, Meet}
+use Rattle.walks.specs.Kept.{Among, Before, Behind, Meet}
 use Rattle.walks.specs.Halves.{Stand}
 use Rattle.walks.proofs.DenserLaws.{denser-lawful}
 use Rattle.walks.proofs.KeptLaws.{Around, kept-before, kept-after}
@@ -38,7 +38,7 @@ use Rattle.plan.specs.Plan.{planOf}
 use Rattle.edits.specs.Edits.{byName, TaskEdit, tasksHeld, editFault, givenBack, editOf, accepted, Afresh, played}
 use Rattle.edits.specs.Kept.{inOrder, Keeps, editedName, Ahead}
 use Rattle.edits.proofs.NameSets.{name-exact}
-use Rattle.edits.proofs.HeldLaws.{Timed, Told, held-told}
+use Rattle.edits.proofs.HeldLaws.{in-order, Timed, Told, held-told}
 use Rattle.edits.proofs.AnswerLaws.{plan-holds, edit-made, edit-back, edit-keeps, Ends, replanned-ends, edit-goes}
 use Rattle.edits.proofs.FaultLaws.{rightful-known, rightful-faultless, edited-rightful}
 
@@ -120,7 +120,8 @@ module _ (e : TaskEdit) (s : Plan) (held : Afresh s) (taken : editOf e s .number
   edit-before b old new q low =
       was .shows b q low
       ∙ (kept-before (taskWay (s .machine) (s .costs)) Timed (denser-lawful wholeOf) byName name-exact around (was .sorts) (is .sorts)
-      (was .walks) walks b (old .ahead) (new .ahead) q
+      (was .walks) walks b (subst (Before byName (editedName e) b) (in-order (tasksHeld s)) (old .ahead))
+      (subst (Before byName (editedName e) b) (in-order (tasksHeld (editOf e s .plan))) (new .ahead)) q
       ∙ sym (is .shows b q low))
 
   pub edit-after : {p r p′ r′ : List Task} {b b′ : Task} → Behind byName (editedName e) (inOrder (tasksHeld s)) p b r
@@ -128,8 +129,10 @@ module _ (e : TaskEdit) (s : Plan) (held : Afresh s) (taken : editOf e s .number
       → Meet (taskWay (s .machine) (s .costs)) p p′ →
       (d : Name) → Among byName d (b ∷ r) → Keeps s (editOf e s .plan) d
   unfolding Keeps
-  edit-after old new same meet d among q low =
+  edit-after {p} {r} {p′} {r′} {b} {b′} old new same meet d among q low =
+      let before = subst (λ (l : List Task). Behind byName (editedName e) l p b r) (in-order (tasksHeld s)) old in
+      let after = subst (λ (l : List Task). Behind byName (editedName e) l p′ b′ r′) (in-order (tasksHeld (editOf e s .plan))) new in
       was .shows d q low
       ∙ (kept-after (taskWay (s .machine) (s .costs)) Timed (denser-lawful wholeOf) byName name-exact around (was .sorts) (is .sorts)
-      (was .walks) walks old new same meet d among q
+      (was .walks) walks before after same meet d among q
       ∙ sym (is .shows d q low))

@@ -9,26 +9,34 @@
 --   afresh s             the plan worked out afresh from the state's machine, costs and task list
 --   Afresh s             the state is that plan, also past its counts: so is every plan that is answered
 --   rowIn s q            the pieces on core q of the plan s, from 0, as it keeps them, in placement order
---   Held s               a held plan: its rows and words are exactly those of that plan, whatever lies past its counts
+--   Held s               a held plan: its rows and words are exactly those of the walk over its own machine, costs and task list; a row is what the walk
+--                        placed on the core, and a word has a bit for each task that it placed something of there, and no other
 --   played es s          the state after the edits es, refusals among them
 use mathlib.Core.Path.{_≡_}
 use mathlib.Core.Bool.{Bool, cond, not}
+use mathlib.Core.Logic.{_↔_}
 use mathlib.Core.List.{List, [], _∷_, map}
-use Prim.Native.Nat.{ℕ, zero, suc, _<_}
+use Prim.Native.Nat.{ℕ, zero, suc, _≤_, _<_}
 use lib.Dec.{eqb, ltb}
 use lib.ListN.{length, getD}
 use Rattle.demand.specs.Sizes.{sized}
+use Rattle.demand.specs.Tables.{Kept}
 use Rattle.task.specs.declared.Name.{Name}
 use Rattle.task.specs.declared.Task.{Task}
 use Rattle.task.specs.Names.{formed, sameName}
 use Rattle.task.specs.Tasks.{coresMost, tasksMost, wholePiece, listOf, placeOf, rule, stateFault}
+use Rattle.task.specs.Refusals.{stateTable}
+use Rattle.walks.specs.Way.{Placed, fine, onCore}
 use Rattle.walks.specs.Edits.{Keyed, Edit, add, withdraw, retime, edited}
+use Rattle.walks.specs.Halves.{Stand}
 use Rattle.plan.specs.declared.Stored.{Stored}
 use Rattle.plan.specs.declared.Plan.{Plan}
 use Rattle.plan.specs.declared.Reply.{Reply}
+use Rattle.plan.specs.Walk.{walked}
 use Rattle.plan.specs.Layout.{blank}
 use Rattle.plan.specs.Plan.{planOf}
-use Rattle.plan.specs.Shows.{numbersOn}
+use Rattle.plan.specs.Places.{ofTask}
+use Rattle.plan.specs.Shows.{storedOf, numbersOn, bitOf}
 
 abbrev pub byName : Keyed Task Name
 byName = record { key = λ t. t .name; same = sameName }
@@ -106,9 +114,12 @@ abbrev pub rowIn : Plan → ℕ → List Stored
 rowIn s q = map (λ i. getD (s .layout .pieces) i blank) (numbersOn (s .layout) q)
 
 pub record Held (s : Plan) : Type 0 where
-  pub comes : afresh s .number ≡ 0
-  pub rows : (q : ℕ) → q < coresMost → rowIn s q ≡ rowIn (afresh s .plan) q
-  pub words : (q : ℕ) → q < coresMost → getD (s .layout .words) q 0 ≡ getD (afresh s .plan .layout .words) q 0
+  pub sane : Kept (stateTable (s .machine) (s .costs) (s .tasks .count) (s .tasks .list))
+  pub stand : Stand
+  pub log : List (Placed ℕ)
+  pub walks : walked (s .machine) (s .costs) (tasksHeld s) ≡ fine stand log
+  pub rows : (q : ℕ) → q < coresMost → rowIn s q ≡ map storedOf (onCore q log)
+  pub words : (q k : ℕ) → q < coresMost → (bitOf (getD (s .layout .words) q 0) k ≡ 1) ↔ (1 ≤ length (ofTask k (onCore q log)))
 
 abbrev pub played : List TaskEdit → Plan → Plan
 played [] s = s

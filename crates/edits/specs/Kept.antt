@@ -3,38 +3,31 @@
 -- `proofs/Theorems.antt` shows it of every accepted edit.
 --
 --   inOrder ts            the tasks in packing order
---   piecesOn s n q        those of the task named n, as the verdict sees them
+--   piecesOn s n q        the pieces on core q of the plan s whose task is named n, as the verdict sees them, in placement order
 --   Keeps s s′ n          the task named n has exactly the same pieces on each core in both plans
 --   editedName e          the name that an edit is about
 --   Ahead n b ts          ts holds the name b, and where it holds n too, b comes before n in packing order
 use mathlib.Core.Path.{_≡_}
 use mathlib.Core.List.{List, map}
-use Prim.Native.Nat.{ℕ, suc, _<_}
-use lib.Dec.{eqb}
+use Prim.Native.Nat.{ℕ, _<_}
 use Rattle.demand.specs.declared.Piece.{Piece}
 use Rattle.task.specs.declared.Name.{Name}
 use Rattle.task.specs.declared.Task.{Task}
-use Rattle.task.specs.Tasks.{coresMost, placeOf}
+use Rattle.task.specs.Names.{sameName}
+use Rattle.task.specs.Tasks.{coresMost, taskAt}
 use Rattle.walks.specs.Lists.{only}
-use Rattle.walks.specs.Order.{pack}
 use Rattle.walks.specs.Edits.{editedKey}
 use Rattle.walks.specs.Kept.{Among, Before}
-use Rattle.walks.specs.Halves.{denser}
-use Rattle.plan.specs.declared.Stored.{Stored}
 use Rattle.plan.specs.declared.Plan.{Plan}
-use Rattle.plan.specs.Walk.{wholeOf}
+use Rattle.plan.specs.Walk.{packed}
 use Rattle.plan.specs.Layout.{keptPiece}
 use Rattle.edits.specs.Edits.{byName, TaskEdit, tasksHeld, rowIn}
 
 abbrev pub inOrder : List Task → List Task
-inOrder ts = pack (λ a b. denser (wholeOf a) (wholeOf b)) ts
-
--- those of the task at a place, from 1
-abbrev pub ofPlace : ℕ → List Stored → List Stored
-ofPlace k l = only (λ x. eqb (suc (x .task)) k) l
+inOrder ts = map (taskAt ts) (packed ts)
 
 unfoldable pub piecesOn : Plan → Name → ℕ → List Piece
-piecesOn s n q = map keptPiece (ofPlace (placeOf 1 n (tasksHeld s)) (rowIn s q))
+piecesOn s n q = map keptPiece (only (λ x. sameName n (taskAt (tasksHeld s) (x .task) .name)) (rowIn s q))
 
 unfoldable pub Keeps : Plan → Plan → Name → Type 0
 Keeps s s′ n = (q : ℕ) → q < coresMost → piecesOn s n q ≡ piecesOn s′ n q

@@ -11,6 +11,7 @@ pub mod RowLaws
 pub mod GoingLaws
 pub mod JudgeLaws
 pub mod PlaceLaws
+pub mod RankLaws
 pub mod ShowLaws
 pub mod WordLaws
 pub mod Theorems

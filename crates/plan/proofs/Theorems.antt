@@ -10,6 +10,7 @@
 --   no-room-place         and it is one of the first n
 --   packing-order         the packing order has the place of each task, once
 --   packing-ranked        greater C/D first: none stands behind one that it beats, and ties stand by earlier task
+--   packing-one           and a list of which both are so is the packing order
 --   all-placed            every task is placed: whole on a core, or by its greatest split on a core and the next; nothing else is placed of it
 --   budgets-add           the budgets of a task's pieces add to C
 --   windows-add           their windows add to D
@@ -54,14 +55,15 @@ use Rattle.walks.proofs.WayLaws.{SticksAt, sticks-at, walk-items}
 use Rattle.walks.proofs.SoundLaws.{Planned, Has, Divided, share-of, spots-within, few-on-core, apart-on, pieces-each}
 use Rattle.walks.proofs.HalvesLaws.{shared-firsts, shares-firsts, shared-free}
 use Rattle.plan.specs.declared.Reply.{Reply}
-use Rattle.plan.specs.Walk.{wholeAt, placeWay, upto, walked}
+use Rattle.plan.specs.Walk.{wholeAt, placeWay, upto, denserAt, packed, walked}
 use Rattle.plan.specs.Layout.{layoutOn, none, blank}
 use Rattle.plan.specs.Plan.{refused, finished, unlessFault, planOf}
-use Rattle.plan.specs.Places.{byPlace, denserAt, packed, Rearranged, ofTask, TaskPlaced}
+use Rattle.plan.specs.Places.{Rearranged, ofTask, TaskPlaced}
 use Rattle.plan.specs.Shows.{LayoutShows, WordShows}
 use Rattle.plan.proofs.WalkLaws.{whole-kind, claims, walk-planned, only-seven}
 use Rattle.plan.proofs.PlanLaws.{sized-at, upto-each, fault-seven}
-use Rattle.plan.proofs.PlaceLaws.{place-exact, upto-chain, rearranged}
+use Rattle.plan.proofs.PlaceLaws.{byPlace, place-exact, upto-chain, Arranged, arranged, rearranged}
+use Rattle.plan.proofs.RankLaws.{rearranged-one}
 use Rattle.plan.proofs.ShowLaws.{Room, kept, kept-shows}
 use Rattle.plan.proofs.WordLaws.{word-shows}
 
@@ -69,6 +71,9 @@ use Rattle.plan.proofs.WordLaws.{word-shows}
 
 pub packing-order : (ts : List Task) → Rearranged (length ts) (packed ts)
 packing-order ts = rearranged (denserAt ts) (length ts)
+
+in-order : (ts : List Task) → Arranged (length ts) (packed ts)
+in-order ts = arranged (denserAt ts) (length ts)
 
 -- the numbers of a plan on m cores with n tasks
 pub record Counted (m n : ℕ) (l : List (Placed ℕ)) : Type 0 where
@@ -165,7 +170,7 @@ module _ (m : Machine) (c : Costs) (n : ℕ) (ts : List Task) (faultless : state
   no-room-place k e =
       let at = no-room-at k e in
       each-middle (λ (j : ℕ). j < length (take n ts)) (at .before) k (at .after)
-      (subst (Each (λ j. j < length (take n ts))) (at .order) (packing-order (take n ts) .below))
+      (subst (Each (λ j. j < length (take n ts))) (at .order) (in-order (take n ts) .below))
 
   -- ---- every task is placed
 
@@ -184,6 +189,10 @@ module _ (m : Machine) (c : Costs) (n : ℕ) (ts : List Task) (faultless : state
       (upto-each (λ k. 1 ≤ wholeAt (take n ts) k .window) (length (take n ts))
       (λ k low. (let size = sized-place k low in omega (arith, size .budget-some, size .budget-fits)))) (upto-chain (length (take n ts)))
 
+  pub packing-one : (ks : List ℕ) → Rearranged (length (take n ts)) ks → Chain (Precedes (denserAt (take n ts)) (λ i j. i < j)) ks → ks ≡ packed (take n ts)
+  packing-one ks all ranked =
+      rearranged-one (denserAt (take n ts)) (length (take n ts)) ks (packed (take n ts)) all (packing-order (take n ts)) ranked packing-ranked
+
   abbrev timesOf : ℕ → Times
   timesOf k = taskAt (take n ts) k .times
 
@@ -197,8 +206,8 @@ module _ (m : Machine) (c : Costs) (n : ℕ) (ts : List Task) (faultless : state
     share : (k : ℕ) → k < length (take n ts)
         → Has byPlace place-exact (Divided (m .cores) (wholeAt (take n ts)) (claims m c timesOf .Share)) [] k l
     share k low =
-        let order = packing-order (take n ts) in
-        share-of byPlace place-exact (Divided (m .cores) (wholeAt (take n ts)) (claims m c timesOf .Share)) k (facts .shares) (order .once) (order .every k low)
+        let order = in-order (take n ts) in
+        share-of byPlace place-exact (Divided (m .cores) (wholeAt (take n ts)) (claims m c timesOf .Share)) k (facts .shares) (order .apart) (order .every k low)
 
     pub all-placed : (k : ℕ) → k < length (take n ts) → TaskPlaced m c (take n ts) k l
     all-placed k low =
@@ -239,7 +248,7 @@ module _ (m : Machine) (c : Costs) (n : ℕ) (ts : List Task) (faultless : state
     unfolding walked
     placed-places =
         walk-items (placeWay m c (take n ts)) (λ k. k < length (take n ts)) (placeWay m c (take n ts) .begin) s (packed (take n ts)) l
-        (packing-order (take n ts) .below) planned
+        (in-order (take n ts) .below) planned
 
     pub placed-sized : Each (λ e. Sized (e .piece)) l
     placed-sized = pieces-each Sized l (λ q. facts .rows q .sizes)
@@ -261,7 +270,7 @@ module _ (m : Machine) (c : Costs) (n : ℕ) (ts : List Task) (faultless : state
 
     pub plan-counts : Counted (m .cores) (length (take n ts)) l
     plan-counts =
-        let order = packing-order (take n ts) in
+        let order = in-order (take n ts) in
         let few : length (take n ts) ≤ 64 = omega (arith, length-take n ts, sane .few) in
         let pieces : length l ≤ length (take n ts) + (m .cores - 1) = omega (arith, facts .faithful .count, facts .faithful .below, order .long) in
         let row : (q : ℕ) → length (rowOf q l) ≤ length (take n ts) =
@@ -305,4 +314,4 @@ module _ (m : Machine) (c : Costs) (n : ℕ) (ts : List Task) (faultless : state
     pub words-show : (q : ℕ) → q < 16 → WordShows (getD (planOf m c n ts .plan .layout .words) q 0) (onCore q l)
     words-show q low =
         word-shows (getD (planOf m c n ts .plan .layout .words) q 0) (onCore q l) (rw laid (kept l room .core q low blank .word))
-        (apart-on (m .cores) (wholeAt (take n ts)) (claims m c timesOf .Share) q (λ k. k) (facts .shares) (packing-order (take n ts) .once))
+        (apart-on (m .cores) (wholeAt (take n ts)) (claims m c timesOf .Share) q (λ k. k) (facts .shares) (in-order (take n ts) .apart))

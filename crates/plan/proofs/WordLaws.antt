@@ -5,16 +5,19 @@
 --   word-bits            bit k of a word is the number of pieces of the task at place k
 --   word-ones            each task adds a one
 --   word-shows           what a core's word shows
+--   words-alike          a word is settled by the bits that it has
 use mathlib.Core.Path.{_≡_, refl, sym, ap, _∙_, subst}
 use mathlib.Core.Bool.{Bool, true, false}
+use mathlib.Core.Logic.{_↔_}
 use mathlib.Core.List.{List, [], _∷_}
-use Prim.Native.Nat.{ℕ, _+_, _-_, _/_, _%_, _^_, _≤_}
+use Prim.Native.Nat.{ℕ, zero, suc, _+_, _-_, _/_, _%_, _^_, _≤_}
 use native.Mathlib.Nat.{zero-div}
 use native.Mathlib.Decide.{decLt}
 use native.Mathlib.Omega.{arith}
 use borrow.Author.Tests.{eqb-true, eqb-false}
 use lib.Dec.{eqb}
 use lib.Bits.{bitOr}
+use lib.Pow.{shr-shr}
 use lib.Count.{ones, ones-le}
 use lib.ListN.{length}
 use Rattle.demand.specs.Sizes.{Each}
@@ -84,3 +87,25 @@ word-shows w l e apart =
       single = single;
       count = ap ones e ∙ (word-ones 0 l apart (zero-bits l) ∙ omega (arith, ones-le 0 0 (omega arith)));
     }
+
+-- ---- a word by its bits
+
+-- the bits of half a word are those of the word, one further up
+half-bit : (w k : ℕ) → bitOf (w / 2) k ≡ bitOf w (1 + k)
+half-bit w k = ap (λ (x : ℕ). x % 2) (shr-shr w 1 k)
+
+bits-below : (f w v : ℕ) → w + v ≤ f → ((k : ℕ) → bitOf w k ≡ bitOf v k) → w ≡ v
+bits-below zero w v small same = omega arith
+bits-below (suc f) w v small same =
+    let halves : w / 2 ≡ v / 2 = bits-below f (w / 2) (v / 2) (omega arith) (λ k. half-bit w k ∙ (same (1 + k) ∙ sym (half-bit v k))) in
+    let last : w % 2 ≡ v % 2 = (let h : w / 1 % 2 ≡ v / 1 % 2 = same 0 in omega arith) in
+    omega arith
+
+pub words-alike : (w v : ℕ) → ((k : ℕ) → (bitOf w k ≡ 1) ↔ (bitOf v k ≡ 1)) → w ≡ v
+words-alike w v same = bits-below (w + v) w v (omega arith) (λ k. by k (eqb (bitOf w k) 1) refl (eqb (bitOf v k) 1) refl)
+  where
+    by : (k : ℕ) (a : Bool) → eqb (bitOf w k) 1 ≡ a → (b : Bool) → eqb (bitOf v k) 1 ≡ b → bitOf w k ≡ bitOf v k
+    by k true on b z = let e = eqb-true (bitOf w k) 1 on in e ∙ sym (same k .0 e)
+    by k false off true on = absurd (eqb-false (bitOf w k) 1 off (same k .1 (eqb-true (bitOf v k) 1 on)))
+    by k false off false dark =
+        omega (arith, eqb-false (bitOf w k) 1 off, eqb-false (bitOf v k) 1 dark, small (w / 2 ^ k), small (v / 2 ^ k))

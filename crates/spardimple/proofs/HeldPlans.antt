@@ -1,17 +1,20 @@
 -- Small laws for the page's promises of a held plan.
 -- Assumes nothing.
 --
---   walks-are         the walk goes over the tasks' places in packing order
+--   walk-order        the walk goes over the tasks' places in packing order
 --   cores-bounded     every core has a busy length within the limit, or no piece, and keeps up at every length at which a job is due
 --   ones-are          the number of tasks on a core of a plan is the number of ones of its word
-use mathlib.Core.Path.{_≡_, refl}
-use mathlib.Core.List.{List, map}
+--   held-ones         of a held plan it is the number of pieces that the walk placed there
+--   Holds m c ts s    s is a held plan of the machine m, the costs c and the tasks ts
+--   plan-made         so is a plan that comes, of what it was asked for
+--   edit-yields       and what an accepted edit yields, of the state's own machine and costs and the tasks after it
+use mathlib.Core.Path.{_≡_, refl, ap, _∙_}
+use mathlib.Core.List.{List}
 use Prim.Native.Nat.{ℕ, _<_}
 use borrow.Author.Tests.{lt-leb}
 use lib.Count.{ones}
-use lib.ListN.{take, getD}
+use lib.ListN.{length, take, getD}
 use lib.Dec.{eqb}
-use Rattle.demand.specs.declared.Piece.{Piece}
 use Rattle.demand.specs.declared.Costs.{Costs}
 use Rattle.demand.specs.Sizes.{Sized, Each}
 use Rattle.demand.specs.Charge.{coreOf, stall}
@@ -21,19 +24,25 @@ use Rattle.demand.proofs.Judgement.{passes-means}
 use Rattle.task.specs.declared.Task.{Task}
 use Rattle.task.specs.declared.Machine.{Machine}
 use Rattle.task.specs.Tasks.{coresMost, stateFault}
+use Rattle.task.proofs.RefusalLaws.{state-kept}
 use Rattle.walks.specs.Way.{Placed, fine, walkOver, onCore, rowOf}
+use Rattle.walks.specs.Edits.{edited}
 use Rattle.walks.specs.Halves.{Stand}
 use Rattle.walks.proofs.ListLaws.{each-only}
+use Rattle.plan.specs.declared.Plan.{Plan}
 use Rattle.plan.specs.declared.Layout.{Layout}
-use Rattle.plan.specs.Walk.{placeWay, walked}
+use Rattle.plan.specs.Walk.{placeWay, packed, walked}
 use Rattle.plan.specs.Layout.{tasksOn}
-use Rattle.plan.specs.Places.{packed}
-use Rattle.plan.proofs.Theorems.{placed-sized, cores-pass}
+use Rattle.plan.specs.Plan.{planOf}
+use Rattle.plan.proofs.Theorems.{placed-sized, cores-pass, words-show}
+use Rattle.edits.specs.Edits.{byName, TaskEdit, tasksHeld, editOf, Held}
+use Rattle.edits.proofs.AnswerLaws.{Made, plan-is, edit-made}
+use Rattle.edits.proofs.HeldMeaning.{held-exact}
+use Rattle.edits.proofs.HeldTheorems.{afresh-held}
 
-pub walks-are : (m : Machine) (c : Costs) (ts : List Task) (s : Stand) (l : List (Placed ℕ)) → walked m c ts ≡ fine s l
-    → walkOver (placeWay m c ts) (packed ts) ≡ fine s l
+pub walk-order : (m : Machine) (c : Costs) (ts : List Task) → walked m c ts ≡ walkOver (placeWay m c ts) (packed ts)
 unfolding walked
-walks-are m c ts s l so = so
+walk-order m c ts = refl
 
 module _ (m : Machine) (c : Costs) (n : ℕ) (ts : List Task) (good : stateFault m c n ts ≡ 0) (s : Stand) (l : List (Placed ℕ))
     (so : walked m c (take n ts) ≡ fine s l) (q : ℕ) where
@@ -48,3 +57,28 @@ module _ (m : Machine) (c : Costs) (n : ℕ) (ts : List Task) (good : stateFault
 pub ones-are : (s : Layout) (q : ℕ) → q < coresMost → tasksOn s q ≡ ones (getD (s .words) q 0)
 unfolding tasksOn
 ones-are s q low = rw (lt-leb coresMost q low)
+
+pub held-ones : (s : Plan) (held : Held s) (q : ℕ) → q < coresMost → tasksOn (s .layout) q ≡ length (onCore q (held .log))
+held-ones s held q low =
+    let m = s .machine in
+    let c = s .costs in
+    let n = s .tasks .count in
+    let ts = s .tasks .list in
+    let good = state-kept m c n ts .1 (held .sane) in
+    ones-are (s .layout) q low
+    ∙ (ap ones (held-exact s .0 held .words q low)
+    ∙ words-show m c n ts good (held .stand) (held .log) (held .walks) q low .count)
+
+-- ---- plans that come, and accepted edits
+
+abbrev pub Holds : Machine → Costs → List Task → Plan → Type 0
+Holds m c ts s = Held s × (s .machine ≡ m) × (s .costs ≡ c) × (tasksHeld s ≡ ts)
+
+made-holds : (m : Machine) (c : Costs) (ts : List Task) (s : Plan) → Made m c ts s → Holds m c ts s
+made-holds m c ts s made = (afresh-held s (made .held), made .machine-is, made .costs-is, made .tasks-are)
+
+pub plan-made : (m : Machine) (c : Costs) (n : ℕ) (ts : List Task) → planOf m c n ts .number ≡ 0 → Holds m c (take n ts) (planOf m c n ts .plan)
+plan-made m c n ts number = made-holds m c (take n ts) (planOf m c n ts .plan) (plan-is m c n ts number)
+
+pub edit-yields : (e : TaskEdit) (s : Plan) → editOf e s .number ≡ 0 → Holds (s .machine) (s .costs) (edited byName e (tasksHeld s)) (editOf e s .plan)
+edit-yields e s taken = made-holds (s .machine) (s .costs) (edited byName e (tasksHeld s)) (editOf e s .plan) (edit-made e s taken)
