@@ -6,7 +6,8 @@
 --   read-comes            and so does the whole sheet
 --   read-refused, read-kept     so a refusal comes exactly where the table gives it, and the sheet is read exactly where the table is kept
 --   first-bad             for up to 16,384 bytes the lines alone decide
-use mathlib.Core.Path.{_≡_, refl, sym, ap, subst}
+--   read-said             a sheet that is read is what its lines say
+use mathlib.Core.Path.{_≡_, refl, sym, ap, subst, _∙_}
 use mathlib.Core.Logic.{inl, inr, _↔_}
 use mathlib.Core.Bool.{Bool, true, false, cond, not}
 use mathlib.Core.List.{List, [], _∷_, _++_, append-assoc}
@@ -29,9 +30,10 @@ use Rattle.lines.specs.declared.Line.{Line}
 use Rattle.lines.specs.Lines.{newline, upTo, beyond}
 use Rattle.lines.specs.Forms.{lineOf}
 use Rattle.sheet.specs.Sheet.{Above, atTop, belowMachine, amongParts, top, taskFree, partFree, machineFault, costFault, partFault, fitFault}
-use Rattle.sheet.specs.Sheet.{wordFault, lineFault, Outcome, refused, whole, ending, next, readFrom, sheetMost, outcomeOf, shown, readOf}
+use Rattle.sheet.specs.Sheet.{wordFault, lineFault, Outcome, refused, whole, ending, next, readFrom, sheetMost, outcomeOf, sheetOf, shown, readOf}
 use Rattle.sheet.specs.Fitted.{ended, linesOf}
-use Rattle.sheet.specs.Refusals.{wordTable, lineTable, lineBelow, lastRun, tailOf, endTable, linesTable, readTable}
+use Rattle.sheet.specs.Refusals.{wordTable, lineTable, lineBelow, lastRun, tailOf, endTable, saidBy, linesTable, readTable}
+use Rattle.sheet.proofs.WholeLaws.{read-keeps, read-whole, read-shown}
 
 -- ---- one line
 
@@ -126,7 +128,7 @@ lines-come a n l (m ∷ ls) =
 -- ---- the sheet
 
 pub read-comes : (bytes : List ℕ) → Comes (readTable bytes) (readOf bytes .number) (readOf bytes .carries)
-unfolding readTable linesTable linesOf tailOf readOf outcomeOf
+unfolding readTable linesTable saidBy linesOf tailOf readOf outcomeOf
 read-comes bytes = by (leb (length bytes) sheetMost) refl
   where
     read : Outcome
@@ -159,3 +161,17 @@ first-bad bytes few n k = ((λ is. by (read-refused bytes n k .0 is)), (λ gives
     by : Gives (readTable bytes) (suc n) k → Gives (linesTable bytes) (suc n) k
     by (inl long) = absurd (omega (arith, long .0))
     by (inr gives) = gives .1
+
+-- ---- the sheet that is read
+
+below-snoc : (ls : List (List ℕ)) (a : Above) (l : List ℕ) → below lineBelow a (ls ++ (l ∷ [])) ≡ lineBelow (below lineBelow a ls) l
+below-snoc [] a l = refl
+below-snoc (m ∷ ls) a l = below-snoc ls (lineBelow a m) l
+
+pub read-said : (bytes : List ℕ) → readOf bytes .number ≡ 0 → readOf bytes .sheet ≡ sheetOf (saidBy bytes)
+unfolding saidBy
+read-said bytes fine =
+    let w = read-whole bytes fine in
+    let said = read-keeps (λ (ls : List (List ℕ)) (a : Above). a ≡ below lineBelow top ls) refl
+    (λ ls a l so-far good. ap (λ (b : Above). lineBelow b l) so-far ∙ sym (below-snoc ls top l)) bytes (w .0) (w .1) .0 in
+    rw (read-shown bytes (w .0) (w .1), said)

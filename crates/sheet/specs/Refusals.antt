@@ -6,6 +6,7 @@
 --   lineTable a n bytes   a line by its bytes; lineBelow a bytes: what stands below it
 --   tailOf bytes          what stands behind the last newline: nothing, or a line that was cut
 --   endTable a n tail     where no line is left: a cut line, then a missing one
+--   saidBy bytes          what all lines say together: what stands below the last of them
 --   linesTable bytes      all lines from the top, and their end
 --   readTable bytes       9, then the lines
 use mathlib.Core.Path.{_≡_}
@@ -76,10 +77,13 @@ endTable a n tail =
     ∷ 8 if (a .stage < amongParts) carrying n
     ∷ []
 
+unfoldable pub saidBy : List ℕ → Above
+saidBy bytes = below lineBelow top (linesOf bytes)
+
 unfoldable pub linesTable : List ℕ → List Rule
 linesTable bytes =
     downEach lineTable lineBelow top 1 (linesOf bytes)
-    ++ endTable (below lineBelow top (linesOf bytes)) (1 + length (linesOf bytes)) (tailOf bytes)
+    ++ endTable (saidBy bytes) (1 + length (linesOf bytes)) (tailOf bytes)
 
 unfoldable pub readTable : List ℕ → List Rule
 readTable bytes =
