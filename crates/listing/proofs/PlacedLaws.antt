@@ -18,7 +18,7 @@ use native.Mathlib.Decide.{decLt}
 use native.Mathlib.Omega.{arith}
 use borrow.Author.Tests.{ne-eqb, eqb-true, eqb-false}
 use lib.Dec.{eqb}
-use lib.ListN.{length-take, length, take, drop, getD, length-append, length-map, List·getD-append}
+use lib.ListN.{length-take, length, take, drop, getD, length-append, length-map}
 use lib.Seq.{take-take}
 use Rattle.demand.specs.declared.Piece.{Piece}
 use Rattle.demand.specs.declared.Costs.{Costs}

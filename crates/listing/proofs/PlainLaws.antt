@@ -6,7 +6,7 @@
 --   placed-readable        the entry of what was placed can be read back
 --   entries-readable       so can all entries
 --   listing-few            tasks with names of at most 24 bytes have a listing of at most 20,000
-use mathlib.Core.Path.{_≡_, refl, ap}
+use mathlib.Core.Path.{_≡_, refl}
 use mathlib.Core.Bool.{Bool, true, false}
 use mathlib.Core.List.{List, [], _∷_, _++_}
 use Prim.Native.Nat.{ℕ, zero, suc, _+_, _*_, _≤_, _<_}
