@@ -5,4 +5,5 @@ pub mod RunLaws
 pub mod FormLaws
 pub mod OrderLaws
 pub mod SaysLaws
+pub mod MeansLaws
 pub mod LongLaws

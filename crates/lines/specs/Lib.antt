@@ -1,5 +1,6 @@
 -- What the contracts of `lines` cite.
 pub mod Lines
 pub mod Forms
+pub mod Says
 pub mod Orders
 pub mod ways

@@ -32,11 +32,11 @@ rule-kept : (t : Bool) (n rest : ℕ) → rule t (suc n) rest ≡ 0 → (t ≡ t
 rule-kept true n rest e = (refl, e)
 rule-kept false n rest e = absurd (omega arith)
 
-machine-kept : (stage : ℕ) (m : Machine) → machineFault stage m ≡ 0 → sizedMachine m ≡ true
+machine-kept : (stage : ℕ) (m : Machine) → machineFault stage m ≡ 0 → (stage ≡ atTop) × (sizedMachine m ≡ true)
 unfolding machineFault
 machine-kept stage m none =
     let order = rule-kept (eqb stage atTop) 7 (rule (sizedMachine m) 1 0) none in
-    rule-kept (sizedMachine m) 0 0 (order .1) .0
+    (eqb-true stage atTop (order .0), rule-kept (sizedMachine m) 0 0 (order .1) .0)
 
 cost-kept : (stage : ℕ) (c : Costs) → costFault stage c ≡ 0 → (stage ≡ belowMachine) × (sizedCosts c ≡ true)
 unfolding costFault
@@ -90,7 +90,7 @@ module _ (a : Above) (l : Line) (none : lineFault a l ≡ 0) where
   unfolding lineFault
   by-word w word = ap (λ (v : Word). wordFault v a l) (sym word) ∙ none
 
-  pub line-machine : l .word ≡ Word.Machine → sizedMachine (l .machine) ≡ true
+  pub line-machine : l .word ≡ Word.Machine → (a .stage ≡ atTop) × (sizedMachine (l .machine) ≡ true)
   line-machine word = machine-kept (a .stage) (l .machine) (by-word Word.Machine word)
 
   pub line-cost : l .word ≡ Word.Cost → (a .stage ≡ belowMachine) × (sizedCosts (l .costs) ≡ true)

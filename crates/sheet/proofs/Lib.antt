@@ -8,4 +8,6 @@ pub mod ArrowLaws
 pub mod RuleLaws
 pub mod Examples
 pub mod SmallLaws
+pub mod EndLaws
+pub mod StageLaws
 pub mod RefusalLaws

@@ -73,7 +73,7 @@ module _ (a : Above) (l : List ℕ) (so-far : Sound a) (none : lineFault a (line
       by-word : (w : Word) → lineOf l .word ≡ w → Sound (wordAfter w a (lineOf l))
       by-word Word.Machine word =
           record {
-            machine-sized = λ s. line-machine a (lineOf l) none word;
+            machine-sized = λ s. line-machine a (lineOf l) none word .1;
             costs-sized = λ s. absurd (omega arith);
             parts-sized = so-far .parts-sized;
             tasks-good = so-far .tasks-good;

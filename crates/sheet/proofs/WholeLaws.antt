@@ -9,7 +9,7 @@
 --   Found, found  the part that a name finds among parts, with what is known of each
 use mathlib.Core.Path.{_≡_, refl, ap}
 use mathlib.Core.Bool.{Bool, true, false, cond}
-use mathlib.Core.List.{List, [], _∷_, _++_, append-assoc, append-nil}
+use mathlib.Core.List.{List, [], _∷_, _++_, append-assoc, append-nil, dropLast}
 use Prim.Native.Nat.{ℕ, zero, suc, _+_, _≤_}
 use native.Mathlib.Omega.{arith}
 use borrow.Author.Tests.{leb-true}
@@ -26,7 +26,7 @@ use Rattle.lines.specs.Forms.{lineOf}
 use Rattle.demand.proofs.PaddedLaws.{padded-take}
 use Rattle.sheet.specs.Sheet.{Above, top, amongParts, lineFault, partNamed, after, Outcome, refused, whole}
 use Rattle.sheet.specs.Sheet.{ending, next, readFrom, sheetMost, outcomeOf, shown, readOf}
-use Rattle.sheet.specs.Fitted.{ended, linesOf}
+use Rattle.sheet.specs.Fitted.{linesOf}
 use Rattle.sheet.proofs.ReadLaws.{Fits, after-fits}
 
 -- ---- the lines that are read
@@ -47,7 +47,7 @@ module _ (P : List (List ℕ) → Above → Type 0)
     (start : P [] top)
     (step : (ls : List (List ℕ)) (a : Above) (l : List ℕ) → P ls a → lineFault a (lineOf l) ≡ 0 → P (ls ++ (l ∷ [])) (after a (lineOf l))) where
   keeps-from : (ms : List (List ℕ)) (ls : List (List ℕ)) (a : Above) (n : ℕ) (l : List ℕ) (b : Above) → P ls a → readFrom a n l ms ≡ whole b
-      → P (ls ++ ended l ms) b × (amongParts ≤ b .stage)
+      → P (ls ++ dropLast (l ∷ ms)) b × (amongParts ≤ b .stage)
   unfolding readFrom
   keeps-from [] ls a n l b so-far e =
       let end = ending-good a n l b e in
@@ -62,7 +62,7 @@ module _ (P : List (List ℕ) → Above → Type 0)
   read-keeps bytes b e = by-length (leb (length bytes) sheetMost) e
     where
       by-length : (t : Bool) → cond t (readFrom top 1 (upTo newline bytes) (beyond newline bytes)) (refused 9 0) ≡ whole b
-          → P (ended (upTo newline bytes) (beyond newline bytes)) b × (amongParts ≤ b .stage)
+          → P (dropLast (upTo newline bytes ∷ beyond newline bytes)) b × (amongParts ≤ b .stage)
       by-length true e = keeps-from (beyond newline bytes) [] top 1 (upTo newline bytes) b start e
       by-length false e = absurd (let z : _≡_ {A = ℕ} 0 1 = cc in omega arith)
 

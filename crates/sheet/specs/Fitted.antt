@@ -5,19 +5,15 @@
 --   Fitted ls t       among the lines ls the task t is fitted with a part that stands above it: the `fit` line names it by the very bytes
 --                     of its `part` line, so in equal length, and the task has the times of that line and no others
 use mathlib.Core.Path.{_≡_}
-use mathlib.Core.List.{List, [], _∷_, _++_}
+use mathlib.Core.List.{List, [], _∷_, _++_, dropLast}
 use Prim.Native.Nat.{ℕ}
 use Rattle.task.specs.declared.Task.{Task}
 use Rattle.lines.specs.Lines.{bytesOf, newline, upTo, beyond, fields, nameOf}
 use Rattle.lines.specs.Forms.{timesOf, values}
 
--- all runs but the last
-abbrev pub ended : List ℕ → List (List ℕ) → List (List ℕ)
-ended l [] = []
-ended l (m ∷ ms) = l ∷ ended m ms
-
+-- all runs but the last: that stands behind the last newline
 unfoldable pub linesOf : List ℕ → List (List ℕ)
-linesOf bytes = ended (upTo newline bytes) (beyond newline bytes)
+linesOf bytes = dropLast (upTo newline bytes ∷ beyond newline bytes)
 
 pub record Fitted (ls : List (List ℕ)) (t : Task) : Type 0 where
   pub above : List (List ℕ)

@@ -2,28 +2,40 @@
 -- then 4, then 5, then 6 .. A missing line is 8 where it should stand .. a last line without newline is 8 at that line". Each carries its line.
 -- `proofs/RefusalLaws.antt` has that `readOf` answers by it.
 --
---   wordTable w a n l     the line l with the word w, below a, at line n
---   lineTable a n bytes   a line by its bytes; lineBelow a bytes: what stands below it
---   tailOf bytes          what stands behind the last newline: nothing, or a line that was cut
---   endTable a n tail     where no line is left: a cut line, then a missing one
---   saidBy bytes          what all lines say together: what stands below the last of them
---   linesTable bytes      all lines from the top, and their end
+--   Said                  what lines say together: a machine, costs, parts and tasks
+--   unsaid                where there is no line
+--   lineTable a n s       line n, which says s, below lines that say a and are good: so line 1 is `machine`, and line 2 is `cost`
+--   lineBelow a s         what they say with it
+--   saidBy bytes          what all lines say together
+--   linesTable bytes      all lines from the top, then a line that was cut, then a missing one
 --   readTable bytes       9, then the lines
 use mathlib.Core.Path.{_≡_}
 use mathlib.Core.Bool.{false}
-use mathlib.Core.List.{List, [], _∷_, _++_}
+use mathlib.Core.List.{List, [], _∷_, _++_, map, getLastD}
 use Prim.Native.Nat.{ℕ, _+_, _≤_, _<_}
 use lib.ListN.{length}
+use Rattle.demand.specs.declared.Costs.{Costs}
 use Rattle.demand.specs.Sizes.{Sized, SizedCosts}
+use Rattle.demand.specs.Charge.{noCosts}
 use Rattle.demand.specs.Tables.{Rule, _if_carrying_, Not, downEach, below}
-use Rattle.task.specs.Tasks.{tasksMost, wholePiece, sizedMachine}
+use Rattle.task.specs.declared.Part.{Part}
+use Rattle.task.specs.declared.Task.{Task}
+use Rattle.task.specs.declared.Machine.{Machine}
+use Rattle.task.specs.Tasks.{tasksMost, wholePiece, noMachine, taskOf, sizedMachine}
 use Rattle.task.specs.Refusals.{TaskNamed, PartNamed}
-use Rattle.lines.specs.declared.Word.{Word}
-use Rattle.lines.specs.declared.Line.{Line}
-use Rattle.lines.specs.Lines.{newline, upTo, beyond}
-use Rattle.lines.specs.Forms.{lineOf}
-use Rattle.sheet.specs.Sheet.{Above, atTop, belowMachine, amongParts, top, after, sheetMost}
+use Rattle.lines.specs.Lines.{newline}
+use Rattle.lines.specs.Says.{Says, machine, cost, part, fit, nothing, saysOf}
+use Rattle.sheet.specs.Sheet.{partNamed, sheetMost}
 use Rattle.sheet.specs.Fitted.{linesOf}
+
+pub record Said : Type 0 where
+  pub machine : Machine
+  pub costs : Costs
+  pub parts : List Part
+  pub tasks : List Task
+
+abbrev pub unsaid : Said
+unsaid = record { machine = noMachine; costs = noCosts; parts = []; tasks = [] }
 
 -- ---- one line
 
@@ -31,59 +43,51 @@ use Rattle.sheet.specs.Fitted.{linesOf}
 abbrev pub Always : Type 0
 Always = Unit {0}
 
-abbrev pub wordTable : Word → Above → ℕ → Line → List Rule
-wordTable Word.Machine a n l =
-    8 if Not (a .stage ≡ atTop) carrying n
-    ∷ 1 if (sizedMachine (l .machine) ≡ false) carrying n
+abbrev pub lineTable : Said → ℕ → Says → List Rule
+lineTable a n (machine m) =
+    8 if Not (n ≡ 1) carrying n
+    ∷ 1 if (sizedMachine m ≡ false) carrying n
     ∷ []
-wordTable Word.Cost a n l =
-    8 if Not (a .stage ≡ belowMachine) carrying n
-    ∷ 2 if Not (SizedCosts (l .costs)) carrying n
+lineTable a n (cost c) =
+    8 if Not (n ≡ 2) carrying n
+    ∷ 2 if Not (SizedCosts c) carrying n
     ∷ []
-wordTable Word.Part a n l =
-    8 if Not (a .stage ≡ amongParts) carrying n
-    ∷ 3 if Not (Sized (wholePiece (l .part .times))) carrying n
-    ∷ 4 if PartNamed (l .part .name) (a .parts) carrying n
+lineTable a n (part p) =
+    8 if (n < 3) carrying n
+    ∷ 8 if Not (a .tasks ≡ []) carrying n
+    ∷ 3 if Not (Sized (wholePiece (p .times))) carrying n
+    ∷ 4 if PartNamed (p .name) (a .parts) carrying n
     ∷ 6 if (tasksMost ≤ length (a .parts)) carrying n
     ∷ []
-wordTable Word.Fit a n l =
-    8 if (a .stage < amongParts) carrying n
-    ∷ 4 if TaskNamed (l .task) (a .tasks) carrying n
-    ∷ 5 if Not (PartNamed (l .part .name) (a .parts)) carrying n
+lineTable a n (fit t p) =
+    8 if (n < 3) carrying n
+    ∷ 4 if TaskNamed t (a .tasks) carrying n
+    ∷ 5 if Not (PartNamed p (a .parts)) carrying n
     ∷ 6 if (tasksMost ≤ length (a .tasks)) carrying n
     ∷ []
-wordTable Word.Other a n l =
+lineTable a n nothing =
     8 if Always carrying n
     ∷ []
 
-abbrev pub lineTable : Above → ℕ → List ℕ → List Rule
-lineTable a n bytes = wordTable (lineOf bytes .word) a n (lineOf bytes)
-
-abbrev pub lineBelow : Above → List ℕ → Above
-lineBelow a bytes = after a (lineOf bytes)
+abbrev pub lineBelow : Said → Says → Said
+lineBelow a (machine m) = record { machine = m; costs = a .costs; parts = a .parts; tasks = a .tasks }
+lineBelow a (cost c) = record { machine = a .machine; costs = c; parts = a .parts; tasks = a .tasks }
+lineBelow a (part p) = record { machine = a .machine; costs = a .costs; parts = a .parts ++ (p ∷ []); tasks = a .tasks }
+lineBelow a (fit t p) =
+    record { machine = a .machine; costs = a .costs; parts = a .parts; tasks = a .tasks ++ (taskOf t (partNamed p (a .parts)) ∷ []) }
+lineBelow a nothing = a
 
 -- ---- the lines from the top
 
-abbrev pub lastRun : List ℕ → List (List ℕ) → List ℕ
-lastRun l [] = l
-lastRun l (m ∷ ms) = lastRun m ms
-
-unfoldable pub tailOf : List ℕ → List ℕ
-tailOf bytes = lastRun (upTo newline bytes) (beyond newline bytes)
-
-abbrev pub endTable : Above → ℕ → List ℕ → List Rule
-endTable a n tail =
-    8 if Not (tail ≡ []) carrying n
-    ∷ 8 if (a .stage < amongParts) carrying n
-    ∷ []
-
-unfoldable pub saidBy : List ℕ → Above
-saidBy bytes = below lineBelow top (linesOf bytes)
+unfoldable pub saidBy : List ℕ → Said
+saidBy bytes = below lineBelow unsaid (map saysOf (linesOf bytes))
 
 unfoldable pub linesTable : List ℕ → List Rule
 linesTable bytes =
-    downEach lineTable lineBelow top 1 (linesOf bytes)
-    ++ endTable (saidBy bytes) (1 + length (linesOf bytes)) (tailOf bytes)
+    downEach lineTable lineBelow unsaid 1 (map saysOf (linesOf bytes))
+    ++ (8 if Not (getLastD bytes newline ≡ newline) carrying (1 + length (linesOf bytes))
+    ∷ 8 if (length (linesOf bytes) < 2) carrying (1 + length (linesOf bytes))
+    ∷ [])
 
 unfoldable pub readTable : List ℕ → List Rule
 readTable bytes =
