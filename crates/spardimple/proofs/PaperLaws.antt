@@ -1,8 +1,7 @@
 -- Laws of what a sheet comes to, told by what its lines say and what the walk over its tasks places.
 -- Assumes nothing.
 --
---   said-few, said-tasks  a sheet that is read says at most 64 tasks, and has them in its struct
---   said-sane             what it says breaks no rule of a state
+--   said-sane             what a sheet that is read says breaks no rule of a state
 --   Ends sheet            how the walk over its tasks ends: with the listing that its plan has, or at one of them
 --   said-ends             so it ends
 --   names-short           a sheet's task names have at most 24 bytes
@@ -27,12 +26,12 @@ use Rattle.demand.specs.Sizes.{sizedCosts, Each}
 use Rattle.demand.specs.Answer.{Told}
 use Rattle.demand.specs.Tables.{Rule, Kept}
 use Rattle.demand.proofs.Sums.{each-imp}
-use Rattle.demand.proofs.PaddedLaws.{padded-length, padded-take}
+use Rattle.demand.proofs.PaddedLaws.{padded-length}
 use Rattle.demand.proofs.TableLaws.{Comes, comes-kept}
 use Rattle.task.specs.declared.Task.{Task}
+use Rattle.task.specs.declared.Tasks.{Tasks}
 use Rattle.task.specs.Names.{nameMost}
-use Rattle.task.specs.Tasks.{tasksMost, noTask, listOf, sizedMachine, rule, firstFault, stateFault}
-use Rattle.task.proofs.TaskLaws.{state-sane}
+use Rattle.task.specs.Tasks.{tasksMost, listOf, sizedMachine, rule, firstFault, stateFault}
 use Rattle.walks.specs.Way.{Placed, Ending, fine, stuck}
 use Rattle.walks.specs.Halves.{Stand}
 use Rattle.plan.specs.declared.Reply.{Reply}
@@ -43,12 +42,11 @@ use Rattle.plan.proofs.Theorems.{plan-or-stuck}
 use Rattle.plan.proofs.RefusalLaws.{walk-comes}
 use Rattle.lines.specs.Lines.{nameOf}
 use Rattle.sheet.specs.declared.Sheet.{Sheet}
-use Rattle.sheet.specs.Sheet.{sheetOf, readOf}
-use Rattle.sheet.specs.Refusals.{saidBy}
+use Rattle.sheet.specs.Sheet.{readOf}
 use Rattle.sheet.specs.Fitted.{Fitted, linesOf}
 use Rattle.sheet.proofs.ArrowLaws.{first-arrow}
 use Rattle.sheet.proofs.RuleLaws.{breaks-no-rule}
-use Rattle.sheet.proofs.RefusalLaws.{read-said}
+use Rattle.sheet.proofs.RefusalLaws.{read-sheet, read-said}
 use Rattle.sheet.proofs.SmallLaws.{read-small}
 use Rattle.listing.specs.Listing.{Entry, spelling, listingOf}
 use Rattle.listing.specs.Placed.{placedEntries, placedListing}
@@ -76,60 +74,56 @@ pub data Ends (sheet : List ℕ) : Type 1 where
   ends-stuck : (k : ℕ) → walkIn sheet ≡ stuck k 7 → Comes (walksIn sheet) 7 (suc k) → plansIn sheet .number ≡ 7 → plansIn sheet .carries ≡ suc k → Ends sheet
 
 module _ (sheet : List ℕ) (whole : readOf sheet .number ≡ 0) where
-  said : readOf sheet .sheet ≡ sheetOf (saidBy sheet)
-  said = read-said sheet whole
+  abbrev sheetRead : Sheet
+  sheetRead = readOf sheet .sheet
 
-  good : stateFault (readOf sheet .sheet .machine) (readOf sheet .sheet .costs) (readOf sheet .sheet .tasks .count) (readOf sheet .sheet .tasks .list) ≡ 0
+  machine-said : sheetRead .machine ≡ machineIn sheet
+  machine-said = read-said sheet whole .0
+
+  costs-said : sheetRead .costs ≡ costsIn sheet
+  costs-said = read-said sheet whole .1
+
+  tasks-said : listOf (sheetRead .tasks) ≡ tasksIn sheet
+  tasks-said = read-said sheet whole .2
+
+  good : stateFault (sheetRead .machine) (sheetRead .costs) (sheetRead .tasks .count) (sheetRead .tasks .list) ≡ 0
   good = breaks-no-rule sheet whole
 
-  counted : readOf sheet .sheet .tasks .count ≡ length (tasksIn sheet)
-  counted = ap (λ (s : Sheet). s .tasks .count) said
-
-  pub said-few : length (tasksIn sheet) ≤ tasksMost
-  said-few =
-      let s = readOf sheet .sheet in
-      omega (arith, counted, state-sane (s .machine) (s .costs) (s .tasks .count) (s .tasks .list) good .few)
-
-  pub said-tasks : listOf (readOf sheet .sheet .tasks) ≡ tasksIn sheet
-  said-tasks = ap (λ (s : Sheet). listOf (s .tasks)) said ∙ padded-take noTask tasksMost (tasksIn sheet) said-few
-
-  all : take (length (tasksIn sheet)) (tasksIn sheet) ≡ tasksIn sheet
-  all = take-length (tasksIn sheet)
+  counted : sheetRead .tasks .count ≡ length (tasksIn sheet)
+  counted = ap (λ (q : Tasks). q .count) (read-sheet sheet whole .2)
 
   pub said-sane : stateFault (machineIn sheet) (costsIn sheet) (length (tasksIn sheet)) (tasksIn sheet) ≡ 0
   unfolding stateFault
   said-sane =
-      let items : take (length (tasksIn sheet)) (tasksIn sheet) ≡ listOf (readOf sheet .sheet .tasks) = all ∙ sym said-tasks in
-      (λ i. rule (sizedMachine (sym said i .machine)) 1
-      (rule (sizedCosts (sym said i .costs)) 2 (rule (leb (sym counted i) tasksMost) 6 (firstFault [] (items i))))) ∙ good
+      let items : take (length (tasksIn sheet)) (tasksIn sheet) ≡ listOf (sheetRead .tasks) = take-length (tasksIn sheet) ∙ sym tasks-said in
+      (λ i. rule (sizedMachine (sym machine-said i)) 1
+      (rule (sizedCosts (sym costs-said i)) 2 (rule (leb (sym counted i) tasksMost) 6 (firstFault [] (items i))))) ∙ good
 
   -- the walk over what was read
   abbrev walkRead : Ending Stand ℕ
-  walkRead = walked (readOf sheet .sheet .machine) (readOf sheet .sheet .costs) (listOf (readOf sheet .sheet .tasks))
+  walkRead = walked (sheetRead .machine) (sheetRead .costs) (listOf (sheetRead .tasks))
 
   said-walk : walkRead ≡ walkIn sheet
-  said-walk = λ i. walked (said i .machine) (said i .costs) (said-tasks i)
+  said-walk = λ i. walked (machine-said i) (costs-said i) (tasks-said i)
 
   said-comes : Comes (walksIn sheet) (plansIn sheet .number) (plansIn sheet .carries)
   said-comes =
-      let s = readOf sheet .sheet in
       subst (λ (rules : List Rule). Comes rules (plansIn sheet .number) (plansIn sheet .carries))
-      (λ i. walkTable (said i .machine) (said i .costs) (said-tasks i))
-      (walk-comes (s .machine) (s .costs) (s .tasks .count) (s .tasks .list) good)
+      (λ i. walkTable (machine-said i) (costs-said i) (tasks-said i))
+      (walk-comes (sheetRead .machine) (sheetRead .costs) (sheetRead .tasks .count) (sheetRead .tasks .list) good)
 
   text-is : (s : Stand) (l : List (Placed ℕ)) → walkRead ≡ fine s l → listingOf (plansIn sheet .plan) ≡ textOf sheet
   unfolding textOf
   text-is s l so =
-      let r = readOf sheet .sheet in
       let placed : placedIn sheet ≡ l = ap placedBy (sym said-walk ∙ so) in
-      listing-placed (r .machine) (r .costs) (r .tasks .count) (r .tasks .list) good s l so
-      ∙ (λ i. placedListing (said i .costs) (said-tasks i) (sym placed i))
+      listing-placed (sheetRead .machine) (sheetRead .costs) (sheetRead .tasks .count) (sheetRead .tasks .list) good s l so
+      ∙ (λ i. placedListing (costs-said i) (tasks-said i) (sym placed i))
 
   pub said-ends : Ends sheet
-  said-ends = let r = readOf sheet .sheet in by (plan-or-stuck (r .machine) (r .costs) (r .tasks .count) (r .tasks .list) good)
+  said-ends = by (plan-or-stuck (sheetRead .machine) (sheetRead .costs) (sheetRead .tasks .count) (sheetRead .tasks .list) good)
     where
       by : ((s : Stand) × (l : List (Placed ℕ)) × (walkRead ≡ fine s l)
-          × (plansIn sheet ≡ finished (readOf sheet .sheet .machine) (readOf sheet .sheet .costs) (listOf (readOf sheet .sheet .tasks)) (fine s l)))
+          × (plansIn sheet ≡ finished (sheetRead .machine) (sheetRead .costs) (listOf (sheetRead .tasks)) (fine s l)))
           ⊎ ((k : ℕ) × (walkRead ≡ stuck k 7) × (plansIn sheet ≡ refusedPlan 7 (suc k))) → Ends sheet
       by (inl h) =
           let so : walkIn sheet ≡ fine (h .0) (h .1) = sym said-walk ∙ h .2 in
@@ -159,7 +153,7 @@ module _ (sheet : List ℕ) (whole : readOf sheet .number ≡ 0) where
 
   pub names-short : Each Short (tasksIn sheet)
   names-short =
-      subst (Each Short) (said-tasks sheet whole)
+      subst (Each Short) (tasks-said sheet whole)
       (each-imp (Fitted (linesOf sheet)) Short (λ t fitted. rw (fitted .named) (name-short (fitted .task-name)))
       (listOf (readOf sheet .sheet .tasks)) (first-arrow sheet whole))
 

@@ -48,7 +48,8 @@ use Rattle.spardimple.specs.Numbers.{number, Reply, malformed, said, tol
 use Rattle.spardimple.specs.Sheets.{written, paperOf, machineIn, costsIn, tasksIn, placedIn, textOf, refusal, toldPaper, listingNumber, listingLeft}
 use Rattle.spardimple.specs.Refusals.{lentTable, sheetTable}
 use Rattle.spardimple.proofs.NumberLaws.{told-one, reply-records, reply-costs, reply-formed, reply-carries}
-use Rattle.spardimple.proofs.PaperLaws.{walkIn, walksIn, said-sane, paper-cases, told-cases, paper-carries, paper-seven, text-one, buffer-refused, buffer-written}
+use Rattle.spardimple.proofs.PaperLaws.{walkIn, walksIn, said-sane, paper-cases, told-cases, paper-carries}
+use Rattle.spardimple.proofs.PaperLaws.{paper-seven, text-one, buffer-refused, buffer-written}
 
 -- ---- what is told, by a table
 
