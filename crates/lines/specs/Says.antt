@@ -2,6 +2,7 @@
 --
 --   Says              a machine, costs, a part, a task's name with its part's, or nothing: a line of no form
 --   has k n fs        the fields fs are k names, then n numbers, and no more
+--   nameAt k fs       the name that stands at place k of them, from 0
 --   saysIn w fs       by the word w, which is the first field, and the fields fs beyond it
 --   saysOf l          the line l
 use mathlib.Core.Bool.{Bool, cond, _&&_}
@@ -27,7 +28,6 @@ pub data Says : Type 0 where
 abbrev pub has : (names numbers : ℕ) → List (List ℕ) → Bool
 has k n fs = every isName (take k fs) && eqb (length fs) (k + n) && every isNumber (drop k fs)
 
--- the k-th name of the fields, from 0
 abbrev pub nameAt : ℕ → List (List ℕ) → Name
 nameAt k fs = nameOf (getD fs k [])
 

@@ -7,7 +7,7 @@
 --   read-comes            and so does the whole sheet
 --   read-refused, read-kept     so a refusal comes exactly where the table gives it, and the sheet is read exactly where the table is kept
 --   first-bad             for up to 16,384 bytes the lines alone decide
---   read-sheet, read-said       a sheet that is read is what its lines say
+--   read-said, read-array       a sheet that is read is what its lines say, and so is the array of its tasks
 use mathlib.Core.Path.{_≡_, refl, sym, ap, subst, _∙_}
 use mathlib.Core.Logic.{inl, inr, _↔_}
 use mathlib.Core.Bool.{Bool, true, false, cond, not}
@@ -215,19 +215,16 @@ whole-said bytes b e =
     read-keeps (λ (ls : List (List ℕ)) (a : Above). saidOf a ≡ below lineBelow unsaid (map saysOf ls)) refl
     (λ ls a l so-far good. line-below a l ∙ (ap (λ (c : Said). lineBelow c (saysOf l)) so-far ∙ sym (below-snoc ls unsaid l))) bytes b e .0
 
-pub read-sheet : (bytes : List ℕ) → readOf bytes .number ≡ 0
-    → (readOf bytes .sheet .machine ≡ saidBy bytes .machine)
-    × (readOf bytes .sheet .costs ≡ saidBy bytes .costs)
-    × (readOf bytes .sheet .tasks ≡ tasksOf (saidBy bytes .tasks))
-read-sheet bytes fine =
-    let w = read-whole bytes fine in
-    rw (read-shown bytes (w .0) (w .1), ← whole-said bytes (w .0) (w .1)) (refl, refl, refl)
-
 pub read-said : (bytes : List ℕ) → readOf bytes .number ≡ 0
     → (readOf bytes .sheet .machine ≡ saidBy bytes .machine)
     × (readOf bytes .sheet .costs ≡ saidBy bytes .costs)
     × (listOf (readOf bytes .sheet .tasks) ≡ saidBy bytes .tasks)
 read-said bytes fine =
     let w = read-whole bytes fine in
-    let sheet = read-sheet bytes fine in
-    (sheet .0, sheet .1, read-tasks bytes (w .0) (w .1) ∙ ap (λ (a : Said). a .tasks) (whole-said bytes (w .0) (w .1)))
+    rw (read-tasks bytes (w .0) (w .1), read-shown bytes (w .0) (w .1), ← whole-said bytes (w .0) (w .1)) (refl, refl, refl)
+
+-- the same tasks as the array that holds them
+pub read-array : (bytes : List ℕ) → readOf bytes .number ≡ 0 → readOf bytes .sheet .tasks ≡ tasksOf (saidBy bytes .tasks)
+read-array bytes fine =
+    let w = read-whole bytes fine in
+    rw (read-shown bytes (w .0) (w .1), ← whole-said bytes (w .0) (w .1))
