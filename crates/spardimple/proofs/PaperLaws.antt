@@ -46,7 +46,7 @@ use Rattle.sheet.specs.Sheet.{readOf}
 use Rattle.sheet.specs.Fitted.{Fitted, linesOf}
 use Rattle.sheet.proofs.ArrowLaws.{first-arrow}
 use Rattle.sheet.proofs.RuleLaws.{breaks-no-rule}
-use Rattle.sheet.proofs.RefusalLaws.{read-sheet, read-said}
+use Rattle.sheet.proofs.RefusalLaws.{read-said, read-array}
 use Rattle.sheet.proofs.SmallLaws.{read-small}
 use Rattle.listing.specs.Listing.{Entry, spelling, listingOf}
 use Rattle.listing.specs.Placed.{placedEntries, placedListing}
@@ -90,7 +90,7 @@ module _ (sheet : List ℕ) (whole : readOf sheet .number ≡ 0) where
   good = breaks-no-rule sheet whole
 
   counted : sheetRead .tasks .count ≡ length (tasksIn sheet)
-  counted = ap (λ (q : Tasks). q .count) (read-sheet sheet whole .2)
+  counted = ap (λ (q : Tasks). q .count) (read-array sheet whole)
 
   pub said-sane : stateFault (machineIn sheet) (costsIn sheet) (length (tasksIn sheet)) (tasksIn sheet) ≡ 0
   unfolding stateFault
