@@ -132,7 +132,7 @@ entries-on-with p (suc q) = ap (λ (es : List Entry). es ++ rowEntries p q) (ent
 
 pub listing-with : (p : Plan) → listingOf (planWith (p .costs) (p .tasks) (p .layout)) ≡ listingOf p
 unfolding listingOf header
-listing-with p = ap (λ (es : List Entry). header p ++ entryLines es) (entries-on-with p coresMost)
+listing-with p = ap (λ (es : List Entry). header (p .tasks .count) (p .layout .count) ++ entryLines es) (entries-on-with p coresMost)
 
 -- ---- how many places are listed
 

@@ -1,21 +1,24 @@
 -- Laws of the entries of a plan that the walk gave: they are those of what was placed.
 -- Assumes nothing.
 --
---   Seated k e             what was placed, e, is of one of the first k tasks, and its piece is within the sizes
+--   Seated k e             what was placed, e, is of one of the first k tasks, its piece is within the sizes, and its core is one of sixteen
 --   all-seated             so is all that the walk placed
 --   each-on                what holds of each that is placed holds of each on a core, and that is on it
 --   plan-is                the plan, from what was placed
 --   row-placed             the entries of a core are those of what was placed there
---   entries-count, pieces-count, tasks-count      there are as many entries as pieces placed, and the plan counts them and its tasks
-use mathlib.Core.Path.{_≡_, refl, ap, _∙_}
+--   entries-placed, listing-is      so are all entries, and the listing is that of what was placed
+--   by-core-all, by-core-each       sorted by core there are as many pieces, and what holds of each still does
+--   entries-count, entries-each     there are as many entries as pieces placed, and what holds of the entry of each holds of all entries
+--   pieces-count, tasks-count       the plan counts the pieces placed, and its tasks
+use mathlib.Core.Path.{_≡_, refl, sym, ap, _∙_}
 use mathlib.Core.Bool.{Bool, true, false}
-use mathlib.Core.List.{List, [], _∷_, map, map-map}
+use mathlib.Core.List.{List, [], _∷_, _++_, map, map-map, map-append}
 use Prim.Native.Nat.{ℕ, zero, suc, _+_, _*_, _≤_, _<_}
 use native.Mathlib.Decide.{decLt}
 use native.Mathlib.Omega.{arith}
 use borrow.Author.Tests.{ne-eqb, eqb-true, eqb-false}
 use lib.Dec.{eqb}
-use lib.ListN.{length-take, length, take, drop, getD, length-append, length-map, List·getD-append}
+use lib.ListN.{length-take, length, take, drop, getD, length-append, length-map}
 use lib.Seq.{take-take}
 use Rattle.demand.specs.declared.Piece.{Piece}
 use Rattle.demand.specs.declared.Costs.{Costs}
@@ -23,10 +26,10 @@ use Rattle.demand.specs.Sizes.{Sized, SizedCosts, Each}
 use Rattle.demand.specs.Charge.{charge}
 use Rattle.demand.specs.Answer.{chargedTime}
 use Rattle.demand.proofs.ChargeLaws.{charged-time-is}
-use Rattle.demand.proofs.Sums.{each-imp}
+use Rattle.demand.proofs.Sums.{each-imp, each-map}
 use Rattle.task.specs.declared.Task.{Task}
 use Rattle.task.specs.declared.Machine.{Machine}
-use Rattle.task.specs.Tasks.{taskAt, stateFault, tasksMost, tasksOf}
+use Rattle.task.specs.Tasks.{taskAt, stateFault, coresMost, tasksMost, tasksOf}
 use Rattle.task.proofs.TaskLaws.{state-sane, tasks-at}
 use Rattle.plan.specs.declared.Layout.{Layout}
 use Rattle.plan.specs.declared.Plan.{Plan}
@@ -34,6 +37,7 @@ use Rattle.plan.specs.declared.Reply.{Reply}
 use Rattle.walks.specs.Lists.{keep}
 use Rattle.walks.specs.Way.{Placed, fine, onCore, rowOf}
 use Rattle.walks.specs.Halves.{Stand}
+use Rattle.walks.proofs.ListLaws.{each-join, each-only}
 use Rattle.plan.specs.Walk.{walked}
 use Rattle.plan.specs.Layout.{keptPiece, blank}
 use Rattle.plan.specs.Plan.{finished, planOf}
@@ -41,23 +45,30 @@ use Rattle.task.specs.declared.Tasks.{Tasks}
 use Rattle.plan.specs.Shows.{storedOf, LayoutShows}
 use Rattle.plan.proofs.GoingLaws.{piece-stored}
 use Rattle.plan.proofs.Theorems.{placed-places, placed-sized, plan-counts, plan-shows}
-use Rattle.listing.specs.Listing.{rowPieces, entryOf, rowEntries, entriesOn, entries}
-use Rattle.listing.specs.Placed.{placedEntry}
+use Rattle.listing.specs.Listing.{Entry, rowPieces, entryOf, rowEntries, entriesOn, entries, entryLines, header, listingOf}
+use Rattle.listing.specs.Placed.{placedEntry, byCore, placedEntries, placedListing}
 
 -- ---- what the walk placed
 
 pub record Seated (k : ℕ) (e : Placed ℕ) : Type 0 where
   pub low : e .item < k
   pub size : Sized (e .piece)
+  pub core : e .on < coresMost
 
-seated-all : (k : ℕ) (l : List (Placed ℕ)) → Each (λ e. e .item < k) l → Each (λ e. Sized (e .piece)) l → Each (Seated k) l
-seated-all k [] low size = tt
-seated-all k (e ∷ l) low size = (record { low = low .0; size = size .0 }, seated-all k l (low .1) (size .1))
+seated-all : (k : ℕ) (l : List (Placed ℕ)) → Each (λ e. e .item < k) l → Each (λ e. Sized (e .piece)) l → Each (λ e. e .on < coresMost) l → Each (Seated k) l
+seated-all k [] low size core = tt
+seated-all k (e ∷ l) low size core = (record { low = low .0; size = size .0; core = core .0 }, seated-all k l (low .1) (size .1) (core .1))
 
 module _ (m : Machine) (c : Costs) (n : ℕ) (ts : List Task) (faultless : stateFault m c n ts ≡ 0) (s : Stand) (l : List (Placed ℕ))
     (planned : walked m c (take n ts) ≡ fine s l) where
+  seats-low : Each (λ e. e .on < coresMost) l
+  seats-low =
+      each-imp (λ (e : Placed ℕ). e .on < m .cores) (λ (e : Placed ℕ). e .on < coresMost)
+      (λ e h. omega (arith, state-sane m c n ts faultless .cores-fit)) l (plan-counts m c n ts faultless s l planned .cores)
+
   pub all-seated : Each (Seated (length (take n ts))) l
-  all-seated = seated-all (length (take n ts)) l (placed-places m c n ts faultless s l planned) (placed-sized m c n ts faultless s l planned)
+  all-seated =
+      seated-all (length (take n ts)) l (placed-places m c n ts faultless s l planned) (placed-sized m c n ts faultless s l planned) seats-low
 
 -- ---- what is on a core
 
@@ -94,35 +105,46 @@ row-pieces y l q shows low short =
 
 -- ---- how many there are
 
--- the number of pieces on the first k cores
-abbrev onFirstCores : ℕ → List (Placed ℕ) → ℕ
-onFirstCores zero l = 0
-onFirstCores (suc q) l = onFirstCores q l + length (onCore q l)
+by-core-above : (k : ℕ) (e : Placed ℕ) (l : List (Placed ℕ)) → k ≤ e .on → byCore k (e ∷ l) ≡ byCore k l
+by-core-above zero e l high = refl
+by-core-above (suc q) e l high = rw (by-core-above q e l (omega arith), ne-eqb (e .on) q (λ h. omega arith))
 
-count-above : (k : ℕ) (e : Placed ℕ) (l : List (Placed ℕ)) → k ≤ e .on → onFirstCores k (e ∷ l) ≡ onFirstCores k l
-count-above zero e l high = refl
-count-above (suc q) e l high = rw (count-above q e l (omega arith), ne-eqb (e .on) q (λ h. omega arith))
-
-count-below : (k : ℕ) (e : Placed ℕ) (l : List (Placed ℕ)) → e .on < k → onFirstCores k (e ∷ l) ≡ suc (onFirstCores k l)
-count-below zero e l low = absurd (omega arith)
-count-below (suc q) e l low = by (eqb (e .on) q) refl (λ h. count-below q e l h)
+by-core-below : (k : ℕ) (e : Placed ℕ) (l : List (Placed ℕ)) → e .on < k → length (byCore k (e ∷ l)) ≡ suc (length (byCore k l))
+by-core-below zero e l low = absurd (omega arith)
+by-core-below (suc q) e l low = by (eqb (e .on) q) refl (λ h. by-core-below q e l h)
   where
-    by : (t : Bool) → eqb (e .on) q ≡ t → (e .on < q → onFirstCores q (e ∷ l) ≡ suc (onFirstCores q l))
-        → onFirstCores q (e ∷ l) + length (keep t e (onCore q l)) ≡ suc (onFirstCores q l + length (onCore q l))
-    by true h below = omega (arith, count-above q e l (omega (arith, eqb-true (e .on) q h)))
-    by false h below = omega (arith, below (less (decLt (e .on) q)))
+    by : (t : Bool) → eqb (e .on) q ≡ t → (e .on < q → length (byCore q (e ∷ l)) ≡ suc (length (byCore q l)))
+        → length (byCore q (e ∷ l) ++ keep t e (onCore q l)) ≡ suc (length (byCore q l ++ onCore q l))
+    by true h below =
+        omega (
+          arith,
+          length-append (byCore q (e ∷ l)) (e ∷ onCore q l),
+          length-append (byCore q l) (onCore q l),
+          ap length (by-core-above q e l (omega (arith, eqb-true (e .on) q h))),
+        )
+    by false h below =
+        omega (
+          arith,
+          length-append (byCore q (e ∷ l)) (onCore q l),
+          length-append (byCore q l) (onCore q l),
+          below (less (decLt (e .on) q)),
+        )
       where
         less : Dec (e .on < q) → e .on < q
         less (yes g) = g
         less (no g) = absurd (eqb-false (e .on) q h (omega arith))
 
-count-none : (k : ℕ) → onFirstCores k [] ≡ 0
-count-none zero = refl
-count-none (suc q) = omega (arith, count-none q)
+by-core-none : (k : ℕ) → byCore k [] ≡ []
+by-core-none zero = refl
+by-core-none (suc q) = rw (by-core-none q)
 
-count-all : (k : ℕ) (l : List (Placed ℕ)) → Each (λ e. e .on < k) l → onFirstCores k l ≡ length l
-count-all k [] ok = count-none k
-count-all k (e ∷ l) ok = count-below k e l (ok .0) ∙ ap suc (count-all k l (ok .1))
+pub by-core-all : (k : ℕ) (l : List (Placed ℕ)) → Each (λ e. e .on < k) l → length (byCore k l) ≡ length l
+by-core-all k [] ok = ap length (by-core-none k)
+by-core-all k (e ∷ l) ok = by-core-below k e l (ok .0) ∙ ap suc (by-core-all k l (ok .1))
+
+pub by-core-each : (P : Placed ℕ → Type 0) (k : ℕ) (l : List (Placed ℕ)) → Each P l → Each P (byCore k l)
+by-core-each P zero l ok = tt
+by-core-each P (suc q) l ok = each-join P (byCore q l) (onCore q l) (by-core-each P q l ok) (each-only P (λ e. eqb (e .on) q) l ok)
 
 -- ---- a plan that the walk gave
 
@@ -146,28 +168,31 @@ module _ (m : Machine) (c : Costs) (n : ℕ) (ts : List Task) (faultless : state
       (λ e seat. entry-placed p c (take n ts) q e costs few list (state-sane m c n ts faultless .costs) (seat .0) (seat .1)) (onCore q l)
       (each-on (Seated k) q l (all-seated m c n ts faultless s l planned)))
 
-  rows-count : (k : ℕ) → k ≤ 16 → length (entriesOn (planOf m c n ts .plan) k) ≡ onFirstCores k l
-  rows-count zero few = refl
-  rows-count (suc q) few =
-      let p : Plan = planOf m c n ts .plan in
-      omega (
-        arith,
-        length-append (entriesOn p q) (rowEntries p q),
-        rows-count q (omega arith),
-        ap length (row-placed q (omega arith)),
-        length-map (onCore q l) (placedEntry c (take n ts)),
-      )
+  rows-placed : (k : ℕ) → k ≤ 16 → entriesOn (planOf m c n ts .plan) k ≡ map (placedEntry c (take n ts)) (byCore k l)
+  rows-placed zero few = refl
+  rows-placed (suc q) few =
+      (λ i. rows-placed q (omega arith) i ++ row-placed q (omega arith) i) ∙ sym (map-append (placedEntry c (take n ts)) (byCore q l) (onCore q l))
 
-  seats-low : Each (λ e. e .on < 16) l
-  seats-low =
-      each-imp (λ (e : Placed ℕ). e .on < m .cores) (λ (e : Placed ℕ). e .on < 16)
-      (λ e h. omega (arith, state-sane m c n ts faultless .cores-fit)) l (plan-counts m c n ts faultless s l planned .cores)
+  pub entries-placed : entries (planOf m c n ts .plan) ≡ placedEntries c (take n ts) l
+  entries-placed = rows-placed 16 (omega arith)
 
-  pub entries-count : length (entries (planOf m c n ts .plan)) ≡ length l
-  entries-count = rows-count 16 (omega arith) ∙ count-all 16 l seats-low
+  pub entries-count : length (placedEntries c (take n ts) l) ≡ length l
+  entries-count = length-map (byCore 16 l) (placedEntry c (take n ts)) ∙ by-core-all 16 l (seats-low m c n ts faultless s l planned)
+
+  -- what holds of the entry of each piece that was placed holds of all entries
+  pub entries-each : (R : Entry → Type 0) → ((e : Placed ℕ) → Seated (length (take n ts)) e → R (placedEntry c (take n ts) e))
+      → Each R (placedEntries c (take n ts) l)
+  entries-each R each =
+      let k : ℕ = length (take n ts) in
+      each-map (Seated k) R (placedEntry c (take n ts)) each (byCore 16 l)
+      (by-core-each (Seated k) 16 l (all-seated m c n ts faultless s l planned))
 
   pub pieces-count : planOf m c n ts .plan .layout .count ≡ length l
   pieces-count = plan-shows m c n ts faultless s l planned .count
 
   pub tasks-count : planOf m c n ts .plan .tasks .count ≡ length (take n ts)
   tasks-count = ap (λ (r : Reply). r .plan .tasks .count) plan-is
+
+  pub listing-is : listingOf (planOf m c n ts .plan) ≡ placedListing c (take n ts) l
+  unfolding listingOf placedListing
+  listing-is = λ i. header (tasks-count i) (pieces-count i) ++ entryLines (entries-placed i)

@@ -1,12 +1,12 @@
--- Laws of the entries of a plan that the walk gave: they can be read back.
+-- Laws of the entries of what a walk placed: they can be read back.
 -- Assumes nothing.
 --
 --   name-plain             a name of the form has no tab
 --   names-formed           tasks that break no rule have such names
 --   placed-readable        the entry of what was placed can be read back
---   entries-readable       so can all entries of a plan
---   listing-few            a plan with names of at most 24 bytes has a listing of at most 20,000
-use mathlib.Core.Path.{_≡_, refl, ap}
+--   entries-readable       so can all entries
+--   listing-few            tasks with names of at most 24 bytes have a listing of at most 20,000
+use mathlib.Core.Path.{_≡_, refl}
 use mathlib.Core.Bool.{Bool, true, false}
 use mathlib.Core.List.{List, [], _∷_, _++_}
 use Prim.Native.Nat.{ℕ, zero, suc, _+_, _*_, _≤_, _<_}
@@ -22,7 +22,6 @@ use Rattle.demand.specs.Charge.{charge, charged}
 use Rattle.demand.proofs.Tests.{both-left, both-right}
 use Rattle.demand.proofs.KindLaws.{every-kind}
 use Rattle.demand.proofs.ChargeLaws.{charged-ranged, sized-countable}
-use Rattle.demand.proofs.Sums.{each-map}
 use Rattle.task.specs.declared.Name.{Name}
 use Rattle.task.specs.declared.Task.{Task}
 use Rattle.task.specs.declared.Machine.{Machine}
@@ -30,18 +29,15 @@ use Rattle.task.specs.Names.{nameByte, fitsAt, speltFrom, spelt, formed}
 use Rattle.task.specs.Tasks.{taskAt, faultOf, firstFault, orElse, stateFault}
 use Rattle.task.proofs.TaskLaws.{state-sane, fault-form}
 use Rattle.lines.specs.Lines.{bytesOf, newline, tab}
-use Rattle.walks.specs.Way.{Placed, fine, onCore}
+use Rattle.walks.specs.Way.{Placed, fine}
 use Rattle.walks.specs.Halves.{Stand}
-use Rattle.walks.proofs.ListLaws.{each-join}
-use Rattle.plan.specs.declared.Plan.{Plan}
 use Rattle.plan.specs.Walk.{walked}
-use Rattle.plan.specs.Plan.{planOf}
 use Rattle.plan.proofs.Theorems.{plan-counts}
 use Rattle.listing.specs.Text.{endedBy, decimal}
-use Rattle.listing.specs.Listing.{Entry, spelling, rowEntries, entriesOn, entries, kindWord, figuresLine, entryLine, entryLines, header, listingOf}
-use Rattle.listing.specs.Placed.{placedEntry}
+use Rattle.listing.specs.Listing.{Entry, spelling, kindWord, figuresLine, entryLine, entryLines, header}
+use Rattle.listing.specs.Placed.{placedEntry, placedEntries, placedListing}
 use Rattle.listing.proofs.ReadLaws.{Lacks, Readable}
-use Rattle.listing.proofs.PlacedLaws.{Seated, all-seated, each-on, row-placed, entries-count}
+use Rattle.listing.proofs.PlacedLaws.{Seated, entries-each, entries-count}
 use Rattle.listing.proofs.TextLaws.{ended-length, decimal-few}
 
 -- ---- names
@@ -121,41 +117,33 @@ lines-short : (es : List Entry) → Each (λ e. length (e .task) ≤ 24) es → 
 lines-short [] short = omega arith
 lines-short (e ∷ es) short = omega (arith, length-append (entryLine e) (entryLines es), line-short e (short .0), lines-short es (short .1))
 
-header-short : (p : Plan) → length (header p) ≤ 47
+header-short : (n m : ℕ) → length (header n m) ≤ 47
 unfolding header
-header-short p =
-    let t = decimal (p .tasks .count) in
-    let k = decimal (p .layout .count) in
+header-short n m =
+    let t = decimal n in
+    let k = decimal m in
     omega (
       arith,
       length-append (endedBy tab (bytesOf "plan")) (endedBy tab t ++ endedBy newline k),
       length-append (endedBy tab t) (endedBy newline k),
       ended-length tab t,
       ended-length newline k,
-      decimal-few (p .tasks .count),
-      decimal-few (p .layout .count),
+      decimal-few n,
+      decimal-few m,
     )
 
-listing-short : (p : Plan) (es : List Entry) → entries p ≡ es → Each (λ e. length (e .task) ≤ 24) es → length es ≤ 79 → length (listingOf p) ≤ 20000
-unfolding listingOf
-listing-short p es is short few =
-    omega (
-      arith,
-      length-append (header p) (entryLines (entries p)),
-      header-short p,
-      lines-short es short,
-      ap (λ (l : List Entry). length (entryLines l)) is,
-    )
+listing-short : (n m : ℕ) (es : List Entry) → Each (λ e. length (e .task) ≤ 24) es → length es ≤ 79 → length (header n m ++ entryLines es) ≤ 20000
+listing-short n m es short few = omega (arith, length-append (header n m) (entryLines es), header-short n m, lines-short es short)
 
 -- ---- entries
 
 pub placed-readable : (c : Costs) (ts : List Task) (e : Placed ℕ) → SizedCosts c → Each (λ t. formed (t .name) ≡ true) ts
-    → Seated (length ts) e → e .on < 16 → Readable (placedEntry c ts e)
+    → Seated (length ts) e → Readable (placedEntry c ts e)
 unfolding placedEntry charged
-placed-readable c ts e costs names seat low =
+placed-readable c ts e costs names seat =
     let time : charge c (e .piece) ≤ 2000000 = charged-ranged c costs (e .piece) (sized-countable (e .piece) (seat .size)) .charge-fits in
     record {
-      core-fits = omega arith;
+      core-fits = omega (arith, seat .core);
       task-plain = name-plain (taskAt ts (e .item) .name) (each-task (λ t. formed (t .name) ≡ true) ts names (e .item) (seat .low));
       budget-fits = omega (arith, seat .size .budget-fits, seat .size .window-fits, seat .size .period-fits);
       window-fits = omega (arith, seat .size .window-fits, seat .size .period-fits);
@@ -170,33 +158,16 @@ placed-short c ts e names seat = each-task (λ t. length (spelling (t .name)) �
 
 module _ (m : Machine) (c : Costs) (n : ℕ) (ts : List Task) (faultless : stateFault m c n ts ≡ 0) (s : Stand) (l : List (Placed ℕ))
     (planned : walked m c (take n ts) ≡ fine s l) where
-  -- what holds of the entry of each piece that was placed holds of all entries of the plan
-  module _ (R : Entry → Type 0) (each : (e : Placed ℕ) → Seated (length (take n ts)) e → e .on < 16 → R (placedEntry c (take n ts) e)) where
-    row-each : (q : ℕ) → q < 16 → Each R (rowEntries (planOf m c n ts .plan) q)
-    row-each q low =
-        let k : ℕ = length (take n ts) in
-        rw (row-placed m c n ts faultless s l planned q low)
-        (each-map (λ e. Seated k e × (e .on ≡ q)) R (placedEntry c (take n ts)) (λ e seat. each e (seat .0) (omega (arith, seat .1)))
-        (onCore q l) (each-on (Seated k) q l (all-seated m c n ts faultless s l planned)))
-
-    rows-each : (k : ℕ) → k ≤ 16 → Each R (entriesOn (planOf m c n ts .plan) k)
-    rows-each zero few = tt
-    rows-each (suc q) few =
-        each-join R (entriesOn (planOf m c n ts .plan) q) (rowEntries (planOf m c n ts .plan) q) (rows-each q (omega arith))
-        (row-each q (omega arith))
-
-    entries-each : Each R (entries (planOf m c n ts .plan))
-    entries-each = rows-each 16 (omega arith)
-
-  pub entries-readable : Each Readable (entries (planOf m c n ts .plan))
+  pub entries-readable : Each Readable (placedEntries c (take n ts) l)
   entries-readable =
       let sane = state-sane m c n ts faultless in
-      entries-each Readable (λ e seat low. placed-readable c (take n ts) e (sane .costs) (names-formed [] (take n ts) (sane .faultless)) seat low)
+      entries-each m c n ts faultless s l planned Readable
+      (λ e seat. placed-readable c (take n ts) e (sane .costs) (names-formed [] (take n ts) (sane .faultless)) seat)
 
-  pub listing-few : Each (λ t. length (spelling (t .name)) ≤ 24) (take n ts) → length (listingOf (planOf m c n ts .plan)) ≤ 20000
+  pub listing-few : Each (λ t. length (spelling (t .name)) ≤ 24) (take n ts) → length (placedListing c (take n ts) l) ≤ 20000
+  unfolding placedListing
   listing-few names =
-      let p = planOf m c n ts .plan in
-      let short : Each (λ e. length (e .task) ≤ 24) (entries p) =
-      entries-each (λ e. length (e .task) ≤ 24) (λ e seat low. placed-short c (take n ts) e names seat) in
-      listing-short p (entries p) refl short
+      let short : Each (λ e. length (e .task) ≤ 24) (placedEntries c (take n ts) l) =
+      entries-each m c n ts faultless s l planned (λ e. length (e .task) ≤ 24) (λ e seat. placed-short c (take n ts) e names seat) in
+      listing-short (length (take n ts)) (length l) (placedEntries c (take n ts) l) short
       (omega (arith, entries-count m c n ts faultless s l planned, plan-counts m c n ts faultless s l planned .pieces-fit))

@@ -10,7 +10,7 @@
 --   line-cut               a line of fields of which the last is a number
 --   Readable e             what an entry needs to be read back
 --   lines-alike            the lines of such entries determine them
---   listing-alike          and two listings that are equal are so in their first lines' numbers and in the lines below
+--   head-alike             and two listings that are equal are so in their first lines' numbers and in the lines below
 use mathlib.Core.Path.{_≡_, refl, sym, ap, _∙_}
 use mathlib.Core.Bool.{Bool, true, false, not, cond}
 use mathlib.Core.List.{List, [], _∷_, _++_, append-assoc}
@@ -24,11 +24,10 @@ use Rattle.demand.specs.Kinds.{kindNumber}
 use Rattle.demand.specs.Sizes.{Each}
 use Rattle.demand.proofs.Tests.{both-left, both-right}
 use Rattle.demand.proofs.KindLaws.{kind-one, allKinds, every-kind}
-use Rattle.plan.specs.declared.Plan.{Plan}
 use Rattle.lines.specs.Lines.{bytesOf, tab, newline, isDigit, every}
 use Rattle.lines.proofs.FieldLaws.{digit-low}
 use Rattle.listing.specs.Text.{decimal}
-use Rattle.listing.specs.Listing.{Entry, kindWord, entryLine, entryLines, entries, header, listingOf}
+use Rattle.listing.specs.Listing.{Entry, kindWord, entryLine, entryLines, header}
 use Rattle.listing.proofs.DigitLaws.{decimal-digits, decimal-one}
 
 -- ---- runs that a byte ends
@@ -164,23 +163,18 @@ lines-alike (e ∷ es) (f ∷ fs) ok good same =
 
 -- ---- the first line
 
-abbrev headFront : Plan → List (List ℕ)
-headFront p = bytesOf "plan" ∷ decimal (p .tasks .count) ∷ []
+abbrev headFront : ℕ → List (List ℕ)
+headFront t = bytesOf "plan" ∷ decimal t ∷ []
 
-head-parts : (p : Plan) (r : List ℕ) → header p ++ r ≡ fieldsOn (headFront p) (decimal (p .layout .count) ++ (newline ∷ r))
+head-parts : (t k : ℕ) (r : List ℕ) → header t k ++ r ≡ fieldsOn (headFront t) (decimal k ++ (newline ∷ r))
 unfolding header
-head-parts p r = simp append-assoc
+head-parts t k r = simp append-assoc
 
-head-lacks : (p : Plan) → Each (Lacks tab) (headFront p)
-head-lacks p = (lacks-by tab (bytesOf "plan") refl, (decimal-lacks tab (omega arith) (p .tasks .count), tt))
+head-lacks : (t : ℕ) → Each (Lacks tab) (headFront t)
+head-lacks t = (lacks-by tab (bytesOf "plan") refl, (decimal-lacks tab (omega arith) t, tt))
 
-pub listing-alike : (p q : Plan) → listingOf p ≡ listingOf q → (decimal (p .tasks .count) ≡ decimal (q .tasks .count))
-    × (decimal (p .layout .count) ≡ decimal (q .layout .count)) × (entryLines (entries p) ≡ entryLines (entries q))
-unfolding listingOf
-listing-alike p q same =
-    let r : List ℕ = entryLines (entries p) in
-    let s : List ℕ = entryLines (entries q) in
+pub head-alike : (t k t′ k′ : ℕ) (r s : List ℕ) → header t k ++ r ≡ header t′ k′ ++ s → (decimal t ≡ decimal t′) × (decimal k ≡ decimal k′) × (r ≡ s)
+head-alike t k t′ k′ r s same =
     let cut =
-    line-cut (headFront p) (headFront q) (p .layout .count) (q .layout .count) r s refl (head-lacks p) (head-lacks q)
-    (sym (head-parts p r) ∙ (same ∙ head-parts q s)) in
+    line-cut (headFront t) (headFront t′) k k′ r s refl (head-lacks t) (head-lacks t′) (sym (head-parts t k r) ∙ (same ∙ head-parts t′ k′ s)) in
     (cc (cut .0), cut .1, cut .2)

@@ -10,7 +10,7 @@
 --   entries p             all entries
 --   entryLine e           the line of one
 --   entryLines es         the lines of all
---   header p              the first line: tasks, pieces
+--   header t k            the first line: t tasks, k pieces
 --   listingOf p           the listing
 --   planWith c ts l       a plan with the costs c, the tasks ts and the layout l
 --   listedOn lens n       how many places are listed on the first n cores, by the lengths of their rows
@@ -30,8 +30,8 @@ use Rattle.plan.specs.declared.Layout.{Layout}
 use Rattle.plan.specs.declared.Plan.{Plan}
 use Rattle.plan.specs.Sizes.{rowMost}
 use Rattle.plan.specs.Layout.{keptPiece, blank}
-use Rattle.lines.specs.Lines.{bytesOf, tab}
-use Rattle.listing.specs.Text.{endedBy, textLine, decimal}
+use Rattle.lines.specs.Lines.{bytesOf}
+use Rattle.listing.specs.Text.{textLine, decimal}
 
 pub record Entry : Type 0 where
   pub core : ℕ
@@ -88,21 +88,18 @@ figuresLine b w j c = textLine (decimal b ∷ decimal w ∷ decimal j ∷ decima
 
 unfoldable pub entryLine : Entry → List ℕ
 entryLine e =
-    endedBy tab (bytesOf "piece")
-    ++ (endedBy tab (decimal (e .core))
-    ++ (endedBy tab (e .task)
-    ++ (endedBy tab (kindWord (e .kind))
-    ++ figuresLine (e .budget) (e .window) (e .jitter) (e .charged))))
+    textLine (bytesOf "piece" ∷ decimal (e .core) ∷ e .task ∷ kindWord (e .kind)
+    ∷ decimal (e .budget) ∷ decimal (e .window) ∷ decimal (e .jitter) ∷ decimal (e .charged) ∷ [])
 
 abbrev pub entryLines : List Entry → List ℕ
 entryLines [] = []
 entryLines (e ∷ es) = entryLine e ++ entryLines es
 
-unfoldable pub header : Plan → List ℕ
-header p = textLine (bytesOf "plan" ∷ decimal (p .tasks .count) ∷ decimal (p .layout .count) ∷ [])
+unfoldable pub header : (tasks pieces : ℕ) → List ℕ
+header t k = textLine (bytesOf "plan" ∷ decimal t ∷ decimal k ∷ [])
 
 unfoldable pub listingOf : Plan → List ℕ
-listingOf p = header p ++ entryLines (entries p)
+listingOf p = header (p .tasks .count) (p .layout .count) ++ entryLines (entries p)
 
 -- ---- what the writer goes by
 

@@ -2,17 +2,17 @@
 -- Assumes nothing.
 --
 --   back n                what the number n says
---   told-one              what is told is read back from its number, where it carries less than 2^32
+--   one-number            a number tells its two parts, where the second is less than 2^32
+--   told-one              so what is told is read back from its number, where it carries less than 2^32
 --   number-back           a reply is read back from its number, where it carries less than 2^32
 --   number-one, answer-one        so two replies of one number are the same, and two answers
 --   reply-true, reply-false       by the test of their form
 --   reply-records, reply-costs, reply-formed      8 first, then what is said of the records
 --   reply-carries         every reply to lent bytes carries less than 2^32
---   verdict-number-one    so for any four slices one number means one reply
 use mathlib.Core.Path.{_≡_, refl, sym, ap, _∙_}
 use mathlib.Core.Bool.{Bool, true, false, cond}
 use mathlib.Core.List.{List}
-use Prim.Native.Nat.{ℕ, _/_, _%_, _^_, _<_}
+use Prim.Native.Nat.{ℕ, _+_, _*_, _/_, _%_, _^_, _<_}
 use native.Mathlib.Omega.{arith}
 use borrow.Author.Tests.{eq-eqb, ne-eqb}
 use lib.Dec.{eqb}
@@ -58,12 +58,15 @@ number-carries : (t : Told) → t .carries < 2 ^ 32 → number t % 2 ^ 32 ≡ t 
 unfolding number
 number-carries t fits = omega arith
 
+pub one-number : (w k w′ k′ : ℕ) → k < 2 ^ 32 → k′ < 2 ^ 32 → 2 ^ 32 * w + k ≡ 2 ^ 32 * w′ + k′ → (w ≡ w′) × (k ≡ k′)
+one-number w k w′ k′ fits fits′ same = (omega arith, omega arith)
+
 -- what is told is read back from its number
 pub told-one : (t u : Told) → t .carries < 2 ^ 32 → u .carries < 2 ^ 32 → number t ≡ number u → t ≡ u
+unfolding number
 told-one t u small less e =
-    let which : t .which ≡ u .which = sym (number-which t small) ∙ (ap (λ (n : ℕ). n / 2 ^ 32) e ∙ number-which u less) in
-    let carries : t .carries ≡ u .carries = sym (number-carries t small) ∙ (ap (λ (n : ℕ). n % 2 ^ 32) e ∙ number-carries u less) in
-    λ i. record { which = which i; carries = carries i }
+    let same = one-number (t .which) (t .carries) (u .which) (u .carries) small less e in
+    λ i. record { which = same .0 i; carries = same .1 i }
 
 pub number-back : (r : Reply) → toldReply r .carries < 2 ^ 32 → back (number (toldReply r)) ≡ r
 unfolding back
@@ -111,7 +114,3 @@ reply-carries rs cs = look (measured rs cs) refl
     look : (b : Bool) → measured rs cs ≡ b → toldReply (replyOf rs cs) .carries < 2 ^ 32
     look true e = rw (reply-true rs cs e) (omega (arith, answer-carries (costsSpelt cs) (length (piecesOf rs)) (piecesOf rs)))
     look false e = rw (reply-false rs cs e) (omega arith)
-
-pub verdict-number-one : (rs cs ss ds : List ℕ) → verdictNumber rs cs ≡ verdictNumber ss ds → replyOf rs cs ≡ replyOf ss ds
-unfolding verdictNumber
-verdict-number-one rs cs ss ds e = number-one (replyOf rs cs) (replyOf ss ds) (reply-carries rs cs) (reply-carries ss ds) e

@@ -1,33 +1,34 @@
 -- The customer's three demands, as theorems. They speak of what the contracts of the exported and public functions say, by names of `specs/`:
 --
---   verdict(records, costs)         answers verdictNumber records costs, the number of the reply replyOf records costs
+--   verdict(records, costs)         answers verdictNumber records costs
 --   judge, judge_records, judge_lent    answer answerOf costs n records; split_records answers splitOf
---   plan_listing(sheet, listing)    answers listingNumber sheet room, the number of what paperOf sheet comes to in a buffer of so many bytes,
---                                   and the buffer, which held old, then holds listingLeft sheet old
+--   plan_listing(sheet, listing)    answers listingNumber sheet room, in a buffer of so many bytes, and the buffer, which held old, then holds
+--                                   listingLeft sheet old
 --   plan_tasks                      answers planOf m c n ts, for the first n of the tasks ts
 --   add, withdraw, retime           answer editOf e s, from any state s
 --
 -- Each of these is an equation for any input, with nothing asked of the caller: so one input has one answer, and one content for what was lent.
 --
 -- Demand 1, each input answered:
---   one-verdict, one-listing        no two answers share a number
---   verdict-refused, records-refused, listing-refused, plan-refused, edit-refused     each refusal comes exactly where its table gives it, with what it carries
+--   verdict-comes, listing-comes    what a number can be: 2^32 times which answer it is, and what that carries
+--   one-number                      so no two answers share a number
+--   verdict-refused, records-refused, split-refused, listing-refused, plan-refused, edit-refused
+--                                   each refusal comes exactly where its table gives it, with what it carries
 --   listing-taken, plan-taken, edit-taken     and a listing is written, a plan made, an edit accepted, exactly where no rule of its table is broken
+--   no-room                         7 comes exactly where the walk sticks, with the task
 --   refused-buffer, refused-state   a refusal changes no lent byte and no held plan
---   written-buffer                  an accepted listing stands at the front of the buffer, and the bytes beyond stay
+--   written-buffer                  a listing that is written stands at the front of the buffer, and the bytes beyond stay
 -- Demand 2, verdict and plan:
 --   passes, overloaded, undecided   each verdict comes exactly where no rule is broken and its meaning holds; `-told`: on lent bytes, by the number given back
 --   split                           and so does a split
---   fits-above                      each task of a sheet that is read has the times of the part that its line names, by equal lengths and bytes
+--   verdict-means, split-means      the verdict and the split that the walk goes by are those that are meant
 --   packing, packing-ranked         the packing order has each task once, greater C/D first, ties by earlier task
 --   packing-one, walk-order         it is the only order that is so, and the walk goes over the tasks in it
 --   walk-promised                   what a walk that ends well placed: every task, budgets and windows adding up, on the machine's cores, every core passing
+--   sheet-sane, sheet-walks         what a sheet says breaks no rule of a state, and where a listing is written the walk over it ends well
+--   told-apart                      sheets with one listing place the same names alike
 --   plan-made                       a plan that comes is a held plan, of what was asked for
 --   held-promised, held-ones        a held plan's walk placed so, and the number of tasks on a core is that of its pieces
---   afresh-listed                   and its listing shows it, and counts it
---   listing-promised                a listing is that of the plan worked out afresh from the sheet's machine, costs and tasks
---   listing-comes, no-room          it comes where the walk ends well, and 7 exactly where the walk sticks, with the task
---   alike, told-apart               sheets that read alike come to the same; sheets with one listing place the same names alike
 -- Demand 3, edits:
 --   begun-held                      a plan worked out afresh is a held plan
 --   after-any, after-any-afresh     after any sequence of edits a held plan is held; one worked out afresh equals the one worked out from the tasks then held
@@ -36,31 +37,58 @@
 --   edit-looks-at                   an edit relies on machine, costs and task list alone
 --   kept-before                     an accepted edit of a held plan keeps the pieces of each task before the edited one in both packing orders
 --   kept-after                      and where at a later task the two walks stand at the same core with the same row, of that task and all later ones
+-- What the tests tell that definitions go by:
+--   costs-sized, names-equal, bytes-equal, name-formed
+--
+-- Settled by theorems, so that nobody has to read how it is computed:
+--   verdictNumber     verdict-comes, verdict-refused, passes-told, overloaded-told, undecided-told
+--   answerOf          records-refused, passes, overloaded, undecided
+--   splitOf           split-refused, split
+--   listingNumber     listing-comes, listing-refused, listing-taken
+--   listingLeft       refused-buffer, written-buffer
+--   planOf            plan-refused, plan-taken, plan-made
+--   editOf            edit-refused, edit-taken, refused-state, edit-yields, edit-afresh
+--   verdictOf         verdict-means
+--   greatestSplit     split-means
+--   packed            packing, packing-ranked, packing-one
+--   sizedCosts        costs-sized
+--   sameName          names-equal
+--   sameBytes         bytes-equal
+--   formed            name-formed
+--
 -- Assumes nothing.
-use mathlib.Core.Path.{_≡_, sym, ap, _∙_, subst}
-use mathlib.Core.Logic.{_↔_}
-use mathlib.Core.List.{List, [], _∷_, _++_, map}
+use mathlib.Core.Path.{_≡_}
+use mathlib.Core.Bool.{true}
+use mathlib.Core.Logic.{_↔_, _⊎_}
+use mathlib.Core.List.{List, [], _∷_, _++_}
 use Prim.Native.Nat.{ℕ, suc, _+_, _*_, _^_, _<_}
 use lib.ListN.{length, take, drop}
 use Rattle.demand.specs.declared.Piece.{Piece}
 use Rattle.demand.specs.declared.Costs.{Costs}
+use Rattle.demand.specs.declared.Refusal.{Refusal}
 use Rattle.demand.specs.declared.Split.{Split}
-use Rattle.demand.specs.declared.Splitting.the-variants.{Best}
+use Rattle.demand.specs.declared.Splitting.the-variants.{Best, Denied}
+use Rattle.demand.specs.declared.Verdict.{Verdict}
 use Rattle.demand.specs.declared.Verdict.the-variants.{Passes, Overloaded, Undecided}
-use Rattle.demand.specs.declared.Answer.the-variants.{Judged}
-use Rattle.demand.specs.Sizes.{Each}
+use Rattle.demand.specs.declared.Answer.the-variants.{Judged, Refused}
+use Rattle.demand.specs.Sizes.{SizedCosts, sizedCosts, Each}
 use Rattle.demand.specs.Charge.{coreOf, stall}
-use Rattle.demand.specs.Verdict.{Means, Bounded, KeepsUp}
-use Rattle.demand.specs.Split.{Splits}
-use Rattle.demand.specs.Answer.{told, answerOf, splitOf}
-use Rattle.demand.specs.Tables.{Gives, Kept}
-use Rattle.demand.specs.Refusals.{recordTable}
-use Rattle.demand.proofs.RefusalLaws.{record-refused}
+use Rattle.demand.specs.Verdict.{Means, Bounded, KeepsUp, verdictOf}
+use Rattle.demand.specs.Split.{Splits, greatestSplit}
+use Rattle.demand.specs.Answer.{answerOf, splitOf}
+use Rattle.demand.specs.Tables.{Not, Gives, Kept}
+use Rattle.demand.specs.Refusals.{recordTable, Refuses}
+use Rattle.demand.proofs.SizeLaws.{costs-exact}
+use Rattle.demand.proofs.Judgement.{verdict-exact}
+use Rattle.demand.proofs.SplitLaws.{split-exact}
+use Rattle.demand.proofs.RefusalLaws.{answer-refused, split-refused as split-denied}
 use Rattle.task.specs.declared.Name.{Name}
 use Rattle.task.specs.declared.Task.{Task}
 use Rattle.task.specs.declared.Machine.{Machine}
+use Rattle.task.specs.Names.{Formed, formed, sameBytes, sameName}
 use Rattle.task.specs.Tasks.{coresMost, taskAt}
 use Rattle.task.specs.Refusals.{stateTable}
+use Rattle.task.proofs.NameLaws.{formed-exact, same-bytes-exact, same-name-exact}
 use Rattle.task.proofs.RefusalLaws.{state-kept}
 use Rattle.walks.specs.Lists.{Chain, sumBy}
 use Rattle.walks.specs.Order.{Precedes}
@@ -69,59 +97,63 @@ use Rattle.walks.specs.Edits.{edited}
 use Rattle.walks.specs.Kept.{Among, Behind}
 use Rattle.walks.specs.Halves.{Stand}
 use Rattle.plan.specs.declared.Plan.{Plan}
-use Rattle.plan.specs.declared.Reply.{Reply}
 use Rattle.plan.specs.Walk.{placeWay, taskWay, denserAt, packed, walked}
 use Rattle.plan.specs.Layout.{tasksOn}
 use Rattle.plan.specs.Plan.{planOf}
 use Rattle.plan.specs.Refusals.{planTable}
 use Rattle.plan.specs.Places.{Rearranged, ofTask, TaskPlaced}
-use Rattle.plan.proofs.Theorems.{plan-faultless, plan-comes, packing-order, packing-ranked as ranked, packing-one as only-order}
+use Rattle.plan.proofs.Theorems.{packing-order, packing-ranked as ranked, packing-one as only-order}
 use Rattle.plan.proofs.Theorems.{all-placed, budgets-add, windows-add, plan-counts}
 use Rattle.plan.proofs.RefusalLaws.{plan-refused as told-plan, plan-kept}
-use Rattle.sheet.specs.Sheet.{readOf}
-use Rattle.sheet.specs.Fitted.{Fitted, linesOf}
-use Rattle.sheet.proofs.ArrowLaws.{first-arrow}
-use Rattle.sheet.proofs.RuleLaws.{breaks-no-rule}
-use Rattle.listing.specs.Listing.{rowEntries, entries, listingOf}
-use Rattle.listing.specs.Placed.{placedEntry}
-use Rattle.listing.proofs.Theorems.{listing-placed, header-counts, listing-determines}
-use Rattle.edits.specs.Edits.{byName, TaskEdit, tasksHeld, editOf, SameAnswer, accepted, afresh, Afresh, Held, played}
+use Rattle.sheet.specs.Refusals.{readTable}
+use Rattle.listing.specs.Placed.{placedEntries}
+use Rattle.edits.specs.Edits.{byName, TaskEdit, tasksHeld, editOf, SameAnswer, accepted, Afresh, Held, played}
 use Rattle.edits.specs.Refusals.{editTable}
 use Rattle.edits.specs.Kept.{inOrder, Keeps, editedName, Ahead}
-use Rattle.edits.proofs.AnswerLaws.{plan-is, edit-planned}
+use Rattle.edits.proofs.AnswerLaws.{edit-planned}
 use Rattle.edits.proofs.Theorems.{edit-refused as gives-back, after-edits-afresh, same-stand}
 use Rattle.edits.proofs.HeldTheorems.{edit-relies, afresh-held, after-held, held-before, held-after}
 use Rattle.spardimple.specs.Bytes.{piecesOf, costsSpelt}
-use Rattle.spardimple.specs.Numbers.{replyOf, verdictNumber}
+use Rattle.spardimple.specs.Numbers.{verdictNumber}
 use Rattle.spardimple.specs.Refusals.{lentTable, sheetTable}
-use Rattle.spardimple.specs.Sheets.{refused, written, machineIn, costsIn, tasksIn, planIn, paperOf, refusal, toldPaper, listingNumber, listingLeft}
-use Rattle.spardimple.proofs.NumberLaws.{verdict-number-one}
-use Rattle.spardimple.proofs.PaperLaws.{listing-number-one, paper-seven, paper-read}
-use Rattle.spardimple.proofs.PaperLaws.{paper-comes, paper-alike, buffer-refused, buffer-written}
-use Rattle.spardimple.proofs.RefusalLaws.{verdict-refused as told-verdict, listing-refused as told-listing, listing-accepted, edit-refused-exactly, edit-accepted}
+use Rattle.spardimple.specs.Sheets.{machineIn, costsIn, tasksIn, placedIn, textOf, listingNumber, listingLeft}
+use Rattle.spardimple.proofs.NumberLaws.{one-number as one-number-each}
+use Rattle.spardimple.proofs.RefusalLaws.{verdict-refused as told-verdict, verdict-comes as some-verdict, edit-refused-exactly, edit-accepted}
+use Rattle.spardimple.proofs.RefusalLaws.{listing-refused as told-listing, listing-taken as taken-listing, listing-comes as some-listing}
+use Rattle.spardimple.proofs.RefusalLaws.{no-room as told-seven, buffer-kept, buffer-listed, sheet-sane as state-sane, sheet-walks as state-walks}
+use Rattle.spardimple.proofs.RefusalLaws.{told-apart as entries-apart}
 use Rattle.spardimple.proofs.JudgedLaws.{run-passes, run-overloaded, run-undecided, run-split, verdict-passes, verdict-overloaded, verdict-undecided}
 use Rattle.spardimple.proofs.HeldPlans.{walk-order as in-packing-order, cores-bounded, held-ones as ones-held, plan-made as made-held, edit-yields as yields-held}
 
 -- ---- demand 1: each input answered
 
-pub one-verdict : (rs cs rs′ cs′ : List ℕ) → verdictNumber rs cs ≡ verdictNumber rs′ cs′ → replyOf rs cs ≡ replyOf rs′ cs′
-one-verdict rs cs rs′ cs′ = verdict-number-one rs cs rs′ cs′
+pub one-number : (w k w′ k′ : ℕ) → k < 2 ^ 32 → k′ < 2 ^ 32 → 2 ^ 32 * w + k ≡ 2 ^ 32 * w′ + k′ → (w ≡ w′) × (k ≡ k′)
+one-number = one-number-each
 
-pub one-listing : (sheet sheet′ : List ℕ) (room room′ : ℕ) → listingNumber sheet room ≡ listingNumber sheet′ room′
-    → toldPaper (paperOf sheet) room ≡ toldPaper (paperOf sheet′) room′
-one-listing sheet sheet′ room room′ = listing-number-one sheet sheet′ room room′
+pub verdict-comes : (rs cs : List ℕ) → (n : ℕ) × (k : ℕ) × (k < 2 ^ 32) × ((verdictNumber rs cs ≡ 2 ^ 32 * 0 + 0)
+    ⊎ (verdictNumber rs cs ≡ 2 ^ 32 * 1 + k) ⊎ (verdictNumber rs cs ≡ 2 ^ 32 * 2 + 0) ⊎ (verdictNumber rs cs ≡ 2 ^ 32 * (100 + n) + k))
+verdict-comes = some-verdict
+
+pub listing-comes : (sheet : List ℕ) (room : ℕ) → (n : ℕ) × (k : ℕ) × (k < 2 ^ 32)
+    × ((listingNumber sheet room ≡ 2 ^ 32 * 0 + k) ⊎ (listingNumber sheet room ≡ 2 ^ 32 * (100 + n) + k))
+listing-comes = some-listing
 
 pub verdict-refused : (rs cs : List ℕ) (n k : ℕ) → k < 2 ^ 32 → (verdictNumber rs cs ≡ 2 ^ 32 * (100 + n) + k) ↔ Gives (lentTable rs cs) n k
 verdict-refused = told-verdict
 
-pub records-refused : (c : Costs) (n : ℕ) (ps : List Piece) (r k : ℕ) → (told (answerOf c n ps) ≡ refusal r k) ↔ Gives (recordTable c n ps) r k
-records-refused = record-refused
+pub records-refused : (c : Costs) (n : ℕ) (ps : List Piece) (r : Refusal) → (answerOf c n ps ≡ Refused r) ↔ Refuses (recordTable c n ps) r
+records-refused = answer-refused
+
+pub split-refused : (c : Costs) (n : ℕ) (ps : List Piece) (p : Piece) (g : ℕ) (r : Refusal)
+    → (splitOf c n ps p g ≡ Denied r) ↔ Refuses (recordTable c (n + 1) (take n ps ++ (p ∷ []))) r
+split-refused = split-denied
 
 pub listing-refused : (sheet : List ℕ) (room n k : ℕ) → k < 2 ^ 32 → (listingNumber sheet room ≡ 2 ^ 32 * (100 + n) + k) ↔ Gives (sheetTable sheet room) n k
 listing-refused = told-listing
 
-pub listing-taken : (sheet : List ℕ) (room : ℕ) → (toldPaper (paperOf sheet) room .which ≡ 0) ↔ Kept (sheetTable sheet room)
-listing-taken = listing-accepted
+pub listing-taken : (sheet : List ℕ) (room k : ℕ) → k < 2 ^ 32
+    → (listingNumber sheet room ≡ 2 ^ 32 * 0 + k) ↔ (Kept (sheetTable sheet room) × (length (textOf sheet) ≡ k))
+listing-taken = taken-listing
 
 pub plan-refused : (m : Machine) (c : Costs) (n : ℕ) (ts : List Task) (k d : ℕ)
     → ((planOf m c n ts .number ≡ suc k) × (planOf m c n ts .carries ≡ d)) ↔ Gives (planTable m c n ts) (suc k) d
@@ -136,16 +168,15 @@ edit-refused = edit-refused-exactly
 pub edit-taken : (e : TaskEdit) (s : Plan) → (editOf e s .number ≡ 0) ↔ Kept (editTable e s)
 edit-taken = edit-accepted
 
-pub no-room : (sheet : List ℕ) → readOf sheet .number ≡ 0 → (k : ℕ)
-    → (paperOf sheet ≡ refused 7 (suc k)) ↔ (walked (machineIn sheet) (costsIn sheet) (tasksIn sheet) ≡ stuck k 7)
-no-room sheet whole k = paper-seven sheet whole k
+pub no-room : (sheet : List ℕ) (room k : ℕ) → suc k < 2 ^ 32 → Kept (readTable sheet)
+    → (listingNumber sheet room ≡ 2 ^ 32 * 107 + suc k) ↔ (walked (machineIn sheet) (costsIn sheet) (tasksIn sheet) ≡ stuck k 7)
+no-room = told-seven
 
-pub refused-buffer : (sheet old : List ℕ) → (toldPaper (paperOf sheet) (length old) .which ≡ 0 → ⊥) → listingLeft sheet old ≡ old
-refused-buffer sheet old = buffer-refused sheet old
+pub refused-buffer : (sheet old : List ℕ) → Not (Kept (sheetTable sheet (length old))) → listingLeft sheet old ≡ old
+refused-buffer = buffer-kept
 
-pub written-buffer : (sheet old : List ℕ) → toldPaper (paperOf sheet) (length old) .which ≡ 0
-    → (text : List ℕ) × (paperOf sheet ≡ written text) × (listingLeft sheet old ≡ text ++ drop (length text) old)
-written-buffer sheet old = buffer-written sheet old
+pub written-buffer : (sheet old : List ℕ) → Kept (sheetTable sheet (length old)) → listingLeft sheet old ≡ textOf sheet ++ drop (length (textOf sheet)) old
+written-buffer = buffer-listed
 
 pub refused-state : (e : TaskEdit) (s : Plan) → (editOf e s .number ≡ 0 → ⊥) → editOf e s .plan ≡ s
 refused-state e s = gives-back e s
@@ -182,8 +213,24 @@ module _ (rs cs : List ℕ) where
 
 -- ---- demand 2: the plan
 
-pub fits-above : (sheet : List ℕ) → readOf sheet .number ≡ 0 → Each (Fitted (linesOf sheet)) (tasksIn sheet)
-fits-above sheet whole = first-arrow sheet whole
+-- the verdict on the pieces ps at the costs c, and the split of p beside them by the grain g, as the walk asks for them
+pub verdict-means : (c : Costs) (ps : List Piece) (v : Verdict) → (verdictOf c ps ≡ v) ↔ Means (stall c) (coreOf c ps) v
+verdict-means = verdict-exact
+
+pub split-means : (c : Costs) (g : ℕ) (ps : List Piece) (p : Piece) (s : Split) → (greatestSplit c g ps p ≡ s) ↔ Splits c g ps p s
+split-means = split-exact
+
+pub sheet-sane : (sheet : List ℕ) → Kept (readTable sheet)
+    → Kept (stateTable (machineIn sheet) (costsIn sheet) (length (tasksIn sheet)) (tasksIn sheet))
+sheet-sane = state-sane
+
+pub sheet-walks : (sheet : List ℕ) (room : ℕ) → Kept (sheetTable sheet room)
+    → (s : Stand) × (walked (machineIn sheet) (costsIn sheet) (tasksIn sheet) ≡ fine s (placedIn sheet))
+sheet-walks = state-walks
+
+pub told-apart : (sheet sheet′ : List ℕ) (room room′ : ℕ) → Kept (sheetTable sheet room) → Kept (sheetTable sheet′ room′) → textOf sheet ≡ textOf sheet′
+    → placedEntries (costsIn sheet) (tasksIn sheet) (placedIn sheet) ≡ placedEntries (costsIn sheet′) (tasksIn sheet′) (placedIn sheet′)
+told-apart = entries-apart
 
 pub packing : (ts : List Task) → Rearranged (length ts) (packed ts)
 packing = packing-order
@@ -231,67 +278,6 @@ held-promised s held =
 pub held-ones : (s : Plan) (held : Held s) (q : ℕ) → q < coresMost → tasksOn (s .layout) q ≡ length (onCore q (held .log))
 held-ones = ones-held
 
--- and what its listing shows of it, where it is the plan worked out afresh: a sheet's plan is, and every plan that an edit yields
-pub record Listed (s : Plan) : Type 0 where
-  pub stand : Stand
-  pub log : List (Placed ℕ)
-  pub walks : walked (s .machine) (s .costs) (tasksHeld s) ≡ fine stand log
-  pub lists : (q : ℕ) → q < coresMost → rowEntries s q ≡ map (placedEntry (s .costs) (tasksHeld s)) (onCore q log)
-  pub pieces-counted : s .layout .count ≡ length (entries s)
-  pub tasks-counted : s .tasks .count ≡ length (tasksHeld s)
-
-pub afresh-listed : (s : Plan) → Afresh s → Listed s
-unfolding Afresh
-afresh-listed s is =
-    let m = s .machine in
-    let c = s .costs in
-    let n = s .tasks .count in
-    let ts = s .tasks .list in
-    let comes = ap (λ (r : Reply). r .number) is in
-    let good = plan-faultless m c n ts comes in
-    let walk = plan-comes m c n ts good .0 comes in
-    let counts = header-counts m c n ts good (walk .0) (walk .1) (walk .2) in
-    let own : afresh s .plan ≡ s = ap (λ (r : Reply). r .plan) is in
-    record {
-      stand = walk .0;
-      log = walk .1;
-      walks = walk .2;
-      lists =
-          λ q low. ap (λ (u : Plan). rowEntries u q) (sym own) ∙ listing-placed m c n ts good (walk .0) (walk .1) (walk .2) q low;
-      pieces-counted = subst (λ (u : Plan). u .layout .count ≡ length (entries u)) own (counts .0);
-      tasks-counted = ap (λ (u : Plan). u .tasks .count) (sym own) ∙ counts .1;
-    }
-
-pub listing-promised : (sheet text : List ℕ) → paperOf sheet ≡ written text
-    → (text ≡ listingOf (planIn sheet)) × Afresh (planIn sheet)
-    × (planIn sheet .machine ≡ machineIn sheet) × (planIn sheet .costs ≡ costsIn sheet) × (tasksHeld (planIn sheet) ≡ tasksIn sheet)
-listing-promised sheet text is =
-    let read = paper-read sheet text is in
-    let m = machineIn sheet in
-    let c = costsIn sheet in
-    let n = readOf sheet .sheet .tasks .count in
-    let ts = readOf sheet .sheet .tasks .list in
-    let made = plan-is m c n ts (read .1) in
-    (read .2, made .held, made .machine-is, made .costs-is, made .tasks-are)
-
-pub listing-comes : (sheet : List ℕ) → readOf sheet .number ≡ 0 → (s : Stand) (l : List (Placed ℕ))
-    → walked (machineIn sheet) (costsIn sheet) (tasksIn sheet) ≡ fine s l → paperOf sheet ≡ written (listingOf (planIn sheet))
-listing-comes sheet whole s l so =
-    paper-comes sheet whole (plan-comes (machineIn sheet) (costsIn sheet) (readOf sheet .sheet .tasks .count)
-    (readOf sheet .sheet .tasks .list) (breaks-no-rule sheet whole) .1 (s, l, so))
-
-pub alike : (sheet sheet′ : List ℕ) → readOf sheet ≡ readOf sheet′ → paperOf sheet ≡ paperOf sheet′
-alike sheet sheet′ = paper-alike sheet sheet′
-
-pub told-apart : (sheet sheet′ text : List ℕ) → paperOf sheet ≡ written text → paperOf sheet′ ≡ written text → entries (planIn sheet) ≡ entries (planIn sheet′)
-told-apart sheet sheet′ text is is′ =
-    let one = paper-read sheet text is in
-    let other = paper-read sheet′ text is′ in
-    let s = readOf sheet .sheet in
-    let s′ = readOf sheet′ .sheet in
-    listing-determines (s .machine) (s .costs) (s .tasks .count) (s .tasks .list) (s′ .machine) (s′ .costs) (s′ .tasks .count)
-    (s′ .tasks .list) (one .1) (other .1) (sym (one .2) ∙ other .2)
-
 -- ---- demand 3: edits
 
 pub begun-held : (s : Plan) → planOf (s .machine) (s .costs) (s .tasks .count) (s .tasks .list) ≡ accepted s → Held s
@@ -331,3 +317,17 @@ module _ (e : TaskEdit) (s : Plan) (held : Held s) (taken : editOf e s .number �
       → t .core ≡ t′ .core → t .row ≡ t′ .row → (d : Name) → Among byName d (b ∷ r) → Keeps s (editOf e s .plan) d
   kept-after {p} {r} {p′} {r′} old new names t t′ l l′ walks walks′ core row =
       held-after s held e taken old new names (same-stand (s .machine) (s .costs) p p′ t t′ l l′ walks walks′ core row)
+
+-- ---- what the tests tell that definitions go by
+
+pub costs-sized : (c : Costs) → (sizedCosts c ≡ true) ↔ SizedCosts c
+costs-sized = costs-exact
+
+pub names-equal : (a b : Name) → (sameName a b ≡ true) ↔ (a ≡ b)
+names-equal = same-name-exact
+
+pub bytes-equal : (a b : List ℕ) → (sameBytes a b ≡ true) ↔ (a ≡ b)
+bytes-equal = same-bytes-exact
+
+pub name-formed : (n : Name) → (formed n ≡ true) ↔ Formed n
+name-formed = formed-exact

@@ -2,45 +2,54 @@
 -- Assumes nothing.
 --
 --   verdict-refused, verdict-judged        lent bytes
+--   verdict-comes                          and what can come of them at all
 --   listing-refused, listing-accepted      a sheet, and the buffer that it is to be listed in
+--   listing-taken, listing-comes           a listing by its length; and what can come at all
+--   buffer-kept, buffer-listed             what the buffer then holds
+--   no-room                                7 comes exactly where the walk sticks
+--   sheet-walks, sheet-sane                the walk over what a sheet says ends well, and it breaks no rule of a state
+--   told-apart                             sheets with one listing place the same names alike
 --   edit-refused-exactly, edit-accepted    an edit of any state
-use mathlib.Core.Path.{_≡_, refl, sym, ap, subst}
+use mathlib.Core.Path.{_≡_, refl, sym, ap, subst, _∙_}
 use mathlib.Core.Bool.{Bool, true, false, cond}
-use mathlib.Core.Logic.{inl, inr, _↔_}
-use mathlib.Core.List.{List, [], _∷_, _++_}
+use mathlib.Core.Logic.{_⊎_, inl, inr, _↔_}
+use mathlib.Core.List.{List, [], _∷_, _++_, append-assoc}
 use Prim.Native.Nat.{ℕ, suc, _+_, _*_, _%_, _^_, _<_}
 use native.Mathlib.Omega.{arith}
 use borrow.Author.Tests.{eqb-true, eqb-false}
 use lib.Dec.{leb, eqb}
-use lib.ListN.{length, take}
+use lib.ListN.{length, take, drop}
 use lib.Seq.{take-length}
 use Rattle.demand.specs.declared.Piece.{Piece}
 use Rattle.demand.specs.declared.Answer.{Answer}
-use Rattle.demand.specs.declared.Answer.the-variants.{Judged}
+use Rattle.demand.specs.declared.Answer.the-variants.{Judged, Refused}
+use Rattle.demand.specs.declared.Verdict.the-variants.{Passes, Overloaded, Undecided}
+use Rattle.demand.specs.declared.Refusal.the-variants.{TooMany, BadCosts, BadRecord}
 use Rattle.demand.specs.Verdict.{verdictOf}
 use Rattle.demand.specs.Answer.{Told, told, answerOf}
 use Rattle.demand.specs.Tables.{Rule, _if_carrying_, Not, Gives, Kept}
 use Rattle.demand.specs.Refusals.{recordTable}
 use Rattle.demand.proofs.RefusalLaws.{record-refused, record-judged}
-use Rattle.demand.proofs.TableLaws.{Comes, none, here, next, comes-kept, comes-gives, comes-before, comes-behind, breaks-kept, breaks-leb}
+use Rattle.demand.proofs.TableLaws.{Comes, none, here, next, comes-kept, comes-gives, comes-front, comes-before, comes-behind, breaks-kept, breaks-leb}
 use Rattle.plan.specs.declared.Plan.{Plan}
-use Rattle.plan.specs.declared.Reply.{Reply as PlanReply}
-use Rattle.plan.specs.Refusals.{walkTable}
-use Rattle.plan.proofs.RefusalLaws.{walk-comes}
+use Rattle.task.specs.Refusals.{stateTable}
+use Rattle.task.proofs.RefusalLaws.{state-kept}
+use Rattle.walks.specs.Way.{fine, stuck}
+use Rattle.walks.specs.Halves.{Stand}
 use Rattle.sheet.specs.Sheet.{readOf}
 use Rattle.sheet.specs.Refusals.{readTable}
-use Rattle.sheet.proofs.RuleLaws.{breaks-no-rule}
 use Rattle.sheet.proofs.RefusalLaws.{read-comes, read-kept}
-use Rattle.listing.specs.Listing.{listingOf}
+use Rattle.listing.specs.Placed.{placedEntries}
 use Rattle.edits.specs.Edits.{TaskEdit, editOf}
 use Rattle.edits.specs.Refusals.{editTable}
 use Rattle.edits.proofs.RefusalLaws.{edit-refused-exactly as refused-exactly, edit-accepted as accepted-exactly}
 use Rattle.spardimple.specs.Bytes.{piecesOf, costsSpelt}
 use Rattle.spardimple.specs.Numbers.{number, Reply, malformed, said, toldReply, replyOf, verdictNumber}
-use Rattle.spardimple.specs.Sheets.{planSheet, paperOf, machineIn, costsIn, tasksIn, planIn, refusal, toldPaper, listingNumber}
+use Rattle.spardimple.specs.Sheets.{written, paperOf, machineIn, costsIn, tasksIn, placedIn, textOf, refusal, toldPaper, listingNumber, listingLeft}
 use Rattle.spardimple.specs.Refusals.{lentTable, sheetTable}
 use Rattle.spardimple.proofs.NumberLaws.{told-one, reply-records, reply-costs, reply-formed, reply-carries}
-use Rattle.spardimple.proofs.PaperLaws.{paper-cases, paper-carries}
+use Rattle.spardimple.proofs.PaperLaws.{walkIn, walksIn, said-sane, paper-cases, told-cases, paper-carries}
+use Rattle.spardimple.proofs.PaperLaws.{paper-seven, text-one, buffer-refused, buffer-written}
 
 -- ---- what is told, by a table
 
@@ -80,6 +89,19 @@ number-refuses rules t small by n k fits = ((λ e. by n k .0 (told-one t (refusa
 
 -- ---- lent bytes
 
+-- what can be said of lent bytes at all
+reply-forms : (r : Reply) → toldReply r .carries < 2 ^ 32 → (n : ℕ) × (k : ℕ) × (k < 2 ^ 32)
+    × ((number (toldReply r) ≡ 2 ^ 32 * 0 + 0) ⊎ (number (toldReply r) ≡ 2 ^ 32 * 1 + k)
+    ⊎ (number (toldReply r) ≡ 2 ^ 32 * 2 + 0) ⊎ (number (toldReply r) ≡ 2 ^ 32 * (100 + n) + k))
+unfolding number
+reply-forms malformed fits = (8, 0, fits, inr (inr (inr refl)))
+reply-forms (said (Judged Passes)) fits = (0, 0, fits, inl refl)
+reply-forms (said (Judged (Overloaded t))) fits = (0, t, fits, inr (inl refl))
+reply-forms (said (Judged Undecided)) fits = (0, 0, fits, inr (inr (inl refl)))
+reply-forms (said (Refused TooMany)) fits = (6, 0, fits, inr (inr (inr refl)))
+reply-forms (said (Refused BadCosts)) fits = (2, 0, fits, inr (inr (inr refl)))
+reply-forms (said (Refused (BadRecord k))) fits = (3, k, fits, inr (inr (inr refl)))
+
 module _ (rs cs : List ℕ) where
   abbrev answered : Answer
   answered = answerOf (costsSpelt cs) (length (piecesOf rs)) (piecesOf rs)
@@ -95,10 +117,10 @@ module _ (rs cs : List ℕ) where
   -- a claim on every reply to lent bytes
   lent-cases : (P : Reply → Type 0) → (Comes (lentTable rs cs) 8 0 → P malformed)
       → (length rs % 28 ≡ 0 → length cs ≡ 36 → P (said answered)) → P (replyOf rs cs)
-  lent-cases P bad fine = by (eqb (length rs % 28) 0) refl
+  lent-cases P bad formed = by (eqb (length rs % 28) 0) refl
     where
       nine : length rs % 28 ≡ 0 → (b : Bool) → eqb (length cs) 36 ≡ b → P (replyOf rs cs)
-      nine whole true e = let so = eqb-true (length cs) 36 e in subst P (sym (reply-formed rs cs whole so)) (fine whole so)
+      nine whole true e = let so = eqb-true (length cs) 36 e in subst P (sym (reply-formed rs cs whole so)) (formed whole so)
       nine whole false e = let odd = eqb-false (length cs) 36 e in subst P (sym (reply-costs rs cs whole odd)) (bad (odd-costs whole odd))
 
       by : (b : Bool) → eqb (length rs % 28) 0 ≡ b → P (replyOf rs cs)
@@ -117,7 +139,7 @@ module _ (rs cs : List ℕ) where
         back : Gives (lentTable rs cs) n k → Gives spelt n k
         back (inl bad) = absurd (bad .0 records)
         back (inr (good, inl bad)) = absurd (bad .0 costs)
-        back (inr (good, inr (fine, more))) = more
+        back (inr (good, inr (whole, more))) = more
 
     lent-kept : Kept spelt ↔ Kept (lentTable rs cs)
     unfolding lentTable
@@ -134,6 +156,11 @@ module _ (rs cs : List ℕ) where
   pub verdict-refused : (n k : ℕ) → k < 2 ^ 32 → (verdictNumber rs cs ≡ 2 ^ 32 * (100 + n) + k) ↔ Gives (lentTable rs cs) n k
   unfolding verdictNumber
   verdict-refused = number-refuses (lentTable rs cs) (toldReply (replyOf rs cs)) (reply-carries rs cs) reply-refuses
+
+  pub verdict-comes : (n : ℕ) × (k : ℕ) × (k < 2 ^ 32) × ((verdictNumber rs cs ≡ 2 ^ 32 * 0 + 0) ⊎ (verdictNumber rs cs ≡ 2 ^ 32 * 1 + k)
+      ⊎ (verdictNumber rs cs ≡ 2 ^ 32 * 2 + 0) ⊎ (verdictNumber rs cs ≡ 2 ^ 32 * (100 + n) + k))
+  unfolding verdictNumber
+  verdict-comes = reply-forms (replyOf rs cs) (reply-carries rs cs)
 
   abbrev judged : Reply
   judged = said (Judged (verdictOf (costsSpelt cs) (piecesOf rs)))
@@ -161,62 +188,48 @@ module _ (rs cs : List ℕ) where
 
 module _ (sheet : List ℕ) (room : ℕ) where
   abbrev text : List ℕ
-  text = listingOf (planIn sheet)
-
-  abbrev plans : PlanReply
-  plans = planSheet (readOf sheet .sheet)
+  text = textOf sheet
 
   abbrev tenTable : List Rule
   tenTable = 10 if (room < length text) carrying length text ∷ []
 
-  abbrev walks : List Rule
-  walks = walkTable (machineIn sheet) (costsIn sheet) (tasksIn sheet)
-
   -- the three tables behind one another
-  whole-table : readTable sheet ++ walks ++ tenTable ≡ sheetTable sheet room
+  whole-table : readTable sheet ++ walksIn sheet ++ tenTable ≡ sheetTable sheet room
   unfolding sheetTable readTable
   whole-table = refl
 
-  as-whole : {n k : ℕ} → Comes (readTable sheet ++ walks ++ tenTable) n k → Comes (sheetTable sheet room) n k
+  as-whole : {n k : ℕ} → Comes (readTable sheet ++ walksIn sheet ++ tenTable) n k → Comes (sheetTable sheet room) n k
   as-whole {n} {k} = subst (λ (rules : List Rule). Comes rules n k) whole-table
 
   -- a sheet that is refused by itself
   unread-comes : (readOf sheet .number ≡ 0 → ⊥) → Comes (sheetTable sheet room) (readOf sheet .number) (readOf sheet .carries)
-  unread-comes some = as-whole (comes-before some (comes-before some (read-comes sheet) walks) tenTable)
+  unread-comes some = as-whole (comes-before some (comes-before some (read-comes sheet) (walksIn sheet)) tenTable)
 
   -- and one that is read: the walk over what it says
   module _ (whole : readOf sheet .number ≡ 0) where
-    walked-comes : Comes (readTable sheet ++ walks) (plans .number) (plans .carries)
-    walked-comes =
-        let s = readOf sheet .sheet in
-        comes-behind (readTable sheet) (read-kept sheet .0 whole)
-        (walk-comes (s .machine) (s .costs) (s .tasks .count) (s .tasks .list) (breaks-no-rule sheet whole))
+    stuck-comes : (k : ℕ) → Comes (walksIn sheet) 7 (suc k) → Comes (sheetTable sheet room) 7 (suc k)
+    stuck-comes k comes = as-whole (comes-front (comes-behind (readTable sheet) (read-kept sheet .0 whole) comes) tenTable)
 
-    barred-comes : (plans .number ≡ 0 → ⊥) → Comes (sheetTable sheet room) (plans .number) (plans .carries)
-    barred-comes some = as-whole (comes-before some walked-comes tenTable)
+    module _ (kept : Kept (walksIn sheet)) where
+      fine-comes : {n k : ℕ} → Comes tenTable n k → Comes (sheetTable sheet room) n k
+      fine-comes {n} {k} comes =
+          as-whole (subst (λ (rules : List Rule). Comes rules n k) (sym (append-assoc (readTable sheet) (walksIn sheet) tenTable))
+          (comes-behind (readTable sheet) (read-kept sheet .0 whole) (comes-behind (walksIn sheet) kept comes)))
 
-    module _ (fine : plans .number ≡ 0) where
-      long-comes : leb (length text) room ≡ true → Comes (sheetTable sheet room) 0 0
-      long-comes fits =
-          as-whole (comes-behind (readTable sheet ++ walks) (comes-kept walked-comes .0 fine)
-          (next (breaks-kept (breaks-leb (length text) room) fits) none))
-
-      short-comes : leb (length text) room ≡ false → Comes (sheetTable sheet room) 10 (length text)
-      short-comes short =
-          as-whole (comes-behind (readTable sheet ++ walks) (comes-kept walked-comes .0 fine)
-          (here (breaks-leb (length text) room .breaks short) refl refl))
+      listed-answers : Answers (sheetTable sheet room) (toldPaper (written text) room)
+      listed-answers = by (leb (length text) room) refl
+        where
+          by : (b : Bool) → leb (length text) room ≡ b
+              → Answers (sheetTable sheet room) (cond b (record { which = 0; carries = length text }) (refusal 10 (length text)))
+          by true fits = accepted-answers {k = 0} (fine-comes (next (breaks-kept (breaks-leb (length text) room) fits) none)) (length text)
+          by false short = refusal-answers (fine-comes (here (breaks-leb (length text) room .breaks short) refl refl)) (λ e. omega arith)
 
   paper-answers : Answers (sheetTable sheet room) (toldPaper (paperOf sheet) room)
   paper-answers =
       paper-cases sheet (λ p. Answers (sheetTable sheet room) (toldPaper p room))
       (λ some. refusal-answers (unread-comes some) some)
-      (λ whole some. refusal-answers (barred-comes whole some) some)
-      (λ whole fine. by whole fine (leb (length text) room) refl)
-    where
-      by : readOf sheet .number ≡ 0 → plans .number ≡ 0 → (b : Bool) → leb (length text) room ≡ b
-          → Answers (sheetTable sheet room) (cond b (record { which = 0; carries = length text }) (refusal 10 (length text)))
-      by whole fine true fits = accepted-answers (long-comes whole fine fits) (length text)
-      by whole fine false short = refusal-answers (short-comes whole fine short) (λ e. omega arith)
+      (λ whole k small so comes. refusal-answers (stuck-comes whole k comes) (λ e. omega arith))
+      (λ whole s so kept. listed-answers whole kept)
 
   pub listing-refused : (n k : ℕ) → k < 2 ^ 32 → (listingNumber sheet room ≡ 2 ^ 32 * (100 + n) + k) ↔ Gives (sheetTable sheet room) n k
   unfolding listingNumber
@@ -224,6 +237,77 @@ module _ (sheet : List ℕ) (room : ℕ) where
 
   pub listing-accepted : (toldPaper (paperOf sheet) room .which ≡ 0) ↔ Kept (sheetTable sheet room)
   listing-accepted = paper-answers .1
+
+  -- what is accepted is the listing's length
+  told-length : toldPaper (paperOf sheet) room .which ≡ 0 → toldPaper (paperOf sheet) room ≡ record { which = 0; carries = length text }
+  told-length =
+      paper-cases sheet (λ p. toldPaper p room .which ≡ 0 → toldPaper p room ≡ record { which = 0; carries = length text })
+      (λ bad so. absurd (omega arith))
+      (λ whole k small at comes so. absurd (omega arith))
+      (λ whole s at kept. told-cases text room (λ t. t .which ≡ 0 → t ≡ record { which = 0; carries = length text }) (λ so. refl) (λ so. absurd (omega arith)))
+
+  pub listing-taken : (k : ℕ) → k < 2 ^ 32 → (listingNumber sheet room ≡ 2 ^ 32 * 0 + k) ↔ (Kept (sheetTable sheet room) × (length text ≡ k))
+  unfolding listingNumber number
+  listing-taken k fits = (
+    (λ is. (let so = told-one (toldPaper (paperOf sheet) room) (record { which = 0; carries = k }) (paper-carries sheet room) fits is in
+        let none : toldPaper (paperOf sheet) room .which ≡ 0 = ap (λ (t : Told). t .which) so in
+        (listing-accepted .0 none, ap (λ (t : Told). t .carries) (sym (told-length none) ∙ so)))),
+    (λ h. ap number (told-length (listing-accepted .1 (h .0))) ∙ ap (λ (n : ℕ). 2 ^ 32 * 0 + n) (h .1)),
+  )
+
+  -- a listing's length, or a refusal
+  abbrev Forms : Told → Type 0
+  Forms t = (n : ℕ) × (k : ℕ) × (k < 2 ^ 32) × ((number t ≡ 2 ^ 32 * 0 + k) ⊎ (number t ≡ 2 ^ 32 * (100 + n) + k))
+
+  forms : Forms (toldPaper (paperOf sheet) room)
+  unfolding number
+  forms =
+      paper-cases sheet (λ p. toldPaper p room .carries < 2 ^ 32 → Forms (toldPaper p room))
+      (λ bad fits. (readOf sheet .number, readOf sheet .carries, fits, inr refl))
+      (λ whole k small at comes fits. (7, suc k, fits, inr refl))
+      (λ whole s at kept. told-cases text room (λ t. t .carries < 2 ^ 32 → Forms t) (λ fits. (0, length text, fits, inl refl))
+      (λ fits. (10, length text, fits, inr refl)))
+      (paper-carries sheet room)
+
+  pub listing-comes : (n : ℕ) × (k : ℕ) × (k < 2 ^ 32) × ((listingNumber sheet room ≡ 2 ^ 32 * 0 + k) ⊎ (listingNumber sheet room ≡ 2 ^ 32 * (100 + n) + k))
+  unfolding listingNumber
+  listing-comes = forms
+
+  pub no-room : (k : ℕ) → suc k < 2 ^ 32 → Kept (readTable sheet) → (listingNumber sheet room ≡ 2 ^ 32 * 107 + suc k) ↔ (walkIn sheet ≡ stuck k 7)
+  unfolding listingNumber number
+  no-room k fits read =
+      let seven = paper-seven sheet room k (read-kept sheet .1 read) in
+      ((λ is. seven .0 (told-one (toldPaper (paperOf sheet) room) (refusal 7 (suc k)) (paper-carries sheet room) fits is)), (λ so. ap number (seven .1 so)))
+
+  -- a sheet that keeps the table is read, and the walk over its tasks ends well
+  sheet-ends : Kept (sheetTable sheet room) → (readOf sheet .number ≡ 0) × (s : Stand) × (walkIn sheet ≡ fine s (placedIn sheet))
+  sheet-ends kept =
+      paper-cases sheet (λ p. toldPaper p room .which ≡ 0 → (readOf sheet .number ≡ 0) × (s : Stand) × (walkIn sheet ≡ fine s (placedIn sheet)))
+      (λ bad so. absurd (omega arith))
+      (λ whole k small at comes so. absurd (omega arith))
+      (λ whole s at walks so. (whole, s, at))
+      (listing-accepted .1 kept)
+
+  pub sheet-walks : Kept (sheetTable sheet room) → (s : Stand) × (walkIn sheet ≡ fine s (placedIn sheet))
+  sheet-walks kept = let ends = sheet-ends kept in (ends .1, ends .2)
+
+-- what the buffer then holds
+pub buffer-kept : (sheet old : List ℕ) → Not (Kept (sheetTable sheet (length old))) → listingLeft sheet old ≡ old
+buffer-kept sheet old broken = buffer-refused sheet old (λ none. broken (listing-accepted sheet (length old) .0 none))
+
+pub buffer-listed : (sheet old : List ℕ) → Kept (sheetTable sheet (length old)) → listingLeft sheet old ≡ textOf sheet ++ drop (length (textOf sheet)) old
+buffer-listed sheet old kept = buffer-written sheet old (listing-accepted sheet (length old) .1 kept)
+
+pub sheet-sane : (sheet : List ℕ) → Kept (readTable sheet) → Kept (stateTable (machineIn sheet) (costsIn sheet) (length (tasksIn sheet)) (tasksIn sheet))
+sheet-sane sheet kept =
+    state-kept (machineIn sheet) (costsIn sheet) (length (tasksIn sheet)) (tasksIn sheet) .0 (said-sane sheet (read-kept sheet .1 kept))
+
+pub told-apart : (sheet sheet′ : List ℕ) (room room′ : ℕ) → Kept (sheetTable sheet room) → Kept (sheetTable sheet′ room′) → textOf sheet ≡ textOf sheet′
+    → placedEntries (costsIn sheet) (tasksIn sheet) (placedIn sheet) ≡ placedEntries (costsIn sheet′) (tasksIn sheet′) (placedIn sheet′)
+told-apart sheet sheet′ room room′ kept kept′ same =
+    let one = sheet-ends sheet room kept in
+    let other = sheet-ends sheet′ room′ kept′ in
+    text-one sheet sheet′ (one .0) (other .0) (one .1) (other .1) (one .2) (other .2) same
 
 -- ---- an edit
 

@@ -4,7 +4,7 @@
 --   numberAt s k         the number at place k of s, whose four bytes start at 4 · k
 --   numbersSpelt s       the numbers that s spells
 --   piecesOf s           the records that these numbers spell
---   costsSpelt s         the costs that s spells, in the sheet's order
+--   costsSpelt s         the costs that its first nine numbers are, in the sheet's order
 use mathlib.Core.List.{List}
 use Prim.Native.Nat.{ℕ, _+_, _*_, _/_}
 use lib.ListN.{length, getD}
@@ -12,6 +12,7 @@ use Rattle.demand.specs.declared.Piece.{Piece}
 use Rattle.demand.specs.declared.Costs.{Costs}
 use Rattle.demand.specs.Lists.{firsts}
 use Rattle.demand.specs.Records.{recordAt}
+use Rattle.lines.specs.Forms.{costsOf}
 
 abbrev pub numberAt : List ℕ → ℕ → ℕ
 numberAt s k = getD s (4 * k) 0 + 256 * getD s (4 * k + 1) 0 + 65536 * getD s (4 * k + 2) 0 + 16777216 * getD s (4 * k + 3) 0
@@ -23,14 +24,4 @@ unfoldable pub piecesOf : List ℕ → List Piece
 piecesOf s = firsts (recordAt (numbersSpelt s)) (length s / 28)
 
 unfoldable pub costsSpelt : List ℕ → Costs
-costsSpelt s = record {
-  relo = numberAt s 0;
-  schedo = numberAt s 1;
-  tseto = numberAt s 2;
-  ipb = numberAt s 3;
-  beto = numberAt s 4;
-  migro = numberAt s 5;
-  ipio = numberAt s 6;
-  ipij = numberAt s 7;
-  precision = numberAt s 8;
-}
+costsSpelt s = costsOf (firsts (numberAt s) 9)

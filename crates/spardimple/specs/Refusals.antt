@@ -12,9 +12,8 @@ use Rattle.demand.specs.Refusals.{recordTable}
 use Rattle.plan.specs.Refusals.{walkTable}
 use Rattle.sheet.specs.Sheet.{sheetMost}
 use Rattle.sheet.specs.Refusals.{linesTable}
-use Rattle.listing.specs.Listing.{listingOf}
 use Rattle.spardimple.specs.Bytes.{piecesOf, costsSpelt}
-use Rattle.spardimple.specs.Sheets.{machineIn, costsIn, tasksIn, planIn}
+use Rattle.spardimple.specs.Sheets.{machineIn, costsIn, tasksIn, textOf}
 
 unfoldable pub lentTable : (rs cs : List ℕ) → List Rule
 lentTable rs cs =
@@ -22,11 +21,11 @@ lentTable rs cs =
     ∷ 8 if Not (length cs ≡ 36) carrying 0
     ∷ recordTable (costsSpelt cs) (length (piecesOf rs)) (piecesOf rs)
 
--- what a sheet says, and its plan, are looked at only where no rule before is broken
+-- what a sheet says, and what is listed of it, are looked at only where no rule before is broken
 unfoldable pub sheetTable : (sheet : List ℕ) → (room : ℕ) → List Rule
 sheetTable sheet room =
     9 if (sheetMost < length sheet) carrying 0
     ∷ linesTable sheet
     ++ walkTable (machineIn sheet) (costsIn sheet) (tasksIn sheet)
-    ++ (10 if (room < length (listingOf (planIn sheet))) carrying length (listingOf (planIn sheet))
+    ++ (10 if (room < length (textOf sheet)) carrying length (textOf sheet)
     ∷ [])

@@ -1,15 +1,18 @@
 -- From a sheet's bytes to its listing's bytes: document 01, "Sheet" and "Refusal numbers".
 --
---   Paper                 what a sheet comes to: a refusal's number with what it carries, or a listing
+-- What it means, by what the sheet's lines say and what the walk placed:
 --   machineIn, costsIn, tasksIn    what a sheet says: the machine, the costs, the task list
---   planIn sheet          its plan, where that comes
+--   placedIn sheet        what the walk over its tasks places, where it ends well
+--   textOf sheet          the listing of that
+-- And as it is worked out, which `proofs/PaperLaws.antt` ties to it:
+--   Paper                 what a sheet comes to: a refusal's number with what it carries, or a listing
 --   planned r             the paper of what was read: the sheet's own refusal; else 7 with the task; else the plan's listing
 --   paperOf sheet         the paper of a sheet's bytes
 --   toldPaper p n         document 01's number for it, where the lent buffer has n bytes: 10 with the length needed, where it is shorter
 --   listingNumber sheet n the one number that is given back
 --   listingLeft sheet old what the buffer then holds: all of the listing and the bytes beyond it, or what it held
 use mathlib.Core.Bool.{cond}
-use mathlib.Core.List.{List}
+use mathlib.Core.List.{List, []}
 use Prim.Native.Nat.{ℕ, zero, suc, _+_}
 use lib.Dec.{leb}
 use lib.ListN.{length}
@@ -17,22 +20,46 @@ use Rattle.demand.specs.declared.Costs.{Costs}
 use Rattle.demand.specs.Answer.{Told}
 use Rattle.task.specs.declared.Task.{Task}
 use Rattle.task.specs.declared.Machine.{Machine}
-use Rattle.task.specs.Tasks.{listOf}
-use Rattle.plan.specs.declared.Plan.{Plan}
+use Rattle.walks.specs.Way.{Placed, Ending, fine, stuck}
+use Rattle.walks.specs.Halves.{Stand}
 use Rattle.plan.specs.declared.Reply.{Reply}
+use Rattle.plan.specs.Walk.{walked}
 use Rattle.plan.specs.Plan.{planOf}
 use Rattle.sheet.specs.declared.Sheet.{Sheet}
 use Rattle.sheet.specs.declared.Read.{Read}
 use Rattle.sheet.specs.Sheet.{readOf}
+use Rattle.sheet.specs.Refusals.{saidBy}
 use Rattle.listing.specs.Text.{over}
 use Rattle.listing.specs.Listing.{listingOf}
+use Rattle.listing.specs.Placed.{placedListing}
 use Rattle.spardimple.specs.Numbers.{number}
+
+-- ---- what a sheet says, and what is listed of it
+
+abbrev pub machineIn : List ℕ → Machine
+machineIn sheet = saidBy sheet .machine
+
+abbrev pub costsIn : List ℕ → Costs
+costsIn sheet = saidBy sheet .costs
+
+abbrev pub tasksIn : List ℕ → List Task
+tasksIn sheet = saidBy sheet .tasks
+
+abbrev pub placedBy : Ending Stand ℕ → List (Placed ℕ)
+placedBy (fine s log) = log
+placedBy (stuck k n) = []
+
+abbrev pub placedIn : List ℕ → List (Placed ℕ)
+placedIn sheet = placedBy (walked (machineIn sheet) (costsIn sheet) (tasksIn sheet))
+
+unfoldable pub textOf : List ℕ → List ℕ
+textOf sheet = placedListing (costsIn sheet) (tasksIn sheet) (placedIn sheet)
+
+-- ---- reading, then the walk, then the listing
 
 pub data Paper : Type 0 where
   refused : (number carries : ℕ) → Paper
   written : List ℕ → Paper
-
--- ---- reading, then the walk, then the listing
 
 abbrev pub unless : (number carries : ℕ) → Paper → Paper
 unless zero k rest = rest
@@ -49,18 +76,6 @@ planned r = unless (r .number) (r .carries) (listed (planSheet (r .sheet)))
 
 unfoldable pub paperOf : List ℕ → Paper
 paperOf sheet = planned (readOf sheet)
-
-abbrev pub machineIn : List ℕ → Machine
-machineIn sheet = readOf sheet .sheet .machine
-
-abbrev pub costsIn : List ℕ → Costs
-costsIn sheet = readOf sheet .sheet .costs
-
-abbrev pub tasksIn : List ℕ → List Task
-tasksIn sheet = listOf (readOf sheet .sheet .tasks)
-
-abbrev pub planIn : List ℕ → Plan
-planIn sheet = planSheet (readOf sheet .sheet) .plan
 
 -- ---- what is given back, and what the buffer holds
 
