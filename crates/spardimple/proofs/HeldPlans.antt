@@ -5,7 +5,7 @@
 --   cores-bounded     every core has a busy length within the limit, or no piece, and keeps up at every length at which a job is due
 --   ones-are          the number of tasks on a core of a plan is the number of ones of its word
 --   held-ones         of a held plan it is the number of pieces that the walk placed there
---   Holds m c ts s    s is a held plan of the machine m, the costs c and the tasks ts
+--   HeldOf m c ts s   s is a held plan of the machine m, the costs c and the tasks ts
 --   plan-made         so is a plan that comes, of what it was asked for
 --   edit-yields       and what an accepted edit yields, of the state's own machine and costs and the tasks after it
 use mathlib.Core.Path.{_≡_, refl, ap, _∙_}
@@ -71,14 +71,14 @@ held-ones s held q low =
 
 -- ---- plans that come, and accepted edits
 
-abbrev pub Holds : Machine → Costs → List Task → Plan → Type 0
-Holds m c ts s = Held s × (s .machine ≡ m) × (s .costs ≡ c) × (tasksHeld s ≡ ts)
+abbrev pub HeldOf : Machine → Costs → List Task → Plan → Type 0
+HeldOf m c ts s = Held s × (s .machine ≡ m) × (s .costs ≡ c) × (tasksHeld s ≡ ts)
 
-made-holds : (m : Machine) (c : Costs) (ts : List Task) (s : Plan) → Made m c ts s → Holds m c ts s
+made-holds : (m : Machine) (c : Costs) (ts : List Task) (s : Plan) → Made m c ts s → HeldOf m c ts s
 made-holds m c ts s made = (afresh-held s (made .held), made .machine-is, made .costs-is, made .tasks-are)
 
-pub plan-made : (m : Machine) (c : Costs) (n : ℕ) (ts : List Task) → planOf m c n ts .number ≡ 0 → Holds m c (take n ts) (planOf m c n ts .plan)
+pub plan-made : (m : Machine) (c : Costs) (n : ℕ) (ts : List Task) → planOf m c n ts .number ≡ 0 → HeldOf m c (take n ts) (planOf m c n ts .plan)
 plan-made m c n ts number = made-holds m c (take n ts) (planOf m c n ts .plan) (plan-is m c n ts number)
 
-pub edit-yields : (e : TaskEdit) (s : Plan) → editOf e s .number ≡ 0 → Holds (s .machine) (s .costs) (edited byName e (tasksHeld s)) (editOf e s .plan)
+pub edit-yields : (e : TaskEdit) (s : Plan) → editOf e s .number ≡ 0 → HeldOf (s .machine) (s .costs) (edited byName e (tasksHeld s)) (editOf e s .plan)
 edit-yields e s taken = made-holds (s .machine) (s .costs) (edited byName e (tasksHeld s)) (editOf e s .plan) (edit-made e s taken)
