@@ -18,8 +18,8 @@ use native.Mathlib.Decide.{decLt}
 use native.Mathlib.Omega.{arith}
 use borrow.Author.Tests.{lt-ltb, le-ltb}
 use Rattle.demand.specs.declared.Charged.{Charged}
-use Rattle.demand.specs.Sizes.{Each}
-use Rattle.demand.specs.Demand.{ceil, total, jobsDue, interrupts, largestWindow, blocking, load, demand, Some, Live, earliest, leastLive}
+use Rattle.demand.specs.Sizes.{Each, Some}
+use Rattle.demand.specs.Demand.{ceil, total, jobsDue, interrupts, largestWindow, blocking, load, demand, Live, earliest, leastLive}
 use Rattle.demand.specs.Busy.{Least, busyLoad, busySum}
 use Rattle.demand.proofs.Division.{div-mono, div-add-ceil, ceil-mono, ceil-add, ceil-one-more}
 use Rattle.demand.proofs.Sums.{total-mono, total-add}

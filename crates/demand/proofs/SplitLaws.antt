@@ -1,6 +1,7 @@
 -- Laws of the split: document 01, "The C=D walk". What another crate cites of it is here.
 -- Assumes nothing.
 --
+--   passes-exact          the test of a verdict holds exactly where it is "passes"
 --   split-exact           the executable definition gives exactly the split that is meant, whatever the pieces are
 --   split-none            a grain of 0 has no multiples that count
 --   split-unique          two splits that satisfy the meaning coincide
@@ -34,7 +35,7 @@ use Rattle.demand.specs.Split.{pieceOf, firstPiece, lastPiece, tightOn, 
 use Rattle.demand.specs.ways.ChargedSplit.{lastAlone, Tight, Fits, NoneAbove, Chosen, TightIn}
 use Rattle.demand.proofs.DemandLaws.{Recurs, jobs-due-some, demand-above}
 use Rattle.demand.proofs.ChargeLaws.{when-le, late-jitter-le}
-use Rattle.demand.proofs.SizeLaws.{tells-both}
+use Rattle.demand.proofs.SizeLaws.{tells-exact, tells-both}
 use Rattle.demand.proofs.BusyLaws.{least-unique}
 use Rattle.demand.proofs.VerdictLaws.{verdict-means, passes-forever}
 use Rattle.demand.proofs.ChargedSplitLaws.{window-in, untight, none-one, none-first, none-next, next-less, first-below}
@@ -47,6 +48,9 @@ passes-tells : (v : Verdict) → Tells (v ≡ Passes) (passes v)
 passes-tells Passes = refl
 passes-tells (Overloaded t) = λ e. let z : _≡_ {A = ℕ} 0 1 = cc in omega arith
 passes-tells Undecided = λ e. let z : _≡_ {A = ℕ} 0 1 = cc in omega arith
+
+pub passes-exact : (v : Verdict) → (passes v ≡ true) ↔ (v ≡ Passes)
+passes-exact v = tells-exact (v ≡ Passes) (passes v) (passes-tells v)
 
 module _ (c : Costs) (ps : List Piece) (p : Piece) where
   both-tells : (x w : ℕ)

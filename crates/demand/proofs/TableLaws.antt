@@ -162,9 +162,6 @@ pub record Breaks (P : Type 0) (test : Bool) : Type 0 where
 pub breaks-kept : {P : Type 0} {test : Bool} → Breaks P test → test ≡ true → Not P
 breaks-kept b good bad = true≢false (sym good ∙ b .fails bad)
 
-pub breaks-test : (t : Bool) → Breaks (t ≡ false) t
-breaks-test t = record { breaks = λ e. e; fails = λ e. e }
-
 -- a test that holds exactly where P does
 pub breaks-exact : {P : Type 0} (t : Bool) → (t ≡ true) ↔ P → Breaks (Not P) t
 breaks-exact true exact = record { breaks = λ e. absurd (true≢false e); fails = λ never. absurd (never (exact .0 refl)) }

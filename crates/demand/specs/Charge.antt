@@ -24,15 +24,8 @@ unfoldable pub ipiCost : Costs → Piece → ℕ
 ipiCost c p = cond (arrives (p .kind)) (c .ipio) 0
 
 unfoldable pub charged : Costs → Piece → Charged
-charged c p = record {
-  charge = charge c p;
-  window = p .window;
-  period = p .period;
-  jitter = p .jitter;
-  release = c .relo + c .tseto;
-  ipi = ipiCost c p;
-  ipij = c .ipij;
-}
+charged c p =
+    record { charge = charge c p; window = p .window; period = p .period; jitter = p .jitter; release = c .relo + c .tseto; ipi = ipiCost c p; ipij = c .ipij }
 
 unfoldable pub coreOf : Costs → List Piece → List Charged
 coreOf c ps = map (charged c) ps

@@ -13,10 +13,10 @@
 --   leastLive qs         t0, where there is a piece
 use mathlib.Core.Bool.{cond}
 use mathlib.Core.List.{List, [], _∷_}
-use mathlib.Core.Logic.{_⊎_}
 use Prim.Native.Nat.{ℕ, _+_, _*_, _-_, _/_, _≤_, min, max}
 use lib.Dec.{ltb}
 use Rattle.demand.specs.declared.Charged.{Charged}
+use Rattle.demand.specs.Sizes.{Some}
 
 unfoldable pub ceil : ℕ → ℕ → ℕ
 ceil a b = (a + (b - 1)) / b
@@ -46,10 +46,6 @@ load t q = jobsDue q t * q .charge + interrupts q t
 
 unfoldable pub demand : ℕ → List Charged → ℕ → ℕ
 demand b qs t = blocking b qs t + total (load t) qs
-
-abbrev pub Some : (Charged → Type 0) → List Charged → Type 0
-Some P [] = ⊥
-Some P (q ∷ qs) = P q ⊎ Some P qs
 
 unfoldable pub Live : List Charged → ℕ → Type 0
 Live qs t = Some (λ q. 1 ≤ jobsDue q t) qs

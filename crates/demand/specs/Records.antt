@@ -2,6 +2,7 @@
 -- as bytes that spell such numbers.
 --
 --   outside              a piece that is outside the sizes
+--   given a i k          the k-th number behind the kind of the record at place i
 --   recordAt a i         the record that the seven numbers at place i spell
 --   recordWithin a i     the same, and nothing but zeros past the last place
 --   recordsOf a          the records at all 79 places
@@ -24,19 +25,15 @@ use Rattle.demand.specs.Sizes.{runMost}
 abbrev pub outside : Piece
 outside = record { kind = Whole; budget = 0; window = 0; period = 0; jitter = 0; preempt = 0; migrate = 0 }
 
+-- the k-th number behind the kind of the record at place i
+abbrev pub given : List ℕ → ℕ → ℕ → ℕ
+given a i k = getD a (7 * i + k) 0
+
 -- Another kind is outside the sizes, whatever the other six numbers are.
 unfoldable pub recordAt : List ℕ → ℕ → Piece
 recordAt a i =
     cond (leb (getD a (7 * i) 0) kindMost)
-    (record {
-      kind = kindOf (getD a (7 * i) 0);
-      budget = getD a (7 * i + 1) 0;
-      window = getD a (7 * i + 2) 0;
-      period = getD a (7 * i + 3) 0;
-      jitter = getD a (7 * i + 4) 0;
-      preempt = getD a (7 * i + 5) 0;
-      migrate = getD a (7 * i + 6) 0;
-    })
+    (record { kind = kindOf (getD a (7 * i) 0); budget = given a i 1; window = given a i 2; period = given a i 3; jitter = given a i 4; preempt = given a i 5; migrate = given a i 6 })
     outside
 
 unfoldable pub recordWithin : List ℕ → ℕ → Piece

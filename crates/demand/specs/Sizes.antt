@@ -8,8 +8,10 @@
 --   SizedCosts c      the nine constants are within their sizes
 --   Sized p           the record p is within the sizes, with 1 ≤ x ≤ D ≤ T
 --   Each P ps         P of every element
+--   Some P ps         P of one of them
 use mathlib.Core.Bool.{Bool, true, false, _&&_}
 use mathlib.Core.List.{List, [], _∷_}
+use mathlib.Core.Logic.{_⊎_}
 use Prim.Native.Nat.{ℕ, _≤_}
 use lib.Dec.{leb}
 use Rattle.demand.specs.declared.Piece.{Piece}
@@ -81,3 +83,7 @@ Tells P false = P → ⊥
 abbrev pub Each : {A : Type 0} → (A → Type 0) → List A → Type 0
 Each P [] = Unit {0}
 Each P (p ∷ ps) = P p × Each P ps
+
+abbrev pub Some : {A : Type 0} → (A → Type 0) → List A → Type 0
+Some P [] = ⊥
+Some P (p ∷ ps) = P p ⊎ Some P ps

@@ -35,15 +35,8 @@ lateJitter c = cond (sizedCosts c) (c .precision) 0
 
 -- Every piece of a plan is one of these.
 unfoldable pub pieceOf : ℕ → Piece → Kind → ℕ → ℕ → Piece
-pieceOf j p k x w = record {
-  kind = k;
-  budget = x;
-  window = w;
-  period = p .period;
-  jitter = cond (arrives k) j (p .jitter);
-  preempt = p .preempt;
-  migrate = p .migrate;
-}
+pieceOf j p k x w =
+    record { kind = k; budget = x; window = w; period = p .period; jitter = cond (arrives k) j (p .jitter); preempt = p .preempt; migrate = p .migrate }
 
 -- A first piece has its task's jitter, whatever a late one would have.
 unfoldable pub firstPiece : Piece → ℕ → ℕ → Piece

@@ -11,19 +11,14 @@ use Rattle.demand.specs.Tables.{Rule, _if_carrying_, Not}
 use Rattle.task.specs.declared.Task.{Task}
 use Rattle.task.specs.Names.{Formed}
 use Rattle.task.specs.Tasks.{tasksMost, wholePiece}
-use Rattle.task.specs.Refusals.{TaskNamed, stateTable}
+use Rattle.task.specs.Refusals.{TaskNamed, taskTable, stateTable}
 use Rattle.walks.specs.Edits.{add, withdraw, retime, edited}
 use Rattle.plan.specs.declared.Plan.{Plan}
 use Rattle.plan.specs.Refusals.{walkTable}
 use Rattle.edits.specs.Edits.{byName, TaskEdit, tasksHeld}
 
 unfoldable pub ownTable : TaskEdit → List Task → List Rule
-ownTable (add t) ts =
-    8 if Not (Formed (t .name)) carrying 0
-    ∷ 3 if Not (Sized (wholePiece (t .times))) carrying 0
-    ∷ 4 if TaskNamed (t .name) ts carrying 0
-    ∷ 6 if (tasksMost ≤ length ts) carrying 0
-    ∷ []
+ownTable (add t) ts = taskTable ts t ++ (6 if (tasksMost ≤ length ts) carrying 0 ∷ [])
 ownTable (withdraw n) ts =
     8 if Not (Formed n) carrying 0
     ∷ 5 if Not (TaskNamed n ts) carrying 0

@@ -12,7 +12,7 @@ use borrow.Author.Tests.{ne-eqb}
 use lib.Dec.{eqb, eqb·suc-suc}
 use lib.ListN.{length}
 use Rattle.task.specs.Names.{sameBytes}
-use Rattle.task.proofs.NameLaws.{bytes-exact}
+use Rattle.task.proofs.NameLaws.{same-bytes-exact}
 use Rattle.lines.specs.declared.Word.{Word}
 use Rattle.lines.specs.declared.Line.{Line}
 use Rattle.lines.specs.Lines.{bytesOf, tab, upTo, beyond, every, isNumber, isName}
@@ -83,7 +83,7 @@ in-said w fs =
     (sameBytes w (bytesOf "part")) refl (sameBytes w (bytesOf "fit")) refl
   where
     at : (v : List ℕ) → sameBytes w v ≡ true → saysIn v fs ≡ said (formOf (wordOf v) fs) → saysIn w fs ≡ said (formOf (wordOf w) fs)
-    at v same so = rw (bytes-exact w v same) so
+    at v same so = rw (same-bytes-exact w v .0 same) so
 
     by : (a : Bool) → sameBytes w (bytesOf "machine") ≡ a → (b : Bool) → sameBytes w (bytesOf "cost") ≡ b
         → (c : Bool) → sameBytes w (bytesOf "part") ≡ c → (d : Bool) → sameBytes w (bytesOf "fit") ≡ d

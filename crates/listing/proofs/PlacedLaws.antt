@@ -4,6 +4,7 @@
 --   Seated k e             what was placed, e, is of one of the first k tasks, its piece is within the sizes, and its core is one of sixteen
 --   all-seated             so is all that the walk placed
 --   each-on                what holds of each that is placed holds of each on a core, and that is on it
+--   placed-text            the listing of what was placed, by entries; lines-placed: equal entries have equal lines
 --   plan-is                the plan, from what was placed
 --   row-placed             the entries of a core are those of what was placed there
 --   entries-placed, listing-is      so are all entries, and the listing is that of what was placed
@@ -45,8 +46,10 @@ use Rattle.task.specs.declared.Tasks.{Tasks}
 use Rattle.plan.specs.Shows.{storedOf, LayoutShows}
 use Rattle.plan.proofs.GoingLaws.{piece-stored}
 use Rattle.plan.proofs.Theorems.{placed-places, placed-sized, plan-counts, plan-shows}
-use Rattle.listing.specs.Listing.{Entry, rowPieces, entryOf, rowEntries, entriesOn, entries, entryLines, header, listingOf}
-use Rattle.listing.specs.Placed.{placedEntry, byCore, placedEntries, placedListing}
+use Rattle.listing.specs.Listing.{Entry, kindWord, rowPieces, entryOf, rowEntries, entriesOn, entries, entryLine, entryLines, header, listingOf}
+use Rattle.listing.specs.Placed.{placedFields, byCore, placedLines, textLines, placedListing, placedEntry, placedEntries}
+use Rattle.listing.specs.Text.{textLine, decimal}
+use Rattle.lines.specs.Lines.{bytesOf}
 
 -- ---- what the walk placed
 
@@ -58,6 +61,34 @@ pub record Seated (k : ℕ) (e : Placed ℕ) : Type 0 where
 seated-all : (k : ℕ) (l : List (Placed ℕ)) → Each (λ e. e .item < k) l → Each (λ e. Sized (e .piece)) l → Each (λ e. e .on < coresMost) l → Each (Seated k) l
 seated-all k [] low size core = tt
 seated-all k (e ∷ l) low size core = (record { low = low .0; size = size .0; core = core .0 }, seated-all k l (low .1) (size .1) (core .1))
+
+-- ---- lines by their fields
+
+-- the fields of an entry's line
+abbrev fieldsOf : Entry → List (List ℕ)
+fieldsOf e =
+    bytesOf "piece" ∷ decimal (e .core) ∷ e .task ∷ kindWord (e .kind) ∷ decimal (e .budget) ∷ decimal (e .window) ∷ decimal (e .jitter) ∷ decimal (e .charged) ∷ []
+
+module _ (c : Costs) (ts : List Task) where
+  fields-placed : (l : List (Placed ℕ)) → map (placedFields c ts) l ≡ map fieldsOf (map (placedEntry c ts) l)
+  unfolding placedFields placedEntry
+  fields-placed [] = refl
+  fields-placed (e ∷ l) = ap (λ (ls : List (List (List ℕ))). fieldsOf (placedEntry c ts e) ∷ ls) (fields-placed l)
+
+  lines-of : (es : List Entry) → textLines (map fieldsOf es) ≡ entryLines es
+  unfolding entryLine
+  lines-of [] = refl
+  lines-of (e ∷ es) = ap (λ (t : List ℕ). textLine (fieldsOf e) ++ t) (lines-of es)
+
+  pub placed-text : (l : List (Placed ℕ)) → placedListing c ts l ≡ header (length ts) (length l) ++ entryLines (placedEntries c ts l)
+  unfolding placedListing header
+  placed-text l = ap (λ (t : List ℕ). header (length ts) (length l) ++ t) (ap textLines (fields-placed (byCore coresMost l)) ∙ lines-of (placedEntries c ts l))
+
+-- so equal entries have equal lines
+pub lines-placed : (c c′ : Costs) (ts ts′ : List Task) (l l′ : List (Placed ℕ)) → placedEntries c ts l ≡ placedEntries c′ ts′ l′
+    → placedLines c ts l ≡ placedLines c′ ts′ l′
+lines-placed c c′ ts ts′ l l′ same =
+    fields-placed c ts (byCore coresMost l) ∙ (ap (map fieldsOf) same ∙ sym (fields-placed c′ ts′ (byCore coresMost l′)))
 
 module _ (m : Machine) (c : Costs) (n : ℕ) (ts : List Task) (faultless : stateFault m c n ts ≡ 0) (s : Stand) (l : List (Placed ℕ))
     (planned : walked m c (take n ts) ≡ fine s l) where
@@ -194,5 +225,5 @@ module _ (m : Machine) (c : Costs) (n : ℕ) (ts : List Task) (faultless : state
   tasks-count = ap (λ (r : Reply). r .plan .tasks .count) plan-is
 
   pub listing-is : listingOf (planOf m c n ts .plan) ≡ placedListing c (take n ts) l
-  unfolding listingOf placedListing
-  listing-is = λ i. header (tasks-count i) (pieces-count i) ++ entryLines (entries-placed i)
+  unfolding listingOf
+  listing-is = (λ i. header (tasks-count i) (pieces-count i) ++ entryLines (entries-placed i)) ∙ sym (placed-text c (take n ts) l)

@@ -37,7 +37,7 @@ use Rattle.listing.specs.Text.{endedBy, decimal}
 use Rattle.listing.specs.Listing.{Entry, spelling, kindWord, figuresLine, entryLine, entryLines, header}
 use Rattle.listing.specs.Placed.{placedEntry, placedEntries, placedListing}
 use Rattle.listing.proofs.ReadLaws.{Lacks, Readable}
-use Rattle.listing.proofs.PlacedLaws.{Seated, entries-each, entries-count}
+use Rattle.listing.proofs.PlacedLaws.{Seated, placed-text, entries-each, entries-count}
 use Rattle.listing.proofs.TextLaws.{ended-length, decimal-few}
 
 -- ---- names
@@ -165,9 +165,8 @@ module _ (m : Machine) (c : Costs) (n : ℕ) (ts : List Task) (faultless : state
       (λ e seat. placed-readable c (take n ts) e (sane .costs) (names-formed [] (take n ts) (sane .faultless)) seat)
 
   pub listing-few : Each (λ t. length (spelling (t .name)) ≤ 24) (take n ts) → length (placedListing c (take n ts) l) ≤ 20000
-  unfolding placedListing
   listing-few names =
       let short : Each (λ e. length (e .task) ≤ 24) (placedEntries c (take n ts) l) =
       entries-each m c n ts faultless s l planned (λ e. length (e .task) ≤ 24) (λ e seat. placed-short c (take n ts) e names seat) in
-      listing-short (length (take n ts)) (length l) (placedEntries c (take n ts) l) short
-      (omega (arith, entries-count m c n ts faultless s l planned, plan-counts m c n ts faultless s l planned .pieces-fit))
+      rw (placed-text c (take n ts) l) (listing-short (length (take n ts)) (length l) (placedEntries c (take n ts) l) short
+      (omega (arith, entries-count m c n ts faultless s l planned, plan-counts m c n ts faultless s l planned .pieces-fit)))

@@ -9,7 +9,7 @@
 --                         `plan`), and the pieces
 --   header-counts         which are as many as the entries
 --   listing-determines    two walks with equal listings have equal entries: they place the same names alike
-use mathlib.Core.Path.{_≡_}
+use mathlib.Core.Path.{_≡_, sym, _∙_}
 use mathlib.Core.Bool.{true}
 use mathlib.Core.List.{List}
 use Prim.Native.Nat.{ℕ, _^_, _<_}
@@ -28,7 +28,7 @@ use Rattle.listing.specs.Listing.{entryLines, listingOf}
 use Rattle.listing.specs.Placed.{placedEntries, placedListing}
 use Rattle.listing.proofs.DigitLaws.{decimal-value, decimal-number}
 use Rattle.listing.proofs.ReadLaws.{lines-alike, head-alike}
-use Rattle.listing.proofs.PlacedLaws.{listing-is, entries-count}
+use Rattle.listing.proofs.PlacedLaws.{placed-text, listing-is, entries-count}
 use Rattle.listing.proofs.PlainLaws.{entries-readable}
 
 -- ---- numbers
@@ -54,9 +54,9 @@ module _ (m : Machine) (c : Costs) (n : ℕ) (ts : List Task) (faultless : state
   pub listing-determines : (m′ : Machine) (c′ : Costs) (n′ : ℕ) (ts′ : List Task) → stateFault m′ c′ n′ ts′ ≡ 0 → (s′ : Stand) (l′ : List (Placed ℕ))
       → walked m′ c′ (take n′ ts′) ≡ fine s′ l′ → placedListing c (take n ts) l ≡ placedListing c′ (take n′ ts′) l′
       → placedEntries c (take n ts) l ≡ placedEntries c′ (take n′ ts′) l′
-  unfolding placedListing
   listing-determines m′ c′ n′ ts′ faultless′ s′ l′ planned′ same =
       let es = placedEntries c (take n ts) l in
       let fs = placedEntries c′ (take n′ ts′) l′ in
       lines-alike es fs (entries-readable m c n ts faultless s l planned) (entries-readable m′ c′ n′ ts′ faultless′ s′ l′ planned′)
-      (head-alike (length (take n ts)) (length l) (length (take n′ ts′)) (length l′) (entryLines es) (entryLines fs) same .2)
+      (head-alike (length (take n ts)) (length l) (length (take n′ ts′)) (length l′) (entryLines es) (entryLines fs)
+      (sym (placed-text c (take n ts) l) ∙ (same ∙ placed-text c′ (take n′ ts′) l′)) .2)

@@ -20,11 +20,11 @@ use Rattle.demand.specs.Sizes.{sized, sizedCosts}
 use Rattle.demand.specs.Tables.{Rule, _if_carrying_, Not, Gives, Kept, downEach, below}
 use Rattle.demand.proofs.RefusalLaws.{sized-breaks, costs-break}
 use Rattle.demand.proofs.TableLaws.{Comes, none, here, next as goOn, comes-kept, comes-refused, comes-front, comes-behind}
-use Rattle.demand.proofs.TableLaws.{breaks-kept, breaks-test, breaks-negated, breaks-leb, breaks-ltb}
+use Rattle.demand.proofs.TableLaws.{breaks-kept, breaks-negated, breaks-leb, breaks-ltb}
 use Rattle.task.specs.declared.Part.{Part}
 use Rattle.task.specs.declared.Task.{Task}
 use Rattle.task.specs.Tasks.{tasksMost, wholePiece, tasksOf, listOf, sizedMachine}
-use Rattle.task.proofs.RefusalLaws.{comes-rule, place-breaks}
+use Rattle.task.proofs.RefusalLaws.{comes-rule, place-breaks, machine-breaks}
 use Rattle.lines.specs.declared.Word.{Word}
 use Rattle.lines.specs.declared.Line.{Line}
 use Rattle.lines.specs.Lines.{newline, upTo, beyond}
@@ -49,7 +49,7 @@ word-comes : (w : Word) (a : Above) (n : ℕ) (l : Line) → Staged a n → Come
 unfolding machineFault costFault partFault fitFault
 word-comes Word.Machine a n l s =
     comes-rule (eqb (a .stage) atTop) (breaks-at a n s atTop (omega arith)) 7
-    (comes-rule (sizedMachine (l .machine)) (breaks-test (sizedMachine (l .machine))) 0
+    (comes-rule (sizedMachine (l .machine)) (machine-breaks (l .machine)) 0
     none)
 word-comes Word.Cost a n l s =
     comes-rule (eqb (a .stage) belowMachine) (breaks-at a n s belowMachine (omega arith)) 7
@@ -68,7 +68,7 @@ word-comes Word.Fit a n l s =
     (comes-rule (not free) (breaks-negated free (place-breaks (λ (p : Part). p .name) (l .part .name) (a .parts))) 4
     (comes-rule (ltb (length (a .tasks)) tasksMost) (breaks-ltb (length (a .tasks)) tasksMost) 5
     none)))
-word-comes Word.Other a n l s = here tt refl refl
+word-comes Word.Other a n l s = let fine : Not ⊥ = λ never. never in here fine refl refl
 
 line-comes : (a : Above) (n : ℕ) (l : List ℕ) → Staged a n → Comes (lineTable (saidOf a) n (saysOf l)) (lineFault a (lineOf l)) n
 unfolding lineFault

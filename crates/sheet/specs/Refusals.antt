@@ -10,7 +10,6 @@
 --   linesTable bytes      all lines from the top, then a line that was cut, then a missing one
 --   readTable bytes       9, then the lines
 use mathlib.Core.Path.{_≡_}
-use mathlib.Core.Bool.{false}
 use mathlib.Core.List.{List, [], _∷_, _++_, map, getLastD}
 use Prim.Native.Nat.{ℕ, _+_, _≤_, _<_}
 use lib.ListN.{length}
@@ -21,7 +20,7 @@ use Rattle.demand.specs.Tables.{Rule, _if_carrying_, Not, downEach, below}
 use Rattle.task.specs.declared.Part.{Part}
 use Rattle.task.specs.declared.Task.{Task}
 use Rattle.task.specs.declared.Machine.{Machine}
-use Rattle.task.specs.Tasks.{tasksMost, wholePiece, noMachine, taskOf, sizedMachine}
+use Rattle.task.specs.Tasks.{tasksMost, wholePiece, noMachine, taskOf, SizedMachine}
 use Rattle.task.specs.Refusals.{TaskNamed, PartNamed}
 use Rattle.lines.specs.Lines.{newline}
 use Rattle.lines.specs.Says.{Says, machine, cost, part, fit, nothing, saysOf}
@@ -39,14 +38,10 @@ unsaid = record { machine = noMachine; costs = noCosts; parts = []; tasks = [] }
 
 -- ---- one line
 
--- a line of no form is 8 wherever it stands
-abbrev pub Always : Type 0
-Always = Unit {0}
-
 abbrev pub lineTable : Said → ℕ → Says → List Rule
 lineTable a n (machine m) =
     8 if Not (n ≡ 1) carrying n
-    ∷ 1 if (sizedMachine m ≡ false) carrying n
+    ∷ 1 if Not (SizedMachine m) carrying n
     ∷ []
 lineTable a n (cost c) =
     8 if Not (n ≡ 2) carrying n
@@ -65,8 +60,9 @@ lineTable a n (fit t p) =
     ∷ 5 if Not (PartNamed p (a .parts)) carrying n
     ∷ 6 if (tasksMost ≤ length (a .tasks)) carrying n
     ∷ []
+-- a line of no form is 8 wherever it stands
 lineTable a n nothing =
-    8 if Always carrying n
+    8 if Not ⊥ carrying n
     ∷ []
 
 abbrev pub lineBelow : Said → Says → Said

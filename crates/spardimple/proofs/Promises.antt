@@ -38,7 +38,7 @@
 --   kept-before                     an accepted edit of a held plan keeps the pieces of each task before the edited one in both packing orders
 --   kept-after                      and where at a later task the two walks stand at the same core with the same row, of that task and all later ones
 -- What the tests tell that definitions go by:
---   costs-sized, names-equal, bytes-equal, name-formed
+--   verdict-passing, costs-sized, names-equal, bytes-equal, name-formed
 --
 -- Settled by theorems, so that nobody has to read how it is computed:
 --   verdictNumber     verdict-comes, verdict-refused, passes-told, overloaded-told, undecided-told
@@ -51,6 +51,8 @@
 --   verdictOf         verdict-means
 --   greatestSplit     split-means
 --   packed            packing, packing-ranked, packing-one
+--   tasksOn           held-ones
+--   passing           verdict-passing
 --   sizedCosts        costs-sized
 --   sameName          names-equal
 --   sameBytes         bytes-equal
@@ -74,13 +76,13 @@ use Rattle.demand.specs.declared.Answer.the-variants.{Judged, Refused}
 use Rattle.demand.specs.Sizes.{SizedCosts, sizedCosts, Each}
 use Rattle.demand.specs.Charge.{coreOf, stall}
 use Rattle.demand.specs.Verdict.{Means, Bounded, KeepsUp, verdictOf}
-use Rattle.demand.specs.Split.{Splits, greatestSplit}
+use Rattle.demand.specs.Split.{Splits, greatestSplit, passes as passing}
 use Rattle.demand.specs.Answer.{answerOf, splitOf}
 use Rattle.demand.specs.Tables.{Not, Gives, Kept}
 use Rattle.demand.specs.Refusals.{recordTable, Refuses}
 use Rattle.demand.proofs.SizeLaws.{costs-exact}
 use Rattle.demand.proofs.Judgement.{verdict-exact}
-use Rattle.demand.proofs.SplitLaws.{split-exact}
+use Rattle.demand.proofs.SplitLaws.{passes-exact, split-exact}
 use Rattle.demand.proofs.RefusalLaws.{answer-refused, split-refused as split-denied}
 use Rattle.task.specs.declared.Name.{Name}
 use Rattle.task.specs.declared.Task.{Task}
@@ -106,8 +108,8 @@ use Rattle.plan.proofs.Theorems.{packing-order, packing-ranked as ranked, packi
 use Rattle.plan.proofs.Theorems.{all-placed, budgets-add, windows-add, plan-counts}
 use Rattle.plan.proofs.RefusalLaws.{plan-refused as told-plan, plan-kept}
 use Rattle.sheet.specs.Refusals.{readTable}
-use Rattle.listing.specs.Placed.{placedEntries}
-use Rattle.edits.specs.Edits.{byName, TaskEdit, tasksHeld, editOf, SameAnswer, accepted, Afresh, Held, played}
+use Rattle.listing.specs.Placed.{placedLines}
+use Rattle.edits.specs.Edits.{byName, TaskEdit, tasksHeld, editOf, accepted, Afresh, Held, played}
 use Rattle.edits.specs.Refusals.{editTable}
 use Rattle.edits.specs.Kept.{inOrder, Keeps, editedName, Ahead}
 use Rattle.edits.proofs.AnswerLaws.{edit-planned}
@@ -229,7 +231,7 @@ pub sheet-walks : (sheet : List ℕ) (room : ℕ) → Kept (sheetTable sheet roo
 sheet-walks = state-walks
 
 pub told-apart : (sheet sheet′ : List ℕ) (room room′ : ℕ) → Kept (sheetTable sheet room) → Kept (sheetTable sheet′ room′) → textOf sheet ≡ textOf sheet′
-    → placedEntries (costsIn sheet) (tasksIn sheet) (placedIn sheet) ≡ placedEntries (costsIn sheet′) (tasksIn sheet′) (placedIn sheet′)
+    → placedLines (costsIn sheet) (tasksIn sheet) (placedIn sheet) ≡ placedLines (costsIn sheet′) (tasksIn sheet′) (placedIn sheet′)
 told-apart = entries-apart
 
 pub packing : (ts : List Task) → Rearranged (length ts) (packed ts)
@@ -303,8 +305,11 @@ pub edit-afresh : (e : TaskEdit) (s : Plan) → editOf e s .number ≡ 0
 edit-afresh = edit-planned
 
 pub edit-looks-at : (e : TaskEdit) (s t : Plan) → s .machine ≡ t .machine → s .costs ≡ t .costs → tasksHeld s ≡ tasksHeld t
-    → s .tasks .count ≡ t .tasks .count → SameAnswer (editOf e s) (editOf e t)
-edit-looks-at e s t = edit-relies e s t
+    → s .tasks .count ≡ t .tasks .count → (editOf e s .number ≡ editOf e t .number) × (editOf e s .carries ≡ editOf e t .carries)
+    × (editOf e s .number ≡ 0 → editOf e s .plan ≡ editOf e t .plan)
+edit-looks-at e s t machine costs tasks count =
+    let same = edit-relies e s t machine costs tasks count in
+    (same .number, same .carries, same .plan)
 
 module _ (e : TaskEdit) (s : Plan) (held : Held s) (taken : editOf e s .number ≡ 0) where
   pub kept-before : (b : Name) → Ahead (editedName e) b (tasksHeld s) → Ahead (editedName e) b (tasksHeld (editOf e s .plan)) → Keeps s (editOf e s .plan) b
@@ -319,6 +324,9 @@ module _ (e : TaskEdit) (s : Plan) (held : Held s) (taken : editOf e s .number �
       held-after s held e taken old new names (same-stand (s .machine) (s .costs) p p′ t t′ l l′ walks walks′ core row)
 
 -- ---- what the tests tell that definitions go by
+
+pub verdict-passing : (v : Verdict) → (passing v ≡ true) ↔ (v ≡ Passes)
+verdict-passing = passes-exact
 
 pub costs-sized : (c : Costs) → (sizedCosts c ≡ true) ↔ SizedCosts c
 costs-sized = costs-exact

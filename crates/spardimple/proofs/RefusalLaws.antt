@@ -39,7 +39,8 @@ use Rattle.walks.specs.Halves.{Stand}
 use Rattle.sheet.specs.Sheet.{readOf}
 use Rattle.sheet.specs.Refusals.{readTable}
 use Rattle.sheet.proofs.RefusalLaws.{read-comes, read-kept}
-use Rattle.listing.specs.Placed.{placedEntries}
+use Rattle.listing.specs.Placed.{placedLines}
+use Rattle.listing.proofs.PlacedLaws.{lines-placed}
 use Rattle.edits.specs.Edits.{TaskEdit, editOf}
 use Rattle.edits.specs.Refusals.{editTable}
 use Rattle.edits.proofs.RefusalLaws.{edit-refused-exactly as refused-exactly, edit-accepted as accepted-exactly}
@@ -303,11 +304,12 @@ sheet-sane sheet kept =
     state-kept (machineIn sheet) (costsIn sheet) (length (tasksIn sheet)) (tasksIn sheet) .0 (said-sane sheet (read-kept sheet .1 kept))
 
 pub told-apart : (sheet sheet′ : List ℕ) (room room′ : ℕ) → Kept (sheetTable sheet room) → Kept (sheetTable sheet′ room′) → textOf sheet ≡ textOf sheet′
-    → placedEntries (costsIn sheet) (tasksIn sheet) (placedIn sheet) ≡ placedEntries (costsIn sheet′) (tasksIn sheet′) (placedIn sheet′)
+    → placedLines (costsIn sheet) (tasksIn sheet) (placedIn sheet) ≡ placedLines (costsIn sheet′) (tasksIn sheet′) (placedIn sheet′)
 told-apart sheet sheet′ room room′ kept kept′ same =
     let one = sheet-ends sheet room kept in
     let other = sheet-ends sheet′ room′ kept′ in
-    text-one sheet sheet′ (one .0) (other .0) (one .1) (other .1) (one .2) (other .2) same
+    lines-placed (costsIn sheet) (costsIn sheet′) (tasksIn sheet) (tasksIn sheet′) (placedIn sheet) (placedIn sheet′)
+    (text-one sheet sheet′ (one .0) (other .0) (one .1) (other .1) (one .2) (other .2) same)
 
 -- ---- an edit
 

@@ -10,8 +10,7 @@ use lib.ListN.{length}
 use Rattle.demand.specs.Tables.{Rule, _if_carrying_, Not}
 use Rattle.demand.specs.Refusals.{recordTable}
 use Rattle.plan.specs.Refusals.{walkTable}
-use Rattle.sheet.specs.Sheet.{sheetMost}
-use Rattle.sheet.specs.Refusals.{linesTable}
+use Rattle.sheet.specs.Refusals.{readTable}
 use Rattle.spardimple.specs.Bytes.{piecesOf, costsSpelt}
 use Rattle.spardimple.specs.Sheets.{machineIn, costsIn, tasksIn, textOf}
 
@@ -24,8 +23,7 @@ lentTable rs cs =
 -- what a sheet says, and what is listed of it, are looked at only where no rule before is broken
 unfoldable pub sheetTable : (sheet : List ℕ) → (room : ℕ) → List Rule
 sheetTable sheet room =
-    9 if (sheetMost < length sheet) carrying 0
-    ∷ linesTable sheet
+    readTable sheet
     ++ walkTable (machineIn sheet) (costsIn sheet) (tasksIn sheet)
     ++ (10 if (room < length (textOf sheet)) carrying length (textOf sheet)
     ∷ [])

@@ -30,9 +30,9 @@ use Rattle.demand.specs.declared.Verdict.{Verdict}
 use Rattle.demand.specs.declared.Verdict.the-variants.{Passes, Overloaded}
 use Rattle.splits.specs.declared.charge_bounds.Bound.the-variants.{Stands, Falls, AtMost}
 use Rattle.splits.specs.declared.split_search.Step.the-variants.{Done, Below}
-use Rattle.demand.specs.Sizes.{lengthMost, Sized, Each}
+use Rattle.demand.specs.Sizes.{lengthMost, Sized, Each, Some}
 use Rattle.demand.specs.Charge.{charged, ipiCost, stall}
-use Rattle.demand.specs.Demand.{total, jobsDue, interrupts, largestWindow, blocking, load, demand, Some, Live, leastLive}
+use Rattle.demand.specs.Demand.{total, jobsDue, interrupts, largestWindow, blocking, load, demand, Live, leastLive}
 use Rattle.demand.specs.Verdict.{Means, verdict}
 use Rattle.demand.specs.Split.{lateJitter, pieceOf, firstPiece, lastPiece}
 use Rattle.verdicts.specs.MostFitting.{beside}

@@ -16,7 +16,7 @@ use borrow.Author.Tests.{ne-eqb}
 use lib.Dec.{eqb, leb}
 use lib.ListN.{take}
 use Rattle.demand.specs.declared.Costs.{Costs}
-use Rattle.demand.specs.Sizes.{sized, sizedCosts}
+use Rattle.demand.specs.Sizes.{sized, sizedCosts, Some}
 use Rattle.demand.specs.Tables.{Rule, _if_carrying_, Not, Gives, Kept, downEach}
 use Rattle.demand.proofs.RefusalLaws.{sized-breaks, costs-break}
 use Rattle.demand.proofs.TableLaws.{Comes, none, here, next, comes-kept, comes-refused, comes-front, comes-behind}
@@ -26,7 +26,7 @@ use Rattle.task.specs.declared.Task.{Task}
 use Rattle.task.specs.declared.Machine.{Machine}
 use Rattle.task.specs.Names.{Formed, formed, sameName}
 use Rattle.task.specs.Tasks.{tasksMost, wholePiece, SizedMachine, sizedMachine, placeBy, placeOf, rule, orElse, faultOf, firstFault, stateFault}
-use Rattle.task.specs.Refusals.{SomeNamed, taskTable, stateTable}
+use Rattle.task.specs.Refusals.{taskTable, stateTable}
 use Rattle.task.proofs.NameLaws.{formed-exact, same-name-exact}
 use Rattle.task.proofs.TaskLaws.{machine-exact}
 
@@ -52,20 +52,23 @@ machine-breaks m = breaks-exact (sizedMachine m) (machine-exact m)
 -- ---- names
 
 module _ {A : Type 0} (key : A → Name) (n : Name) where
-  named-from : (k : ℕ) (xs : List A) → 1 ≤ k → Breaks (SomeNamed key n xs) (eqb (placeBy key k n xs) 0)
+  abbrev Named : List A → Type 0
+  Named xs = Some (λ x. key x ≡ n) xs
+
+  named-from : (k : ℕ) (xs : List A) → 1 ≤ k → Breaks (Named xs) (eqb (placeBy key k n xs) 0)
   named-from k [] some = record { breaks = λ e. absurd (true≢false e); fails = λ never. absurd never }
   named-from k (x ∷ xs) some = by (sameName n (key x)) refl (named-from (k + 1) xs (omega arith))
     where
-      by : (b : Bool) → sameName n (key x) ≡ b → Breaks (SomeNamed key n xs) (eqb (placeBy key (k + 1) n xs) 0)
-          → Breaks (SomeNamed key n (x ∷ xs)) (eqb (cond b k (placeBy key (k + 1) n xs)) 0)
+      by : (b : Bool) → sameName n (key x) ≡ b → Breaks (Named xs) (eqb (placeBy key (k + 1) n xs) 0)
+          → Breaks (Named (x ∷ xs)) (eqb (cond b k (placeBy key (k + 1) n xs)) 0)
       by true same more = record { breaks = λ e. inl (sym (same-name-exact n (key x) .0 same)); fails = λ h. ne-eqb k 0 (λ e. omega arith) }
       by false other more = record { breaks = λ e. inr (more .breaks e); fails = fails-by }
         where
-          fails-by : SomeNamed key n (x ∷ xs) → eqb (placeBy key (k + 1) n xs) 0 ≡ false
+          fails-by : Named (x ∷ xs) → eqb (placeBy key (k + 1) n xs) 0 ≡ false
           fails-by (inl is) = absurd (true≢false (sym (same-name-exact n (key x) .1 (sym is)) ∙ other))
           fails-by (inr h) = more .fails h
 
-  pub place-breaks : (xs : List A) → Breaks (SomeNamed key n xs) (eqb (placeBy key 1 n xs) 0)
+  pub place-breaks : (xs : List A) → Breaks (Named xs) (eqb (placeBy key 1 n xs) 0)
   place-breaks xs = named-from 1 xs (omega arith)
 
 -- ---- tasks

@@ -6,12 +6,11 @@
 --   taskTable above t                  one task, below others
 --   stateTable m c n ts                all
 use mathlib.Core.Path.{_≡_}
-use mathlib.Core.Logic.{_⊎_}
 use mathlib.Core.List.{List, [], _∷_, _++_}
 use Prim.Native.Nat.{ℕ, _<_}
 use lib.ListN.{take}
 use Rattle.demand.specs.declared.Costs.{Costs}
-use Rattle.demand.specs.Sizes.{Sized, SizedCosts}
+use Rattle.demand.specs.Sizes.{Sized, SizedCosts, Some}
 use Rattle.demand.specs.Tables.{Rule, _if_carrying_, Not, downEach}
 use Rattle.task.specs.declared.Name.{Name}
 use Rattle.task.specs.declared.Part.{Part}
@@ -20,15 +19,11 @@ use Rattle.task.specs.declared.Machine.{Machine}
 use Rattle.task.specs.Names.{Formed}
 use Rattle.task.specs.Tasks.{tasksMost, wholePiece, SizedMachine}
 
-abbrev pub SomeNamed : {A : Type 0} → (A → Name) → Name → List A → Type 0
-SomeNamed key n [] = ⊥
-SomeNamed key n (x ∷ xs) = (key x ≡ n) ⊎ SomeNamed key n xs
-
 abbrev pub TaskNamed : Name → List Task → Type 0
-TaskNamed n ts = SomeNamed (λ t. t .name) n ts
+TaskNamed n ts = Some (λ t. t .name ≡ n) ts
 
 abbrev pub PartNamed : Name → List Part → Type 0
-PartNamed n ps = SomeNamed (λ p. p .name) n ps
+PartNamed n ps = Some (λ p. p .name ≡ n) ps
 
 abbrev pub taskTable : List Task → Task → List Rule
 taskTable above t =

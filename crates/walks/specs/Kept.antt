@@ -6,8 +6,8 @@
 --   Behind N k l p b r    l is p, then b, then r, and no item with the key k is one of b and r: where l holds k, it comes before
 --   Meet W p p′           the walks over p and p′ come to the same state
 use mathlib.Core.Path.{_≡_}
-use mathlib.Core.Logic.{_⊎_}
 use mathlib.Core.List.{List, [], _∷_, _++_}
+use Rattle.demand.specs.Sizes.{Some}
 use Rattle.walks.specs.Lists.{only}
 use Rattle.walks.specs.Way.{Placed, Way, fine, walkOver}
 use Rattle.walks.specs.Edits.{Keyed}
@@ -17,8 +17,7 @@ module _ {A K : Type 0} (N : Keyed A K) where
   ofKey k log = only (λ e. N .same k (N .key (e .item))) log
 
   abbrev pub Among : K → List A → Type 0
-  Among k [] = ⊥
-  Among k (a ∷ l) = (N .key a ≡ k) ⊎ Among k l
+  Among k l = Some (λ a. N .key a ≡ k) l
 
   abbrev pub Before : K → K → List A → Type 0
   Before k b l = (p q : List A) (a : A) → l ≡ p ++ (a ∷ q) → N .key a ≡ k → Among b p
