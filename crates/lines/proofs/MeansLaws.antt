@@ -18,16 +18,16 @@ use Rattle.lines.specs.declared.Line.{Line}
 use Rattle.lines.specs.Lines.{bytesOf, tab, upTo, beyond, every, isNumber, isName}
 use Rattle.lines.specs.Forms.{noLine, machineLine, costLine, machineOf, costsOf, numbered, values}
 use Rattle.lines.specs.Forms.{machineForm, costForm, partForm, fitForm, wordOf, formOf, lineOf}
-use Rattle.lines.specs.Says.{Says, machine, cost, part, fit, nothing, has, saysIn, saysOf}
+use Rattle.lines.specs.Says.{Saying, machine, cost, part, fit, nothing, has, saysIn, saysOf}
 
-abbrev pub wordSaid : Word → Line → Says
+abbrev pub wordSaid : Word → Line → Saying
 wordSaid Word.Machine l = machine (l .machine)
 wordSaid Word.Cost l = cost (l .costs)
 wordSaid Word.Part l = part (l .part)
 wordSaid Word.Fit l = fit (l .task) (l .part .name)
 wordSaid Word.Other l = nothing
 
-abbrev pub said : Line → Says
+abbrev pub said : Line → Saying
 said l = wordSaid (l .word) l
 
 -- ---- forms that are kept, or not

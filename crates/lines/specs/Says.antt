@@ -1,6 +1,6 @@
 -- What a line of a sheet says: document 01, "Sheet". No contract cites this; `proofs/MeansLaws.antt` has that a line read by `lineOf` says the same.
 --
---   Says              a machine, costs, a part, a task's name with its part's, or nothing: a line of no form
+--   Saying              a machine, costs, a part, a task's name with its part's, or nothing: a line of no form
 --   has k n fs        the fields fs are k names, then n numbers, and no more
 --   nameAt k fs       the name that stands at place k of them, from 0
 --   saysIn w fs       by the word w, which is the first field, and the fields fs beyond it
@@ -18,12 +18,12 @@ use Rattle.task.specs.Names.{sameBytes}
 use Rattle.lines.specs.Lines.{bytesOf, tab, upTo, beyond, every, isNumber, isName, nameOf}
 use Rattle.lines.specs.Forms.{machineOf, costsOf, timesOf, values}
 
-pub data Says : Type 0 where
-  machine : Machine → Says
-  cost : Costs → Says
-  part : Part → Says
-  fit : (task part : Name) → Says
-  nothing : Says
+pub data Saying : Type 0 where
+  machine : Machine → Saying
+  cost : Costs → Saying
+  part : Part → Saying
+  fit : (task part : Name) → Saying
+  nothing : Saying
 
 abbrev pub has : (names numbers : ℕ) → List (List ℕ) → Bool
 has k n fs = every isName (take k fs) && eqb (length fs) (k + n) && every isNumber (drop k fs)
@@ -31,7 +31,7 @@ has k n fs = every isName (take k fs) && eqb (length fs) (k + n) && every isNumb
 abbrev pub nameAt : ℕ → List (List ℕ) → Name
 nameAt k fs = nameOf (getD fs k [])
 
-unfoldable pub saysIn : List ℕ → List (List ℕ) → Says
+unfoldable pub saysIn : List ℕ → List (List ℕ) → Saying
 saysIn w fs =
     cond (sameBytes w (bytesOf "machine") && has 0 2 fs) (machine (machineOf (values fs)))
     (cond (sameBytes w (bytesOf "cost") && has 0 9 fs) (cost (costsOf (values fs)))
@@ -39,5 +39,5 @@ saysIn w fs =
     (cond (sameBytes w (bytesOf "fit") && has 2 0 fs) (fit (nameAt 0 fs) (nameAt 1 fs))
     nothing)))
 
-unfoldable pub saysOf : List ℕ → Says
+unfoldable pub saysOf : List ℕ → Saying
 saysOf l = saysIn (upTo tab l) (beyond tab l)

@@ -23,7 +23,7 @@ use Rattle.task.specs.declared.Machine.{Machine}
 use Rattle.task.specs.Tasks.{tasksMost, wholePiece, noMachine, taskOf, SizedMachine}
 use Rattle.task.specs.Refusals.{TaskNamed, PartNamed}
 use Rattle.lines.specs.Lines.{newline}
-use Rattle.lines.specs.Says.{Says, machine, cost, part, fit, nothing, saysOf}
+use Rattle.lines.specs.Says.{Saying, machine, cost, part, fit, nothing, saysOf}
 use Rattle.sheet.specs.Sheet.{partNamed, sheetMost}
 use Rattle.sheet.specs.Fitted.{linesOf}
 
@@ -38,7 +38,7 @@ unsaid = record { machine = noMachine; costs = noCosts; parts = []; tasks = [] }
 
 -- ---- one line
 
-abbrev pub lineTable : Said → ℕ → Says → List Rule
+abbrev pub lineTable : Said → ℕ → Saying → List Rule
 lineTable a n (machine m) =
     8 if Not (n ≡ 1) carrying n
     ∷ 1 if Not (SizedMachine m) carrying n
@@ -65,7 +65,7 @@ lineTable a n nothing =
     8 if Not ⊥ carrying n
     ∷ []
 
-abbrev pub lineBelow : Said → Says → Said
+abbrev pub lineBelow : Said → Saying → Said
 lineBelow a (machine m) = record { machine = m; costs = a .costs; parts = a .parts; tasks = a .tasks }
 lineBelow a (cost c) = record { machine = a .machine; costs = c; parts = a .parts; tasks = a .tasks }
 lineBelow a (part p) = record { machine = a .machine; costs = a .costs; parts = a .parts ++ (p ∷ []); tasks = a .tasks }

@@ -53,7 +53,7 @@ use Rattle.listing.specs.Placed.{placedEntries, placedListing}
 use Rattle.listing.proofs.TextLaws.{over-short, over-fits}
 use Rattle.listing.proofs.PlainLaws.{listing-few}
 use Rattle.listing.proofs.Theorems.{listing-placed, listing-determines}
-use Rattle.spardimple.specs.Sheets.{machineIn, costsIn, tasksIn, placedBy, placedIn, textOf}
+use Rattle.spardimple.specs.Sheets.{machineIn, costsIn, tasksIn, placedBy, placedOf, textOf}
 use Rattle.spardimple.specs.Sheets.{Paper, refused, written, planSheet, paperOf, refusal, toldPaper, left, listingLeft}
 use Rattle.spardimple.proofs.SheetLaws.{paper-unread, paper-stuck, paper-written, reply-small, told-long, told-short}
 
@@ -69,7 +69,7 @@ abbrev plansIn : List ℕ → Reply
 plansIn sheet = planSheet (readOf sheet .sheet)
 
 pub data Ends (sheet : List ℕ) : Type 1 where
-  ends-well : (s : Stand) → walkIn sheet ≡ fine s (placedIn sheet) → Kept (walksIn sheet) → plansIn sheet .number ≡ 0
+  ends-well : (s : Stand) → walkIn sheet ≡ fine s (placedOf sheet) → Kept (walksIn sheet) → plansIn sheet .number ≡ 0
       → listingOf (plansIn sheet .plan) ≡ textOf sheet → Ends sheet
   ends-stuck : (k : ℕ) → walkIn sheet ≡ stuck k 7 → Comes (walksIn sheet) 7 (suc k) → plansIn sheet .number ≡ 7 → plansIn sheet .carries ≡ suc k → Ends sheet
 
@@ -115,7 +115,7 @@ module _ (sheet : List ℕ) (whole : readOf sheet .number ≡ 0) where
   text-is : (s : Stand) (l : List (Placed ℕ)) → walkRead ≡ fine s l → listingOf (plansIn sheet .plan) ≡ textOf sheet
   unfolding textOf
   text-is s l so =
-      let placed : placedIn sheet ≡ l = ap placedBy (sym said-walk ∙ so) in
+      let placed : placedOf sheet ≡ l = ap placedBy (sym said-walk ∙ so) in
       listing-placed (sheetRead .machine) (sheetRead .costs) (sheetRead .tasks .count) (sheetRead .tasks .list) good s l so
       ∙ (λ i. placedListing (costs-said i) (tasks-said i) (sym placed i))
 
@@ -139,8 +139,8 @@ module _ (sheet : List ℕ) (whole : readOf sheet .number ≡ 0) where
 -- ---- how long a listing is
 
 -- the walk, over the tasks as the laws of a plan cut them
-walk-cut : (sheet : List ℕ) (s : Stand) → walkIn sheet ≡ fine s (placedIn sheet)
-    → walked (machineIn sheet) (costsIn sheet) (take (length (tasksIn sheet)) (tasksIn sheet)) ≡ fine s (placedIn sheet)
+walk-cut : (sheet : List ℕ) (s : Stand) → walkIn sheet ≡ fine s (placedOf sheet)
+    → walked (machineIn sheet) (costsIn sheet) (take (length (tasksIn sheet)) (tasksIn sheet)) ≡ fine s (placedOf sheet)
 walk-cut sheet s so = ap (walked (machineIn sheet) (costsIn sheet)) (take-length (tasksIn sheet)) ∙ so
 
 name-short : (f : List ℕ) → length (spelling (nameOf f)) ≤ 24
@@ -157,14 +157,14 @@ module _ (sheet : List ℕ) (whole : readOf sheet .number ≡ 0) where
       (each-imp (Fitted (linesOf sheet)) Short (λ t fitted. rw (fitted .named) (name-short (fitted .task-name)))
       (listOf (readOf sheet .sheet .tasks)) (first-arrow sheet whole))
 
-  pub text-few : (s : Stand) → walkIn sheet ≡ fine s (placedIn sheet) → length (textOf sheet) ≤ 20000
+  pub text-few : (s : Stand) → walkIn sheet ≡ fine s (placedOf sheet) → length (textOf sheet) ≤ 20000
   unfolding textOf
   text-few s so =
       let c = costsIn sheet in
       let ts = tasksIn sheet in
       let all = take-length ts in
-      subst (λ (us : List Task). length (placedListing c us (placedIn sheet)) ≤ 20000) all
-      (listing-few (machineIn sheet) c (length ts) ts (said-sane sheet whole) s (placedIn sheet) (walk-cut sheet s so)
+      subst (λ (us : List Task). length (placedListing c us (placedOf sheet)) ≤ 20000) all
+      (listing-few (machineIn sheet) c (length ts) ts (said-sane sheet whole) s (placedOf sheet) (walk-cut sheet s so)
       (subst (Each Short) (sym all) names-short))
 
 -- ---- what a sheet comes to
@@ -173,7 +173,7 @@ module _ (sheet : List ℕ) (whole : readOf sheet .number ≡ 0) where
 pub paper-cases : (sheet : List ℕ) (P : Paper → Type 0)
     → ((readOf sheet .number ≡ 0 → ⊥) → P (refused (readOf sheet .number) (readOf sheet .carries)))
     → (readOf sheet .number ≡ 0 → (k : ℕ) → suc k ≤ 64 → walkIn sheet ≡ stuck k 7 → Comes (walksIn sheet) 7 (suc k) → P (refused 7 (suc k)))
-    → (readOf sheet .number ≡ 0 → (s : Stand) → walkIn sheet ≡ fine s (placedIn sheet) → Kept (walksIn sheet) → P (written (textOf sheet)))
+    → (readOf sheet .number ≡ 0 → (s : Stand) → walkIn sheet ≡ fine s (placedOf sheet) → Kept (walksIn sheet) → P (written (textOf sheet)))
     → P (paperOf sheet)
 paper-cases sheet P unread stuck-at listed = by (readOf sheet .number) refl
   where
@@ -231,22 +231,22 @@ paper-seven sheet room k whole =
 -- ---- sheets with one listing
 
 abbrev entriesIn : List ℕ → List Task → List Entry
-entriesIn sheet ts = placedEntries (costsIn sheet) ts (placedIn sheet)
+entriesIn sheet ts = placedEntries (costsIn sheet) ts (placedOf sheet)
 
 pub text-one : (sheet sheet′ : List ℕ) → readOf sheet .number ≡ 0 → readOf sheet′ .number ≡ 0 → (s s′ : Stand)
-    → walkIn sheet ≡ fine s (placedIn sheet) → walkIn sheet′ ≡ fine s′ (placedIn sheet′) → textOf sheet ≡ textOf sheet′
-    → placedEntries (costsIn sheet) (tasksIn sheet) (placedIn sheet) ≡ placedEntries (costsIn sheet′) (tasksIn sheet′) (placedIn sheet′)
+    → walkIn sheet ≡ fine s (placedOf sheet) → walkIn sheet′ ≡ fine s′ (placedOf sheet′) → textOf sheet ≡ textOf sheet′
+    → placedEntries (costsIn sheet) (tasksIn sheet) (placedOf sheet) ≡ placedEntries (costsIn sheet′) (tasksIn sheet′) (placedOf sheet′)
 unfolding textOf
 text-one sheet sheet′ whole whole′ s s′ so so′ same =
     let ts = tasksIn sheet in
     let ts′ = tasksIn sheet′ in
     let all = take-length ts in
     let all′ = take-length ts′ in
-    let cut = ap (λ (us : List Task). placedListing (costsIn sheet) us (placedIn sheet)) all
-    ∙ (same ∙ ap (λ (us : List Task). placedListing (costsIn sheet′) us (placedIn sheet′)) (sym all′)) in
+    let cut = ap (λ (us : List Task). placedListing (costsIn sheet) us (placedOf sheet)) all
+    ∙ (same ∙ ap (λ (us : List Task). placedListing (costsIn sheet′) us (placedOf sheet′)) (sym all′)) in
     sym (ap (entriesIn sheet) all)
-    ∙ (listing-determines (machineIn sheet) (costsIn sheet) (length ts) ts (said-sane sheet whole) s (placedIn sheet) (walk-cut sheet s so)
-    (machineIn sheet′) (costsIn sheet′) (length ts′) ts′ (said-sane sheet′ whole′) s′ (placedIn sheet′) (walk-cut sheet′ s′ so′) cut
+    ∙ (listing-determines (machineIn sheet) (costsIn sheet) (length ts) ts (said-sane sheet whole) s (placedOf sheet) (walk-cut sheet s so)
+    (machineIn sheet′) (costsIn sheet′) (length ts′) ts′ (said-sane sheet′ whole′) s′ (placedOf sheet′) (walk-cut sheet′ s′ so′) cut
     ∙ ap (entriesIn sheet′) all′)
 
 -- ---- the buffer

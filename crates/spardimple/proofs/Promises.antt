@@ -118,7 +118,7 @@ use Rattle.edits.proofs.HeldTheorems.{edit-relies, afresh-held, after-held, hel
 use Rattle.spardimple.specs.Bytes.{piecesOf, costsSpelt}
 use Rattle.spardimple.specs.Numbers.{verdictNumber}
 use Rattle.spardimple.specs.Refusals.{lentTable, sheetTable}
-use Rattle.spardimple.specs.Sheets.{machineIn, costsIn, tasksIn, placedIn, textOf, listingNumber, listingLeft}
+use Rattle.spardimple.specs.Sheets.{machineIn, costsIn, tasksIn, placedOf, textOf, listingNumber, listingLeft}
 use Rattle.spardimple.proofs.NumberLaws.{one-number as one-number-each}
 use Rattle.spardimple.proofs.RefusalLaws.{verdict-refused as told-verdict, verdict-comes as some-verdict, edit-refused-exactly, edit-accepted}
 use Rattle.spardimple.proofs.RefusalLaws.{listing-refused as told-listing, listing-taken as taken-listing, listing-comes as some-listing}
@@ -227,11 +227,11 @@ pub sheet-sane : (sheet : List ℕ) → Kept (readTable sheet)
 sheet-sane = state-sane
 
 pub sheet-walks : (sheet : List ℕ) (room : ℕ) → Kept (sheetTable sheet room)
-    → (s : Stand) × (walked (machineIn sheet) (costsIn sheet) (tasksIn sheet) ≡ fine s (placedIn sheet))
+    → (s : Stand) × (walked (machineIn sheet) (costsIn sheet) (tasksIn sheet) ≡ fine s (placedOf sheet))
 sheet-walks = state-walks
 
 pub told-apart : (sheet sheet′ : List ℕ) (room room′ : ℕ) → Kept (sheetTable sheet room) → Kept (sheetTable sheet′ room′) → textOf sheet ≡ textOf sheet′
-    → placedLines (costsIn sheet) (tasksIn sheet) (placedIn sheet) ≡ placedLines (costsIn sheet′) (tasksIn sheet′) (placedIn sheet′)
+    → placedLines (costsIn sheet) (tasksIn sheet) (placedOf sheet) ≡ placedLines (costsIn sheet′) (tasksIn sheet′) (placedOf sheet′)
 told-apart = entries-apart
 
 pub packing : (ts : List Task) → Rearranged (length ts) (packed ts)

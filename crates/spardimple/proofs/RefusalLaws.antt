@@ -46,7 +46,7 @@ use Rattle.edits.specs.Refusals.{editTable}
 use Rattle.edits.proofs.RefusalLaws.{edit-refused-exactly as refused-exactly, edit-accepted as accepted-exactly}
 use Rattle.spardimple.specs.Bytes.{piecesOf, costsSpelt}
 use Rattle.spardimple.specs.Numbers.{number, Reply, malformed, said, toldReply, replyOf, verdictNumber}
-use Rattle.spardimple.specs.Sheets.{written, paperOf, machineIn, costsIn, tasksIn, placedIn, textOf, refusal, toldPaper, listingNumber, listingLeft}
+use Rattle.spardimple.specs.Sheets.{written, paperOf, machineIn, costsIn, tasksIn, placedOf, textOf, refusal, toldPaper, listingNumber, listingLeft}
 use Rattle.spardimple.specs.Refusals.{lentTable, sheetTable}
 use Rattle.spardimple.proofs.NumberLaws.{told-one, reply-records, reply-costs, reply-formed, reply-carries}
 use Rattle.spardimple.proofs.PaperLaws.{walkIn, walksIn, said-sane, paper-cases, told-cases, paper-carries}
@@ -281,15 +281,15 @@ module _ (sheet : List ℕ) (room : ℕ) where
       ((λ is. seven .0 (told-one (toldPaper (paperOf sheet) room) (refusal 7 (suc k)) (paper-carries sheet room) fits is)), (λ so. ap number (seven .1 so)))
 
   -- a sheet that keeps the table is read, and the walk over its tasks ends well
-  sheet-ends : Kept (sheetTable sheet room) → (readOf sheet .number ≡ 0) × (s : Stand) × (walkIn sheet ≡ fine s (placedIn sheet))
+  sheet-ends : Kept (sheetTable sheet room) → (readOf sheet .number ≡ 0) × (s : Stand) × (walkIn sheet ≡ fine s (placedOf sheet))
   sheet-ends kept =
-      paper-cases sheet (λ p. toldPaper p room .which ≡ 0 → (readOf sheet .number ≡ 0) × (s : Stand) × (walkIn sheet ≡ fine s (placedIn sheet)))
+      paper-cases sheet (λ p. toldPaper p room .which ≡ 0 → (readOf sheet .number ≡ 0) × (s : Stand) × (walkIn sheet ≡ fine s (placedOf sheet)))
       (λ bad so. absurd (omega arith))
       (λ whole k small at comes so. absurd (omega arith))
       (λ whole s at walks so. (whole, s, at))
       (listing-accepted .1 kept)
 
-  pub sheet-walks : Kept (sheetTable sheet room) → (s : Stand) × (walkIn sheet ≡ fine s (placedIn sheet))
+  pub sheet-walks : Kept (sheetTable sheet room) → (s : Stand) × (walkIn sheet ≡ fine s (placedOf sheet))
   sheet-walks kept = let ends = sheet-ends kept in (ends .1, ends .2)
 
 -- what the buffer then holds
@@ -304,11 +304,11 @@ sheet-sane sheet kept =
     state-kept (machineIn sheet) (costsIn sheet) (length (tasksIn sheet)) (tasksIn sheet) .0 (said-sane sheet (read-kept sheet .1 kept))
 
 pub told-apart : (sheet sheet′ : List ℕ) (room room′ : ℕ) → Kept (sheetTable sheet room) → Kept (sheetTable sheet′ room′) → textOf sheet ≡ textOf sheet′
-    → placedLines (costsIn sheet) (tasksIn sheet) (placedIn sheet) ≡ placedLines (costsIn sheet′) (tasksIn sheet′) (placedIn sheet′)
+    → placedLines (costsIn sheet) (tasksIn sheet) (placedOf sheet) ≡ placedLines (costsIn sheet′) (tasksIn sheet′) (placedOf sheet′)
 told-apart sheet sheet′ room room′ kept kept′ same =
     let one = sheet-ends sheet room kept in
     let other = sheet-ends sheet′ room′ kept′ in
-    lines-placed (costsIn sheet) (costsIn sheet′) (tasksIn sheet) (tasksIn sheet′) (placedIn sheet) (placedIn sheet′)
+    lines-placed (costsIn sheet) (costsIn sheet′) (tasksIn sheet) (tasksIn sheet′) (placedOf sheet) (placedOf sheet′)
     (text-one sheet sheet′ (one .0) (other .0) (one .1) (other .1) (one .2) (other .2) same)
 
 -- ---- an edit

@@ -2,7 +2,7 @@
 --
 -- What it means, by what the sheet's lines say and what the walk placed:
 --   machineIn, costsIn, tasksIn    what a sheet says: the machine, the costs, the task list
---   placedIn sheet        what the walk over its tasks places, where it ends well
+--   placedOf sheet        what the walk over its tasks places, where it ends well
 --   textOf sheet          the listing of that
 -- And as it is worked out, which `proofs/PaperLaws.antt` ties to it:
 --   Paper                 what a sheet comes to: a refusal's number with what it carries, or a listing
@@ -49,11 +49,11 @@ abbrev pub placedBy : Ending Stand ℕ → List (Placed ℕ)
 placedBy (fine s log) = log
 placedBy (stuck k n) = []
 
-abbrev pub placedIn : List ℕ → List (Placed ℕ)
-placedIn sheet = placedBy (walked (machineIn sheet) (costsIn sheet) (tasksIn sheet))
+abbrev pub placedOf : List ℕ → List (Placed ℕ)
+placedOf sheet = placedBy (walked (machineIn sheet) (costsIn sheet) (tasksIn sheet))
 
 unfoldable pub textOf : List ℕ → List ℕ
-textOf sheet = placedListing (costsIn sheet) (tasksIn sheet) (placedIn sheet)
+textOf sheet = placedListing (costsIn sheet) (tasksIn sheet) (placedOf sheet)
 
 -- ---- reading, then the walk, then the listing
 
