@@ -26,6 +26,7 @@
 --   packing-one, walk-order         it is the only order that is so, and the walk goes over the tasks in it
 --   walk-promised                   what a walk that ends well placed: every task, budgets and windows adding up, on the machine's cores, every core passing
 --   sheet-sane, sheet-walks         what a sheet says breaks no rule of a state, and where a listing is written the walk over it ends well
+--   sheet-promised                  and placed so
 --   told-apart                      sheets with one listing place the same names alike
 --   plan-made                       a plan that comes is a held plan, of what was asked for
 --   held-promised, held-ones        a held plan's walk placed so, and the number of tasks on a core is that of its pieces
@@ -59,12 +60,13 @@
 --   formed            name-formed
 --
 -- Assumes nothing.
-use mathlib.Core.Path.{_≡_}
+use mathlib.Core.Path.{_≡_, ap, _∙_, subst}
 use mathlib.Core.Bool.{true}
 use mathlib.Core.Logic.{_↔_, _⊎_}
 use mathlib.Core.List.{List, [], _∷_, _++_}
 use Prim.Native.Nat.{ℕ, suc, _+_, _*_, _^_, _<_}
 use lib.ListN.{length, take, drop}
+use lib.Seq.{take-length}
 use Rattle.demand.specs.declared.Piece.{Piece}
 use Rattle.demand.specs.declared.Costs.{Costs}
 use Rattle.demand.specs.declared.Refusal.{Refusal}
@@ -123,7 +125,7 @@ use Rattle.spardimple.proofs.NumberLaws.{one-number as one-number-each}
 use Rattle.spardimple.proofs.RefusalLaws.{verdict-refused as told-verdict, verdict-comes as some-verdict, edit-refused-exactly, edit-accepted}
 use Rattle.spardimple.proofs.RefusalLaws.{listing-refused as told-listing, listing-taken as taken-listing, listing-comes as some-listing}
 use Rattle.spardimple.proofs.RefusalLaws.{no-room as told-seven, buffer-kept, buffer-listed, sheet-sane as state-sane, sheet-walks as state-walks}
-use Rattle.spardimple.proofs.RefusalLaws.{told-apart as entries-apart}
+use Rattle.spardimple.proofs.RefusalLaws.{sheet-read as kept-read, told-apart as lines-apart}
 use Rattle.spardimple.proofs.JudgedLaws.{run-passes, run-overloaded, run-undecided, run-split, verdict-passes, verdict-overloaded, verdict-undecided}
 use Rattle.spardimple.proofs.HeldPlans.{walk-order as in-packing-order, cores-bounded, held-ones as ones-held, plan-made as made-held, edit-yields as yields-held}
 
@@ -232,7 +234,7 @@ sheet-walks = state-walks
 
 pub told-apart : (sheet sheet′ : List ℕ) (room room′ : ℕ) → Kept (sheetTable sheet room) → Kept (sheetTable sheet′ room′) → textOf sheet ≡ textOf sheet′
     → placedLines (costsIn sheet) (tasksIn sheet) (placedOf sheet) ≡ placedLines (costsIn sheet′) (tasksIn sheet′) (placedOf sheet′)
-told-apart = entries-apart
+told-apart = lines-apart
 
 pub packing : (ts : List Task) → Rearranged (length ts) (packed ts)
 packing = packing-order
@@ -267,6 +269,17 @@ walk-promised m c n ts sane s l so =
       cores = cores-bounded m c n ts good s l so;
       within = plan-counts m c n ts good s l so .cores;
     }
+
+-- so of a sheet whose listing is written: `textOf` prints what its walk placed
+pub sheet-promised : (sheet : List ℕ) (room : ℕ) → Kept (sheetTable sheet room) → Promised (machineIn sheet) (costsIn sheet) (tasksIn sheet) (placedOf sheet)
+sheet-promised sheet room kept =
+    let m = machineIn sheet in
+    let c = costsIn sheet in
+    let ts = tasksIn sheet in
+    let all = take-length ts in
+    let ends = sheet-walks sheet room kept in
+    subst (λ (us : List Task). Promised m c us (placedOf sheet)) all
+    (walk-promised m c (length ts) ts (sheet-sane sheet (kept-read sheet room kept)) (ends .0) (placedOf sheet) (ap (walked m c) all ∙ ends .1))
 
 pub plan-made : (m : Machine) (c : Costs) (n : ℕ) (ts : List Task) → planOf m c n ts .number ≡ 0
     → Held (planOf m c n ts .plan) × (planOf m c n ts .plan .machine ≡ m) × (planOf m c n ts .plan .costs ≡ c) × (tasksHeld (planOf m c n ts .plan) ≡ take n ts)

@@ -289,6 +289,9 @@ module _ (sheet : List ℕ) (room : ℕ) where
       (λ whole s at walks so. (whole, s, at))
       (listing-accepted .1 kept)
 
+  pub sheet-read : Kept (sheetTable sheet room) → Kept (readTable sheet)
+  sheet-read kept = read-kept sheet .0 (sheet-ends kept .0)
+
   pub sheet-walks : Kept (sheetTable sheet room) → (s : Stand) × (walkIn sheet ≡ fine s (placedOf sheet))
   sheet-walks kept = let ends = sheet-ends kept in (ends .1, ends .2)
 
