@@ -3,7 +3,7 @@
 --   noCosts              all nine are 0
 --   charge c p           C', the charged time                      000, equations 7 and 9 and the one for the last subtask
 --   ipiCost c p          what each IPI costs p: IpiO for a piece that came from elsewhere, else 0
---   charged c p          all that is looked at from here on: no later definition asks for a kind
+--   charged c p          all that demand, busy length and verdict look at: they ask for no kind
 --   coreOf c ps          the charged pieces of a core
 use mathlib.Core.Bool.{cond}
 use mathlib.Core.List.{List, map}

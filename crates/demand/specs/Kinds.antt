@@ -5,7 +5,7 @@
 --   arrives k            it came from elsewhere
 --   kindNumber k         the number of a kind
 --   kindMost             the greatest number of a kind: another kind is outside the sizes
---   kindOf n             the kind of a number; past that there is none, and who reads numbers from outside turns them away before
+--   kindOf n             the kind of a number; a greater one is taken for a last piece, and who reads numbers from outside turns it away before
 use mathlib.Core.Bool.{Bool, true, false, cond}
 use Prim.Native.Nat.{ℕ}
 use lib.Dec.{eqb}

@@ -143,7 +143,7 @@ settled-accepted s r = by (eqb (r .number) 0) refl
     by false e number = absurd (eqb-false (r .number) 0 e number)
 
 pub edit-planned : (e : TaskEdit) (s : Plan) → editOf e s .number ≡ 0
-    → planOf (s .machine) (s .costs) (length (edited byName e (tasksHeld s))) (edited byName e (tasksHeld s)) ≡ accepted (editOf e s .plan)
+    → editOf e s ≡ planOf (s .machine) (s .costs) (length (edited byName e (tasksHeld s))) (edited byName e (tasksHeld s))
 unfolding editOf
 edit-planned e s number =
     let ts = edited byName e (tasksHeld s) in
@@ -153,10 +153,7 @@ edit-planned e s number =
     let one : editOf e s ≡ own = back-accepted state s own number in
     let two : own ≡ replanned s ts =
     back-accepted (editFault e (tasksHeld s)) s (replanned s ts) (ap (λ (r : Reply). r .number) (sym one) ∙ number) in
-    let three : replanned s ts ≡ planned = settled-accepted s planned (ap (λ (r : Reply). r .number) (sym (one ∙ two)) ∙ number) in
-    let all : editOf e s ≡ planned = one ∙ (two ∙ three) in
-    let made = plan-made (s .machine) (s .costs) ts (ap (λ (r : Reply). r .number) (sym all) ∙ number) in
-    made .1 ∙ ap (λ (r : Reply). accepted (r .plan)) (sym (all ∙ made .1))
+    one ∙ (two ∙ settled-accepted s planned (ap (λ (r : Reply). r .number) (sym (one ∙ two)) ∙ number))
 
 pub edit-back : (e : TaskEdit) (s : Plan) → (editOf e s .number ≡ 0 → ⊥) → editOf e s .plan ≡ s
 edit-back e s some = by (edit-answered e s)

@@ -1,7 +1,7 @@
 -- Text as bytes, and what a writer leaves in a lent buffer: document 01, "Sheet".
 --
---   endedBy b f             the bytes f, endedBy by the byte b
---   textLine fs             the fields fs, parted by tabs, endedBy by a newline
+--   endedBy b f             the bytes f, ended by the byte b
+--   textLine fs             the fields fs, parted by tabs, ended by a newline
 --   decimal n             the digits of n, as far as 64 bits go
 --   Wrote old at vs r new vs is written from the place `at` on, as far as the buffer goes, and r is the place behind it
 --   over text old         what a buffer holds after a text: the text and then what it held, or what it held where it is too short

@@ -4,7 +4,7 @@
 --   judge, judge_records, judge_lent    answer answerOf costs n records; split_records answers splitOf
 --   plan_listing(sheet, listing)    answers listingNumber sheet room, in a buffer of so many bytes, and the buffer, which held old, then holds
 --                                   listingLeft sheet old
---   plan_tasks                      answers planOf m c n ts, for the first n of the tasks ts
+--   plan_tasks                      answers planOf m c n ts, for the first n of the tasks ts; write_listing lists a plan s as listingOf s
 --   add, withdraw, retime           answer editOf e s, from any state s
 --
 -- Each of these is an equation for any input, with nothing asked of the caller: so one input has one answer, and one content for what was lent.
@@ -20,6 +20,7 @@
 --   written-buffer                  a listing that is written stands at the front of the buffer, and the bytes beyond stay
 -- Demand 2, verdict and plan:
 --   passes, overloaded, undecided   each verdict comes exactly where no rule is broken and its meaning holds; `-told`: on lent bytes, by the number given back
+--   overloaded-shows                an overloaded length is one at which a job is due, and asks for more than itself
 --   split                           and so does a split
 --   verdict-means, split-means      the verdict and the split that the walk goes by are those that are meant
 --   packing, packing-ranked         the packing order has each task once, greater C/D first, ties by earlier task
@@ -28,15 +29,17 @@
 --   sheet-sane, sheet-walks         what a sheet says breaks no rule of a state, and where a listing is written the walk over it ends well
 --   sheet-promised                  and placed so
 --   told-apart                      sheets with one listing place the same names alike
---   plan-made                       a plan that comes is a held plan, of what was asked for
+--   plan-made, plan-counted         a plan that comes is a held plan, of what was asked for, and counts its tasks and pieces
+--   plan-listed                     and its listing is that of what the walk placed
+--   plan-none                       with a refusal comes no plan: one that holds nothing, the same for all
 --   held-promised, held-ones        a held plan's walk placed so, and the number of tasks on a core is that of its pieces
 -- Demand 3, edits:
 --   begun-held                      a plan worked out afresh is a held plan
 --   after-any, after-any-afresh     after any sequence of edits a held plan is held; one worked out afresh equals the one worked out from the tasks then held
 --   edit-yields                     an accepted edit yields a held plan, of the same machine and costs, and of the tasks that it should
---   edit-afresh                     and it is the plan that is answered for these, whatever the rest of the state was
+--   edit-afresh                     and it is answered what plan_tasks answers for these, whatever the rest of the state was
 --   edit-looks-at                   an edit relies on machine, costs and task list alone
---   kept-before                     an accepted edit of a held plan keeps the pieces of each task before the edited one in both packing orders
+--   kept-before                     an accepted edit of a held plan keeps the pieces of each task before the edited one in each packing order, old and new, that holds it
 --   kept-after                      and where at a later task the two walks stand at the same core with the same row, of that task and all later ones
 -- What the tests tell that definitions go by:
 --   verdict-passing, costs-sized, names-equal, bytes-equal, name-formed
@@ -47,8 +50,9 @@
 --   splitOf           split-refused, split
 --   listingNumber     listing-comes, listing-refused, listing-taken
 --   listingLeft       refused-buffer, written-buffer
---   planOf            plan-refused, plan-taken, plan-made
---   editOf            edit-refused, edit-taken, refused-state, edit-yields, edit-afresh
+--   planOf            plan-refused, plan-taken, plan-none, plan-made, plan-counted
+--   editOf            edit-refused, edit-taken, refused-state, edit-afresh
+--   listingOf         plan-listed
 --   verdictOf         verdict-means
 --   greatestSplit     split-means
 --   packed            packing, packing-ranked, packing-one
@@ -77,13 +81,14 @@ use Rattle.demand.specs.declared.Verdict.the-variants.{Passes, Overloaded, Unde
 use Rattle.demand.specs.declared.Answer.the-variants.{Judged, Refused}
 use Rattle.demand.specs.Sizes.{SizedCosts, sizedCosts, Each}
 use Rattle.demand.specs.Charge.{coreOf, stall}
+use Rattle.demand.specs.Demand.{demand, Live}
 use Rattle.demand.specs.Verdict.{Means, Bounded, KeepsUp, verdictOf}
 use Rattle.demand.specs.Split.{Splits, greatestSplit, passes as passing}
 use Rattle.demand.specs.Answer.{answerOf, splitOf}
 use Rattle.demand.specs.Tables.{Not, Gives, Kept}
 use Rattle.demand.specs.Refusals.{recordTable, Refuses}
 use Rattle.demand.proofs.SizeLaws.{costs-exact}
-use Rattle.demand.proofs.Judgement.{verdict-exact}
+use Rattle.demand.proofs.Judgement.{verdict-exact, overloaded-live}
 use Rattle.demand.proofs.SplitLaws.{passes-exact, split-exact}
 use Rattle.demand.proofs.RefusalLaws.{answer-refused, split-refused as split-denied}
 use Rattle.task.specs.declared.Name.{Name}
@@ -110,7 +115,8 @@ use Rattle.plan.proofs.Theorems.{packing-order, packing-ranked as ranked, packi
 use Rattle.plan.proofs.Theorems.{all-placed, budgets-add, windows-add, plan-counts}
 use Rattle.plan.proofs.RefusalLaws.{plan-refused as told-plan, plan-kept}
 use Rattle.sheet.specs.Refusals.{readTable}
-use Rattle.listing.specs.Placed.{placedLines}
+use Rattle.listing.specs.Listing.{listingOf}
+use Rattle.listing.specs.Placed.{placedLines, placedListing}
 use Rattle.edits.specs.Edits.{byName, TaskEdit, tasksHeld, editOf, accepted, Afresh, Held, played}
 use Rattle.edits.specs.Refusals.{editTable}
 use Rattle.edits.specs.Kept.{inOrder, Keeps, editedName, Ahead}
@@ -127,6 +133,7 @@ use Rattle.spardimple.proofs.RefusalLaws.{listing-refused as told-listi
 use Rattle.spardimple.proofs.RefusalLaws.{no-room as told-seven, buffer-kept, buffer-listed, sheet-sane as state-sane, sheet-walks as state-walks}
 use Rattle.spardimple.proofs.RefusalLaws.{sheet-read as kept-read, told-apart as lines-apart}
 use Rattle.spardimple.proofs.JudgedLaws.{run-passes, run-overloaded, run-undecided, run-split, verdict-passes, verdict-overloaded, verdict-undecided}
+use Rattle.spardimple.proofs.HeldPlans.{plan-none as nothing-planned, plan-counted as counts-planned, plan-listed as listed-planned}
 use Rattle.spardimple.proofs.HeldPlans.{walk-order as in-packing-order, cores-bounded, held-ones as ones-held, plan-made as made-held, edit-yields as yields-held}
 
 -- ---- demand 1: each input answered
@@ -221,6 +228,10 @@ module _ (rs cs : List ℕ) where
 pub verdict-means : (c : Costs) (ps : List Piece) (v : Verdict) → (verdictOf c ps ≡ v) ↔ Means (stall c) (coreOf c ps) v
 verdict-means = verdict-exact
 
+pub overloaded-shows : (c : Costs) (ps : List Piece) (t : ℕ) → Means (stall c) (coreOf c ps) (Overloaded t)
+    → Live (coreOf c ps) t × (t < demand (stall c) (coreOf c ps) t)
+overloaded-shows c ps t means = overloaded-live c ps t (verdict-exact c ps (Overloaded t) .1 means)
+
 pub split-means : (c : Costs) (g : ℕ) (ps : List Piece) (p : Piece) (s : Split) → (greatestSplit c g ps p ≡ s) ↔ Splits c g ps p s
 split-means = split-exact
 
@@ -285,6 +296,21 @@ pub plan-made : (m : Machine) (c : Costs) (n : ℕ) (ts : List Task) → planOf 
     → Held (planOf m c n ts .plan) × (planOf m c n ts .plan .machine ≡ m) × (planOf m c n ts .plan .costs ≡ c) × (tasksHeld (planOf m c n ts .plan) ≡ take n ts)
 plan-made = made-held
 
+-- and with a refusal comes no plan: one that holds nothing and is the same for all
+pub plan-none : (m : Machine) (c : Costs) (n : ℕ) (ts : List Task) → Not (planOf m c n ts .number ≡ 0)
+    → (planOf m c n ts .plan .tasks .count ≡ 0) × (planOf m c n ts .plan .layout .count ≡ 0)
+    × ((m′ : Machine) (c′ : Costs) (n′ : ℕ) (ts′ : List Task) → Not (planOf m′ c′ n′ ts′ .number ≡ 0) → planOf m c n ts .plan ≡ planOf m′ c′ n′ ts′ .plan)
+plan-none = nothing-planned
+
+pub plan-counted : (m : Machine) (c : Costs) (n : ℕ) (ts : List Task) → Kept (stateTable m c n ts) → (s : Stand) (l : List (Placed ℕ))
+    → walked m c (take n ts) ≡ fine s l
+    → (planOf m c n ts .carries ≡ 0) × (planOf m c n ts .plan .tasks .count ≡ length (take n ts)) × (planOf m c n ts .plan .layout .count ≡ length l)
+plan-counted = counts-planned
+
+pub plan-listed : (m : Machine) (c : Costs) (n : ℕ) (ts : List Task) → Kept (stateTable m c n ts) → (s : Stand) (l : List (Placed ℕ))
+    → walked m c (take n ts) ≡ fine s l → listingOf (planOf m c n ts .plan) ≡ placedListing c (take n ts) l
+plan-listed = listed-planned
+
 -- a state is a held plan when its rows and words are exactly those of the walk over its own machine, costs and task list; so it has what the walk promises
 pub held-promised : (s : Plan) (held : Held s) → Promised (s .machine) (s .costs) (tasksHeld s) (held .log)
 held-promised s held =
@@ -314,7 +340,7 @@ pub edit-yields : (e : TaskEdit) (s : Plan) → editOf e s .number ≡ 0
 edit-yields = yields-held
 
 pub edit-afresh : (e : TaskEdit) (s : Plan) → editOf e s .number ≡ 0
-    → planOf (s .machine) (s .costs) (length (edited byName e (tasksHeld s))) (edited byName e (tasksHeld s)) ≡ accepted (editOf e s .plan)
+    → editOf e s ≡ planOf (s .machine) (s .costs) (length (edited byName e (tasksHeld s))) (edited byName e (tasksHeld s))
 edit-afresh = edit-planned
 
 pub edit-looks-at : (e : TaskEdit) (s t : Plan) → s .machine ≡ t .machine → s .costs ≡ t .costs → tasksHeld s ≡ tasksHeld t
