@@ -1,4 +1,5 @@
 // The run examples of document 01, one line a case, through the proved code; `stdout` beside `src` is what must come out.
+mod lent;
 mod plans;
 mod print;
 mod runs;
@@ -7,11 +8,13 @@ mod states;
 
 use demand::Kind;
 use demand::records_of;
+use lent::LENT_MOST;
 use plans::many;
 use plans::pair;
 use plans::show_plan;
 use print::show_busy;
 use print::show_demand;
+use print::show_lent;
 use print::show_records;
 use print::show_split;
 use print::show_split_beside;
@@ -97,7 +100,7 @@ fn refusals() {
 }
 
 // Records that are lent as numbers, of which the eighth is the second one's kind.
-fn lent() {
+fn lent_numbers() {
     let mut records = records_of(with(with(empty(), whole(1, 2, 4)), whole(1, 2, 4)));
     show_records(b"two whole pieces", free(), &records, 2);
     records[7] = 2;
@@ -120,6 +123,42 @@ fn lent() {
         1,
         whole(3, 4, 4),
         1,
+    );
+}
+
+// Records that are lent as structs: K1 to K4 and K7 once more, as many as a run may have, and what is refused: 3, 2, 6.
+fn lent_structs() {
+    let mut records = [whole(1, 1, 1); LENT_MOST];
+    show_lent(b"K1, lent", free(), records, 0);
+    show_lent(b"K2, lent", free(), records, 1);
+    records[0] = whole(5, 5, 10);
+    records[1] = whole(5, 5, 10);
+    show_lent(b"K3, lent", free(), records, 2);
+    records[0] = whole(6, 10, 10);
+    records[1] = whole(6, 10, 10);
+    show_lent(b"K4, lent", free(), records, 2);
+    records[0] = whole(8, 10, 50);
+    records[1] = whole(1, 12, 50);
+    show_lent(b"K7, lent", costs(0, 0, 0, 4, 0, 0), records, 2);
+    records[1] = whole(2, 1, 1);
+    show_lent(b"second record, lent", free(), records, 2);
+    show_lent(
+        b"bad constant, lent",
+        costs(0, 0, 0, 100001, 0, 0),
+        records,
+        2,
+    );
+    show_lent(
+        b"79 records, lent",
+        free(),
+        [whole(1, 79, 79); LENT_MOST],
+        79,
+    );
+    show_lent(
+        b"80 records, lent",
+        costs(0, 0, 0, 100001, 0, 0),
+        records,
+        80,
     );
 }
 
@@ -161,7 +200,8 @@ fn main() {
     figures();
     table_four();
     refusals();
-    lent();
+    lent_numbers();
+    lent_structs();
     splits();
     whole_plans();
     states_by_hand();

@@ -1,4 +1,6 @@
 // One line a case: its name, a tab, and the answer.
+use crate::lent::LENT_MOST;
+use crate::lent::judge_first;
 use demand::Answer;
 use demand::Costs;
 use demand::Figure;
@@ -11,6 +13,7 @@ use demand::Split;
 use demand::Splitting;
 use demand::Verdict;
 use libc::STDOUT_FILENO;
+ghost use Prim.Native.Nat.{_≤_};
 
 pub fn name(text: &[u8]) {
     io::write_all(STDOUT_FILENO, text);
@@ -99,6 +102,14 @@ pub fn show_verdict(case: &[u8], costs: Costs, run: Run) {
 pub fn show_records(case: &[u8], costs: Costs, records: &[u64; RUN_NUMBERS], n: usize) {
     name(case);
     answer(verdicts::judge_records(costs, records, n));
+}
+
+// The same of the first n records that are lent as structs.
+pub fn show_lent(case: &[u8], costs: Costs, records: [Piece; LENT_MOST], n: usize)
+    requires { ⌜ n ≤ 80 ⌝ }
+{
+    name(case);
+    answer(judge_first(costs, records, n));
 }
 
 pub fn show_busy(case: &[u8], costs: Costs, run: Run) {
