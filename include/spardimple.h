@@ -1,0 +1,61 @@
+/* Spardimple: a proved planner for multicore controllers, as two C functions. Link with libspardimple.a (x86-64 Linux).
+ *
+ * An answer is one number, 2^32 * which + carries; no two answers share a number. `spardimple_which` and `spardimple_carries` take it apart:
+ *
+ *   which     verdict                        plan_listing                            carries
+ *   0         every deadline is met          the listing is written                  0; the listing's length in bytes
+ *   1         overloaded                     -                                       a length of time in which more is asked for than it has
+ *   2         undecided                      -                                       0
+ *   100 + N   refusal N                      refusal N                               see below
+ *
+ *   N    given where                                                                 carries, verdict    carries, plan_listing
+ *   1    cores or grain are outside their size                                       -                   the line
+ *   2    a cost constant is outside its size                                         0                   the line
+ *   3    a time or a cache charge is outside its size, or 1 <= C <= D <= T broken    the record, from 1  the line
+ *   4    a second part, or a second task, of that name                               -                   the line
+ *   5    no such part above                                                          -                   the line
+ *   6    a 65th part or task; an 80th record                                         0                   the line
+ *   7    the walk finds no room                                                      -                   the task, from 1
+ *   8    a line, name or number breaks its form; the 28-byte or 36-byte rule         0                   the line
+ *   9    the sheet is over 16,384 bytes                                              -                   0
+ *   10   the buffer is shorter than the listing                                      -                   the length needed
+ *
+ * What is asked of pointers: each names as many bytes as its length says, which may be read, and those of `listing` be written; none is null, also where
+ * its length is 0; `listing` does not overlap `sheet`. Nothing is asked of what the bytes hold. Nothing is kept after the call, nothing is allocated,
+ * and there is no state: the functions may be called from several threads at once.
+ */
+#ifndef SPARDIMPLE_H
+#define SPARDIMPLE_H
+
+#include <stddef.h>
+#include <stdint.h>
+
+#ifdef __cplusplus
+extern "C" {
+#endif
+
+enum {
+    SPARDIMPLE_PASSES = 0,
+    SPARDIMPLE_WRITTEN = 0,
+    SPARDIMPLE_OVERLOADED = 1,
+    SPARDIMPLE_UNDECIDED = 2,
+    SPARDIMPLE_REFUSED = 100 /* and the refusal's number */
+};
+
+static inline uint32_t spardimple_which(uint64_t answer) { return (uint32_t)(answer >> 32); }
+
+static inline uint32_t spardimple_carries(uint64_t answer) { return (uint32_t)answer; }
+
+/* Whether one core meets its deadlines. `records` has 28 bytes a piece, at most 79 of them: kind (0 whole, 1 first, 2 last), budget, window, period,
+ * jitter, preemption and migration charge; `costs` has 36 bytes: RelO, SchedO, TsetO, IpB, BetO, MigrO, IpiO, IpiJ, pi. A number has four bytes,
+ * lowest first. */
+uint64_t verdict(const uint8_t *records, size_t records_len, const uint8_t *costs, size_t costs_len);
+
+/* Plans a timing sheet and writes its listing to the front of `listing`; the bytes beyond it stay. A refusal writes no byte. */
+uint64_t plan_listing(const uint8_t *sheet, size_t sheet_len, uint8_t *listing, size_t listing_len);
+
+#ifdef __cplusplus
+}
+#endif
+
+#endif
