@@ -20,7 +20,8 @@ fn a_c_program_calls_the_library_by_its_header() {
         .unwrap_or_else(|_| "cc".to_owned());
     let program = folder("header").join("calls");
     let compiled = Command::new(compiler)
-        .args(["-std=c99", "-Wall", "-Wextra", "-pedantic", "-Werror", "-static"])
+        .args(["-std=c99", "-Wall", "-Wextra", "-pedantic", "-Werror"])
+        .arg("-static")
         .args(["-I", &format!("{package}/../include")])
         .arg(format!("{package}/tests/c/calls.c"))
         .arg(archive)
