@@ -95,7 +95,9 @@ fn the_tour_can_be_gone() {
             println!("no desk program here: left out");
             continue;
         }
-        let words = line.replace(" --setup", "").replace("./spardimple", &program);
+        let words = line
+            .replace(" --setup", "")
+            .replace("./spardimple", &program);
         let gone = Command::new("bash")
             .args(["-c", &words])
             .current_dir(&folder)
