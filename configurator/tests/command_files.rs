@@ -5,10 +5,11 @@
 
 mod common;
 
-use common::command::{file, folder, names, program, spardimple, spardimple_fed, text};
+use common::command::{file, folder, names, program, root, spardimple, spardimple_fed, text};
 use inputs::sheets::{LISTING, SHEET};
 use std::ffi::OsStr;
 use std::fs::{self, File, Permissions};
+use std::io::{BufRead, BufReader, Write};
 use std::net::Shutdown;
 use std::os::unix::ffi::OsStrExt;
 use std::os::unix::fs::{symlink, PermissionsExt};
@@ -16,6 +17,8 @@ use std::os::unix::io::OwnedFd;
 use std::os::unix::net::UnixStream;
 use std::path::Path;
 use std::process::{Output, Stdio};
+use std::thread::sleep;
+use std::time::Duration;
 
 #[test]
 fn standard_input() {
@@ -27,11 +30,7 @@ fn standard_input() {
     let refused = spardimple_fed(&["plan", "-"], b"");
     assert_eq!(refused.status.code(), Some(1));
     assert!(text(&refused.stderr).starts_with("standard input:1: refused (8)"));
-    let records = fs::read(format!(
-        "{}/../examples/film-core.rec",
-        env!("CARGO_MANIFEST_DIR")
-    ))
-    .unwrap();
+    let records = fs::read(root("examples/film-core.rec")).unwrap();
     let judged = spardimple_fed(&["verdict", "-", "examples/film-core.cost"], &records);
     assert!(text(&judged.stdout).starts_with("passes"));
 }
@@ -144,24 +143,61 @@ fn bytes_that_are_no_text() {
     assert!(page.contains("drv-a\\xff&lt;b&gt;") && !page.contains("<b>"));
 }
 
-/// A reader that is gone, or a full disk, is a failure that is told; nothing panics.
+/// Whatever is printed, output that is lost ends with 3. A full disk is told, and so is output that
+/// cannot be written at all; a reader that is gone is not. Nothing panics.
 #[test]
-fn closed_pipes() {
+fn lost_output() {
+    let sheet = "examples/film-line.sheet";
     for words in [
-        &["plan", "examples/film-line.sheet"][..],
-        &["show", "examples/film-line.sheet"],
-        &["report", "examples/film-line.sheet"],
-        &["batch", "examples"],
+        &["plan", sheet][..],
+        &["plan", sheet, "-o", "-"],
+        &["plan", sheet, "--json"],
+        &[
+            "verdict",
+            "examples/film-core.rec",
+            "examples/film-core.cost",
+        ],
+        &["verdict", "--table", "examples/film-core.table"],
+        &["show", sheet],
+        &["report", sheet],
+        &["desk", sheet],
         &["completions", "bash"],
-        &["--help"],
+        &["man"],
+        &["plan", "--help"],
+        &["--version"],
+    ] {
+        let ended = |output: Stdio| {
+            let edits = File::open(root("examples/film-line.edits")).unwrap();
+            let mut program = program();
+            let ended = program.args(words).stdin(edits).stdout(output).output();
+            let ended = ended.unwrap();
+            assert_eq!(ended.status.code(), Some(3), "{words:?}");
+            text(&ended.stderr)
+        };
+        assert_eq!(ended(closed()), "", "{words:?}");
+        let full = File::options().write(true).open("/dev/full").unwrap();
+        let space = "standard output: No space left on device (os error 28)\n";
+        assert_eq!(ended(full.into()), space, "{words:?}");
+        let unwritable = File::open("/dev/null").unwrap();
+        let bad = "standard output: Bad file descriptor (os error 9)\n";
+        assert_eq!(ended(unwritable.into()), bad, "{words:?}");
+    }
+    // what a refusal prints is output too; its message stands alone
+    for words in [
+        &["plan", "--json", "examples/film-line-mistyped.sheet"][..],
+        &["report", "examples/film-line-mistyped.sheet"],
+        &["desk", "examples/film-line-mistyped.sheet"],
+        &["batch", "examples"],
     ] {
         let ended = program().args(words).stdout(closed()).output().unwrap();
         assert_eq!(ended.status.code(), Some(3), "{words:?}");
         let said = text(&ended.stderr);
-        assert!(said.contains("standard output: Broken pipe"), "{said}");
+        assert!(!said.contains("standard output"), "{said}");
         let full = File::options().write(true).open("/dev/full").unwrap();
         let ended = program().args(words).stdout(full).output().unwrap();
         assert_eq!(ended.status.code(), Some(3), "{words:?}");
+        let said = text(&ended.stderr);
+        assert!(said.ends_with("(os error 28)\n"), "{said}");
     }
     let quiet = program()
         .args(["plan", "examples/film-line-mistyped.sheet"])
@@ -169,6 +205,49 @@ fn closed_pipes() {
         .output()
         .unwrap();
     assert_eq!(quiet.status.code(), Some(1));
+}
+
+/// The desk answers an edit before the next one comes. When its answers are lost it ends, though edits
+/// may still come.
+#[test]
+fn the_desk_answers_at_once() {
+    let desk = |output: Stdio| {
+        let mut desk = program()
+            .args(["desk", "examples/film-line.sheet"])
+            .stdin(Stdio::piped())
+            .stdout(output)
+            .stderr(Stdio::piped())
+            .spawn()
+            .unwrap();
+        let mut edits = desk.stdin.take().unwrap();
+        edits.write_all(b"list\n").unwrap();
+        (desk, edits)
+    };
+    let (mut played, mut edits) = desk(Stdio::piped());
+    let mut answers = BufReader::new(played.stdout.take().unwrap()).lines();
+    for line in file("examples/film-line.listing").lines() {
+        assert_eq!(answers.next().unwrap().unwrap(), line);
+    }
+    edits.write_all(b"withdraw\tpanel\n").unwrap();
+    assert_eq!(answers.next().unwrap().unwrap(), "ok");
+    drop(edits);
+    assert!(answers.next().is_none());
+    assert_eq!(played.wait().unwrap().code(), Some(0));
+
+    let full = File::options().write(true).open("/dev/full").unwrap();
+    for (output, said) in [(full.into(), "standard output: No space"), (closed(), "")] {
+        let (mut lost, edits) = desk(output);
+        let ended = (0..6_000).any(|_| {
+            sleep(Duration::from_millis(10));
+            lost.try_wait().unwrap().is_some()
+        });
+        drop(edits);
+        assert!(ended, "the desk waits for edits");
+        let lost = lost.wait_with_output().unwrap();
+        assert_eq!(lost.status.code(), Some(3));
+        assert!(text(&lost.stderr).starts_with(said));
+        assert_eq!(lost.stderr.is_empty(), said.is_empty());
+    }
 }
 
 /// A stream whose reader is gone. It is shut down and not only dropped: a process that another test

@@ -109,14 +109,14 @@ fn all(sheets: &[PathBuf], out: Option<&Path>, streams: &mut Streams) -> Vec<Out
 
 /// What becomes of one sheet.
 fn one(path: &Path, out: Option<&Path>) -> Outcome {
-    attempt(path, out).unwrap_or_else(|Failure(why)| Outcome {
+    attempt(path, out).unwrap_or_else(|failure| Outcome {
         status: Status::Failed,
         fields: [
             "not read or written".to_owned(),
             String::new(),
             String::new(),
         ],
-        said: Some(why),
+        said: failure.why,
     })
 }
 

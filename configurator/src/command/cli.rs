@@ -89,7 +89,8 @@ Exit status:
   0  accepted: planned, or judged, whatever the verdict
   1  refused: the message has the number, the line and what to do
   2  wrong use
-  3  a file could not be read or written";
+  3  a file could not be read or written, or standard output could not; the message has the cause.
+     There is no message if the reader of a pipe has gone, as in `spardimple man | head -1`";
 
 /// The description of the arguments.
 #[must_use]

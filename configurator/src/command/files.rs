@@ -2,10 +2,12 @@
 //! all. Names may be any bytes that the system allows.
 
 use super::Failure;
+use crate::ffi::close;
 use crate::text;
 use std::fs::{self, File};
 use std::io::{self, Read, Write};
 use std::os::unix::ffi::OsStrExt;
+use std::os::unix::io::AsFd;
 use std::path::Path;
 use tempfile::Builder;
 
@@ -60,7 +62,7 @@ pub fn records(path: &Path) -> Result<Vec<u8>, Failure> {
     let mut file = open(path)?;
     let most = (RECORDS_MOST + 1) * RECORD;
     let mut bytes = Vec::new();
-    file.by_ref()
+    Read::by_ref(&mut file)
         .take(most as u64)
         .read_to_end(&mut bytes)
         .map_err(failed)?;
@@ -88,12 +90,26 @@ fn beginning(path: &Path, most: usize) -> Result<Vec<u8>, Failure> {
     Ok(bytes)
 }
 
-fn open(path: &Path) -> Result<Box<dyn Read>, Failure> {
-    if is_stdin(path) {
-        return Ok(Box::new(io::stdin()));
-    }
-    let file = File::open(path).map_err(|error| Failure::of(path, &error))?;
-    Ok(Box::new(file))
+fn open(path: &Path) -> Result<File, Failure> {
+    let opened = if is_stdin(path) {
+        io::stdin().as_fd().try_clone_to_owned().map(File::from)
+    } else {
+        File::open(path)
+    };
+    opened.map_err(|error| Failure::of(path, &error))
+}
+
+/// Standard output, as a file. (Rust's own standard output is silent about one that cannot be
+/// written to at all.)
+///
+/// # Errors
+///
+/// The process may open no more files.
+pub fn output() -> Result<File, Failure> {
+    let opened = io::stdout().as_fd().try_clone_to_owned();
+    opened
+        .map(File::from)
+        .map_err(|error| Failure::of_output(&error))
 }
 
 fn is_stdin(path: &Path) -> bool {
@@ -114,7 +130,12 @@ pub fn write(path: &Path, bytes: &[u8]) -> Result<(), Failure> {
     let target = fs::canonicalize(path).unwrap_or_else(|_| path.to_owned());
     let there = fs::metadata(&target).ok();
     if there.as_ref().map_or(false, |there| !there.is_file()) {
-        return fs::write(&target, bytes).map_err(failed);
+        return File::create(&target)
+            .and_then(|mut file| {
+                file.write_all(bytes)?;
+                close(file)
+            })
+            .map_err(failed);
     }
     let (folder, name) = (target.parent().zip(target.file_name()))
         .ok_or_else(|| Failure::new(format!("{}: this is no file's name", shown(path))))?;
@@ -129,7 +150,8 @@ pub fn write(path: &Path, bytes: &[u8]) -> Result<(), Failure> {
             if let Some(there) = there {
                 file.set_permissions(there.permissions())?;
             }
-            file.sync_all()
+            file.sync_all()?;
+            close(file)
         })
         .and_then(|()| fs::rename(&part, &target))
         .map_err(failed)
