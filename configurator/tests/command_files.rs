@@ -348,3 +348,126 @@ fn failed_output_is_told() {
     }
     assert_eq!(names(&folder), ["file"]);
 }
+
+/// An output that is the sheet, by whichever name, is wrong use. Nothing is written, whether the sheet
+/// would be planned or refused.
+#[test]
+fn the_sheet_is_never_the_output() {
+    let folder = folder("sheet-as-output");
+    let path = folder.join("s.sheet");
+    fs::create_dir(folder.join("sub")).unwrap();
+    for sheet in [SHEET, "no sheet\n"] {
+        for other in ["link", "hard", "link-to-link"] {
+            let _ = fs::remove_file(folder.join(other));
+        }
+        fs::write(&path, sheet).unwrap();
+        fs::hard_link(&path, folder.join("hard")).unwrap();
+        symlink("s.sheet", folder.join("link")).unwrap();
+        symlink("sub/../link", folder.join("link-to-link")).unwrap();
+        let before = names(&folder);
+        let whole = path.to_str().unwrap();
+        for (input, output) in [
+            ("s.sheet", "s.sheet"),
+            ("s.sheet", "./s.sheet"),
+            ("s.sheet", "sub/../s.sheet"),
+            ("s.sheet", whole),
+            (whole, "s.sheet"),
+            ("s.sheet", "link"),
+            ("s.sheet", "link-to-link"),
+            ("link", "s.sheet"),
+            ("s.sheet", "hard"),
+            ("hard", "link"),
+            ("-", "s.sheet"),
+            ("-", "hard"),
+            ("-", "/dev/stdin"),
+            ("/dev/stdin", "link"),
+        ] {
+            for sub in [&["plan"][..], &["plan", "--json"], &["report"]] {
+                let words = [sub, &[input, "-o", output]].concat();
+                let wrong = program()
+                    .args(&words)
+                    .current_dir(&folder)
+                    .stdin(File::open(&path).unwrap())
+                    .output()
+                    .unwrap();
+                assert_eq!(wrong.status.code(), Some(2), "{words:?}");
+                assert!(wrong.stdout.is_empty(), "{words:?}");
+                let name = if input == "-" {
+                    "standard input"
+                } else {
+                    input
+                };
+                assert_eq!(
+                    text(&wrong.stderr),
+                    format!(
+                        "{output}: this would overwrite the input {name}; \
+                         choose another place for the output\n"
+                    )
+                );
+                assert_eq!(fs::read_to_string(&path).unwrap(), sheet, "{words:?}");
+            }
+        }
+        assert_eq!(names(&folder), before);
+    }
+    // a device is no file that is overwritten
+    let both = spardimple(&["plan", "/dev/null", "-o", "/dev/null"]);
+    assert_eq!(both.status.code(), Some(1));
+}
+
+/// Runs `batch` on a folder, with an output folder.
+fn batch(sheets: &Path, out: &Path) -> Output {
+    let words = [
+        "batch".as_ref(),
+        sheets.as_os_str(),
+        "-o".as_ref(),
+        out.as_os_str(),
+    ];
+    spardimple(&words)
+}
+
+/// A batch that would write a listing over one of its sheets is wrong use as a whole: no other listing
+/// is written, and no folder is made.
+#[test]
+fn a_batch_overwrites_none_of_its_sheets() {
+    let (sheets, out) = (folder("batch-sheets"), folder("batch-listings"));
+    let sheet = |name: &str| sheets.join(name);
+    for name in ["a.sheet", "b.sheet"] {
+        fs::write(sheet(name), SHEET).unwrap();
+    }
+    let refused = |out: &Path, written: &Path, input: &str| {
+        let before = names(&sheets);
+        let wrong = batch(&sheets, out);
+        assert_eq!(wrong.status.code(), Some(2), "{written:?}");
+        assert!(wrong.stdout.is_empty());
+        let (written, input) = (written.display(), sheet(input));
+        assert_eq!(
+            text(&wrong.stderr),
+            format!(
+                "{written}: this would overwrite the input {}; \
+                 choose another place for the output\n",
+                input.display()
+            )
+        );
+        assert_eq!(names(&sheets), before);
+        for name in ["a.sheet", "b.sheet"] {
+            assert_eq!(fs::read_to_string(sheet(name)).unwrap(), SHEET);
+        }
+    };
+    refused(&sheet("b.sheet"), &sheet("b.sheet"), "b.sheet");
+    let listing = out.join("b.listing");
+    fs::hard_link(sheet("a.sheet"), &listing).unwrap();
+    refused(&out, &listing, "a.sheet");
+    fs::remove_file(&listing).unwrap();
+    symlink(sheet("b.sheet"), &listing).unwrap();
+    refused(&out, &listing, "b.sheet");
+    assert_eq!(names(&out), ["b.listing"]);
+    // a sheet that is a link to where a listing goes
+    fs::write(sheet("a.listing"), SHEET).unwrap();
+    symlink("a.listing", sheet("c.sheet")).unwrap();
+    refused(&sheets, &sheet("a.listing"), "c.sheet");
+    fs::remove_file(sheet("c.sheet")).unwrap();
+    // beside the sheets there is room
+    assert_eq!(batch(&sheets, &sheets).status.code(), Some(0));
+    let listings = ["a.listing", "a.sheet", "b.listing", "b.sheet"];
+    assert_eq!(names(&sheets), listings);
+}

@@ -85,6 +85,9 @@ A sheet has lines of fields parted by one tab, in this order:
 
 Where a file is read, - stands for standard input.
 
+A file is written whole or not at all. A file that is read is never overwritten, whichever name -o
+has for it: that is wrong use.
+
 Exit status:
   0  accepted: planned, or judged, whatever the verdict
   1  refused: the message has the number, the line and what to do

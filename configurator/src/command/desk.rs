@@ -24,7 +24,7 @@ const EDITS: &str = "edits, one a line, fields parted by one tab; Ctrl-D ends:
 ///
 /// The sheet cannot be read, an answer not be printed, or the program is missing or ends by itself.
 pub fn play(sheet: &Path, streams: &mut Streams) -> Result<Status, Failure> {
-    if sheet == Path::new("-") {
+    if files::is_standard(sheet) {
         streams.say("desk reads edits from standard input, so the sheet has to be a file");
         return Ok(Status::WrongUse);
     }

@@ -4,9 +4,10 @@
 use super::Failure;
 use crate::ffi::close;
 use crate::text;
-use std::fs::{self, File};
+use std::fs::{self, File, Metadata};
 use std::io::{self, Read, Write};
 use std::os::unix::ffi::OsStrExt;
+use std::os::unix::fs::MetadataExt;
 use std::os::unix::io::AsFd;
 use std::path::Path;
 use tempfile::Builder;
@@ -24,7 +25,7 @@ const RECORDS_MOST: usize = 79;
 /// How a file is called in messages; what cannot be seen of its name is written out.
 #[must_use]
 pub fn shown(path: &Path) -> String {
-    if is_stdin(path) {
+    if is_standard(path) {
         "standard input".to_owned()
     } else {
         text::shown(path.as_os_str().as_bytes())
@@ -38,7 +39,41 @@ pub fn shown(path: &Path) -> String {
 ///
 /// The file cannot be read.
 pub fn sheet(path: &Path) -> Result<Vec<u8>, Failure> {
-    beginning(path, SHEET_MOST + 1)
+    beginning(open(path)?, path, SHEET_MOST + 1)
+}
+
+/// A sheet's bytes, where the answer goes into a file.
+///
+/// # Errors
+///
+/// The file cannot be read, or is the one that the answer would overwrite.
+pub fn sheet_for(out: Option<&Path>, path: &Path) -> Result<Vec<u8>, Failure> {
+    let file = open(path)?;
+    if let Some(out) = out.filter(|out| !is_standard(out)) {
+        let there = identity(fs::metadata(out));
+        if there.is_some() && there == identity(file.metadata()) {
+            return Err(overwrites(out, path));
+        }
+    }
+    beginning(file, path, SHEET_MOST + 1)
+}
+
+/// What an ordinary file is known by, whichever of its names led to it: its device and its number
+/// there. Nothing is overwritten in what is no ordinary file, as a terminal.
+#[must_use]
+pub fn identity(there: io::Result<Metadata>) -> Option<(u64, u64)> {
+    let there = there.ok().filter(Metadata::is_file)?;
+    Some((there.dev(), there.ino()))
+}
+
+/// The wrong use that an output is an input.
+#[must_use]
+pub fn overwrites(out: &Path, input: &Path) -> Failure {
+    Failure::wrong_use(format!(
+        "{}: this would overwrite the input {}; choose another place for the output",
+        shown(out),
+        shown(input)
+    ))
 }
 
 /// The bytes of nine costs, or one byte more, which is refused however many follow.
@@ -47,7 +82,7 @@ pub fn sheet(path: &Path) -> Result<Vec<u8>, Failure> {
 ///
 /// The file cannot be read.
 pub fn costs(path: &Path) -> Result<Vec<u8>, Failure> {
-    beginning(path, COSTS + 1)
+    beginning(open(path)?, path, COSTS + 1)
 }
 
 /// The bytes of piece records. Of a file of more than 79 records whole records are left out behind
@@ -81,17 +116,16 @@ pub fn records(path: &Path) -> Result<Vec<u8>, Failure> {
 }
 
 /// At most so many bytes of a file.
-fn beginning(path: &Path, most: usize) -> Result<Vec<u8>, Failure> {
+fn beginning(file: File, path: &Path, most: usize) -> Result<Vec<u8>, Failure> {
     let mut bytes = Vec::new();
-    open(path)?
-        .take(most as u64)
+    file.take(most as u64)
         .read_to_end(&mut bytes)
         .map_err(|error| Failure::of(path, &error))?;
     Ok(bytes)
 }
 
 fn open(path: &Path) -> Result<File, Failure> {
-    let opened = if is_stdin(path) {
+    let opened = if is_standard(path) {
         io::stdin().as_fd().try_clone_to_owned().map(File::from)
     } else {
         File::open(path)
@@ -112,7 +146,9 @@ pub fn output() -> Result<File, Failure> {
         .map_err(|error| Failure::of_output(&error))
 }
 
-fn is_stdin(path: &Path) -> bool {
+/// Whether standard input, or where something is written standard output, is meant.
+#[must_use]
+pub fn is_standard(path: &Path) -> bool {
     path == Path::new("-")
 }
 

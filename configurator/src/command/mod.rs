@@ -60,6 +60,15 @@ impl Failure {
         }
     }
 
+    /// Wrong use that shows only when the files are looked at.
+    #[must_use]
+    pub fn wrong_use(why: String) -> Self {
+        Failure {
+            status: Status::WrongUse,
+            why: Some(why),
+        }
+    }
+
     /// An error of the system about a file.
     #[must_use]
     pub fn of(path: &Path, error: &io::Error) -> Self {
@@ -132,7 +141,7 @@ impl Streams<'_> {
     /// Writes to a file, or where there is none to standard output.
     fn deliver(&mut self, out: Option<&Path>, bytes: &[u8]) -> Result<Status, Failure> {
         match out {
-            Some(path) if path != Path::new("-") => {
+            Some(path) if !files::is_standard(path) => {
                 files::write(path, bytes).map(|()| Status::Accepted)
             }
             _ => self.print(bytes),
@@ -172,12 +181,13 @@ fn answer_words(error: &clap::Error, streams: &mut Streams) -> Result<Status, Fa
 fn attempt(task: &Task, streams: &mut Streams) -> Result<Status, Failure> {
     match task {
         Task::Plan { sheet, out, json } => {
-            let (name, bytes) = (files::shown(sheet), files::sheet(sheet)?);
+            let out = out.as_deref();
+            let (name, bytes) = (files::shown(sheet), files::sheet_for(out, sheet)?);
             match (planned(&bytes)?, json) {
-                (Planned::Listing(listing), false) => streams.deliver(out.as_deref(), &listing),
+                (Planned::Listing(listing), false) => streams.deliver(out, &listing),
                 (Planned::Listing(listing), true) => {
                     let text = json::listing(&parsed(&listing)?);
-                    streams.deliver(out.as_deref(), text.as_bytes())
+                    streams.deliver(out, text.as_bytes())
                 }
                 (Planned::Refused(why), json) => {
                     streams.say(&why.message(&name));
@@ -203,16 +213,17 @@ fn attempt(task: &Task, streams: &mut Streams) -> Result<Status, Failure> {
             }
         }
         Task::Report { sheet, out } => {
-            let (name, bytes) = (files::shown(sheet), files::sheet(sheet)?);
+            let out = out.as_deref();
+            let (name, bytes) = (files::shown(sheet), files::sheet_for(out, sheet)?);
             match planned(&bytes)? {
                 Planned::Listing(listing) => {
                     let page = report::plan(&name, &quoted(&bytes)?, &parsed(&listing)?, &listing);
-                    streams.deliver(out.as_deref(), page.as_bytes())
+                    streams.deliver(out, page.as_bytes())
                 }
                 Planned::Refused(why) => {
                     streams.say(&why.message(&name));
                     let page = report::refused(&name, &bytes, &why);
-                    streams.deliver(out.as_deref(), page.as_bytes())?;
+                    streams.deliver(out, page.as_bytes())?;
                     Ok(Status::Refused)
                 }
             }
