@@ -12,11 +12,12 @@ use std::fs::{self, File, Permissions};
 use std::io::{BufRead, BufReader, Write};
 use std::net::Shutdown;
 use std::os::unix::ffi::OsStrExt;
-use std::os::unix::fs::{symlink, PermissionsExt};
+use std::os::unix::fs::{symlink, MetadataExt, PermissionsExt};
 use std::os::unix::io::OwnedFd;
 use std::os::unix::net::UnixStream;
+use std::os::unix::process::CommandExt;
 use std::path::Path;
-use std::process::{Output, Stdio};
+use std::process::{Command, Output, Stdio};
 use std::thread::sleep;
 use std::time::Duration;
 
@@ -334,10 +335,20 @@ fn permissions_are_kept() {
 #[test]
 fn failed_output_is_told() {
     let folder = folder("failed-output");
+    let unwritable = |name: &str, cause: &str| {
+        let inner = folder.join(name);
+        format!("the folder {} cannot be written: {cause}", inner.display())
+    };
     for (name, words) in [
-        ("none/out", "No such file or directory (os error 2)"),
-        ("file/out", "Not a directory (os error 20)"),
-        ("none/..", "this is no file's name"),
+        (
+            "none/out",
+            unwritable("none", "No such file or directory (os error 2)"),
+        ),
+        (
+            "file/out",
+            unwritable("file", "Not a directory (os error 20)"),
+        ),
+        ("none/..", "this is no file's name".to_owned()),
     ] {
         File::create(folder.join("file")).unwrap();
         let path = folder.join(name);
@@ -470,4 +481,114 @@ fn a_batch_overwrites_none_of_its_sheets() {
     assert_eq!(batch(&sheets, &sheets).status.code(), Some(0));
     let listings = ["a.listing", "a.sheet", "b.listing", "b.sheet"];
     assert_eq!(names(&sheets), listings);
+}
+
+/// The summary names each older listing of a sheet that is not planned now; it is left as it was.
+#[test]
+fn a_batch_names_older_listings() {
+    let (sheets, out) = (folder("batch-now"), folder("batch-older"));
+    for name in ["a.sheet", "b.sheet", "c.sheet"] {
+        fs::write(sheets.join(name), SHEET).unwrap();
+    }
+    assert_eq!(batch(&sheets, &out).status.code(), Some(0));
+    fs::write(sheets.join("b.sheet"), "no sheet\n").unwrap();
+    fs::write(sheets.join("d.sheet"), "no sheet\n").unwrap();
+    let done = batch(&sheets, &out);
+    assert_eq!(done.status.code(), Some(1));
+    let rows = "sheet    answer                 tasks  pieces
+a.sheet  planned                    3       4
+b.sheet  refused (8) at line 1
+c.sheet  planned                    3       4
+d.sheet  refused (8) at line 1
+";
+    let older = |name: &str| {
+        let listing = out.join(format!("{name}.listing"));
+        let listing = listing.display();
+        format!("{name}.sheet: an older listing of it is still there, unchanged: {listing}\n")
+    };
+    let sum = "4 sheets: 2 planned, 2 refused, 0 not read or written\n";
+    assert_eq!(text(&done.stdout), [rows, &older("b"), sum].concat());
+    assert_eq!(names(&out), ["a.listing", "b.listing", "c.listing"]);
+    assert_eq!(fs::read_to_string(out.join("b.listing")).unwrap(), LISTING);
+    // a listing that may not be written is an older one too
+    let kept = out.join("c.listing");
+    fs::write(&kept, "kept\n").unwrap();
+    fs::set_permissions(&kept, Permissions::from_mode(0o444)).unwrap();
+    let done = batch(&sheets, &out);
+    assert_eq!(done.status.code(), Some(3));
+    let said = text(&done.stdout);
+    assert!(said.contains(&[older("b"), older("c")].concat()), "{said}");
+    assert!(said.ends_with("1 planned, 2 refused, 1 not read or written\n"));
+    let why = format!("{}: the file is read-only\n", kept.display());
+    assert!(text(&done.stderr).contains(&why));
+    assert_eq!(fs::read_to_string(&kept).unwrap(), "kept\n");
+}
+
+/// The program, run by somebody whom permissions bind: root is made nobody. None where nobody cannot
+/// run it.
+fn bound() -> Option<Command> {
+    let root = fs::metadata(folder("owner")).unwrap().uid() == 0;
+    let bind = |mut program: Command| {
+        if root {
+            program.uid(65_534).gid(65_534);
+        }
+        program
+    };
+    let runs = bind(program()).arg("--version").output();
+    runs.map_or(false, |runs| runs.status.success())
+        .then(|| bind(program()))
+}
+
+/// A read-only file is not replaced, and a folder that cannot be written is named.
+#[test]
+fn what_may_not_be_written() {
+    let folder = fs::canonicalize(folder("read-only")).unwrap();
+    let (path, inner) = (folder.join("out.listing"), folder.join("inner"));
+    fs::write(&path, "kept\n").unwrap();
+    let allow = |path: &Path, mode| {
+        fs::set_permissions(path, Permissions::from_mode(mode)).unwrap();
+    };
+    let failed = |mut program: Command, words: &[&str], out: &Path, said: &str| {
+        let failed = program.args(words).arg("-o").arg(out).output().unwrap();
+        assert_eq!(failed.status.code(), Some(3), "{words:?}");
+        assert_eq!(text(&failed.stderr), said, "{words:?}");
+    };
+    let (plan, report) = (
+        &["plan", "examples/labeller.sheet"],
+        &["report", "examples/labeller.sheet"],
+    );
+    let of = |path: &Path, why: &str| format!("{}: {why}\n", path.display());
+    allow(&path, 0o444);
+    for words in [plan, report] {
+        failed(program(), words, &path, &of(&path, "the file is read-only"));
+    }
+    assert_eq!(fs::metadata(&path).unwrap().mode() & 0o777, 0o444);
+    if bound().is_none() {
+        println!("nobody cannot run the program here; what root may write is not tested");
+        return;
+    }
+    let denied = "Permission denied (os error 13)";
+    allow(&folder, 0o777);
+    allow(&path, 0o020);
+    failed(bound().unwrap(), plan, &path, &of(&path, denied));
+    allow(&path, 0o666);
+    allow(&folder, 0o555);
+    let unwritable = format!(
+        "the folder {} cannot be written: {denied}",
+        folder.display()
+    );
+    for out in [&path, &inner] {
+        for words in [plan, report] {
+            failed(bound().unwrap(), words, out, &of(out, &unwritable));
+        }
+    }
+    let sheets = self::folder("read-only-sheets");
+    fs::write(sheets.join("out.sheet"), SHEET).unwrap();
+    let batch = ["batch", sheets.to_str().unwrap()];
+    failed(bound().unwrap(), &batch, &folder, &of(&path, &unwritable));
+    let unmade = format!("the folder {} cannot be made: {denied}\n", inner.display());
+    failed(bound().unwrap(), &batch, &inner, &unmade);
+    assert_eq!(fs::read_to_string(&path).unwrap(), "kept\n");
+    assert_eq!(names(&folder), ["out.listing"]);
+    allow(&folder, 0o755);
 }

@@ -35,11 +35,25 @@ pub fn plan_all(
     let sheets = sheets(folder)?;
     if let Some(out) = out {
         kept(&sheets, out)?;
-        fs::create_dir_all(out).map_err(|error| Failure::of(out, &error))?;
+        fs::create_dir_all(out).map_err(|error| {
+            Failure::new(format!(
+                "the folder {} cannot be made: {error}",
+                files::shown(out)
+            ))
+        })?;
     }
     let outcomes = all(&sheets, out, streams);
-    let mut rows = Vec::new();
+    let (mut rows, mut older) = (Vec::new(), Vec::new());
     for (sheet, outcome) in sheets.iter().zip(&outcomes) {
+        let listing = out.map(|out| listing_in(out, sheet));
+        let unplanned = outcome.status != Status::Accepted;
+        if let Some(left) = listing.filter(|listing| unplanned && listing.is_file()) {
+            older.push(format!(
+                "{}: an older listing of it is still there, unchanged: {}",
+                short(sheet),
+                files::shown(&left)
+            ));
+        }
         let mut row = vec![short(sheet)];
         row.extend(outcome.fields.iter().cloned());
         rows.push(row);
@@ -47,7 +61,9 @@ pub fn plan_all(
             streams.say(said);
         }
     }
-    let mut text = columns::lines(&["<sheet", "<answer", "tasks", "pieces"], &rows).join("\n");
+    let mut lines = columns::lines(&["<sheet", "<answer", "tasks", "pieces"], &rows);
+    lines.append(&mut older);
+    let mut text = lines.join("\n");
     let with = |status| {
         outcomes
             .iter()

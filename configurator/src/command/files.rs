@@ -155,6 +155,9 @@ pub fn is_standard(path: &Path) -> bool {
 /// Writes a file whole or not at all: inside a new folder beside it, from which it is moved to its
 /// place. A link is followed; what is no ordinary file, as `/dev/null`, is written to as it is.
 ///
+/// A file can be moved over one that may not be written, so the one that is there is opened first.
+/// Root may open every file, so its permissions are looked at too.
+///
 /// The folder is `tempfile`'s, so its name is new and it goes whatever happens. The file in it is
 /// ours: one that `tempfile` makes is for its owner's eyes alone, and stays so.
 ///
@@ -165,20 +168,31 @@ pub fn write(path: &Path, bytes: &[u8]) -> Result<(), Failure> {
     let failed = |error: io::Error| Failure::of(path, &error);
     let target = fs::canonicalize(path).unwrap_or_else(|_| path.to_owned());
     let there = fs::metadata(&target).ok();
-    if there.as_ref().map_or(false, |there| !there.is_file()) {
-        return File::create(&target)
-            .and_then(|mut file| {
-                file.write_all(bytes)?;
-                close(file)
-            })
-            .map_err(failed);
+    let told = |why: &str| Failure::new(format!("{}: {why}", shown(path)));
+    match &there {
+        Some(there) if !there.is_file() => {
+            return File::create(&target)
+                .and_then(|mut file| {
+                    file.write_all(bytes)?;
+                    close(file)
+                })
+                .map_err(failed);
+        }
+        Some(there) if there.permissions().readonly() => {
+            return Err(told("the file is read-only"));
+        }
+        Some(_) => drop(File::options().write(true).open(&target).map_err(failed)?),
+        None => {}
     }
-    let (folder, name) = (target.parent().zip(target.file_name()))
-        .ok_or_else(|| Failure::new(format!("{}: this is no file's name", shown(path))))?;
-    let beside = Builder::new()
-        .prefix(".spardimple-")
-        .tempdir_in(folder)
-        .map_err(|error| Failure::new(format!("{}: {}", shown(path), unplaced(&error))))?;
+    let (folder, name) =
+        (target.parent().zip(target.file_name())).ok_or_else(|| told("this is no file's name"))?;
+    let here = folder.as_os_str().is_empty();
+    let folder = if here { Path::new(".") } else { folder };
+    let beside = Builder::new().prefix(".spardimple-").tempdir_in(folder);
+    let beside = beside.map_err(|error| {
+        let (folder, why) = (shown(folder), unplaced(&error));
+        told(&format!("the folder {folder} cannot be written: {why}"))
+    })?;
     let part = beside.path().join(name);
     File::create(&part)
         .and_then(|mut file| {
