@@ -1,4 +1,4 @@
-//! The C functions of the proved library, each behind a safe function, and one of the C library. The
+//! The C functions of the proved library, each behind a safe function, and two of the C library. The
 //! only `unsafe` of the package stands here.
 //!
 //! Nothing checks these declarations against the Rattle source, so each import has the signature
@@ -6,6 +6,10 @@
 //! length.
 
 #![allow(unsafe_code)] // the imports below are what this file is for
+
+use std::fs::File;
+use std::io;
+use std::os::unix::io::IntoRawFd;
 
 mod imports {
     extern "C" {
@@ -27,6 +31,9 @@ mod imports {
 
         /// The C library's `int isatty(int fd)`
         pub fn isatty(fd: i32) -> i32;
+
+        /// The C library's `int close(int fd)`
+        pub fn close(fd: i32) -> i32;
     }
 }
 
@@ -77,4 +84,18 @@ pub fn plan_listing(sheet: &[u8], listing: &mut [u8]) -> u64 {
 pub fn is_terminal(fd: i32) -> bool {
     // SAFETY: the function takes any number, and touches no memory but `errno`.
     unsafe { imports::isatty(fd) == 1 }
+}
+
+/// Closes a file. A full disk may be told of only now, and Rust's own library does not look.
+///
+/// # Errors
+///
+/// The system has not taken all that was written to the file.
+pub fn close(file: File) -> io::Result<()> {
+    // SAFETY: the file gives its descriptor up, so nothing else uses or closes it. The function
+    // touches no memory but `errno`.
+    match unsafe { imports::close(file.into_raw_fd()) } {
+        0 => Ok(()),
+        _ => Err(io::Error::last_os_error()),
+    }
 }

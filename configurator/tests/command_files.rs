@@ -5,17 +5,21 @@
 
 mod common;
 
-use common::command::{file, folder, names, program, spardimple, spardimple_fed, text};
+use common::command::{file, folder, names, program, root, spardimple, spardimple_fed, text};
 use inputs::sheets::{LISTING, SHEET};
 use std::ffi::OsStr;
 use std::fs::{self, File, Permissions};
+use std::io::{BufRead, BufReader, Write};
 use std::net::Shutdown;
 use std::os::unix::ffi::OsStrExt;
-use std::os::unix::fs::{symlink, PermissionsExt};
+use std::os::unix::fs::{symlink, MetadataExt, PermissionsExt};
 use std::os::unix::io::OwnedFd;
 use std::os::unix::net::UnixStream;
+use std::os::unix::process::CommandExt;
 use std::path::Path;
-use std::process::{Output, Stdio};
+use std::process::{Command, Output, Stdio};
+use std::thread::sleep;
+use std::time::Duration;
 
 #[test]
 fn standard_input() {
@@ -27,11 +31,7 @@ fn standard_input() {
     let refused = spardimple_fed(&["plan", "-"], b"");
     assert_eq!(refused.status.code(), Some(1));
     assert!(text(&refused.stderr).starts_with("standard input:1: refused (8)"));
-    let records = fs::read(format!(
-        "{}/../examples/film-core.rec",
-        env!("CARGO_MANIFEST_DIR")
-    ))
-    .unwrap();
+    let records = fs::read(root("examples/film-core.rec")).unwrap();
     let judged = spardimple_fed(&["verdict", "-", "examples/film-core.cost"], &records);
     assert!(text(&judged.stdout).starts_with("passes"));
 }
@@ -144,24 +144,61 @@ fn bytes_that_are_no_text() {
     assert!(page.contains("drv-a\\xff&lt;b&gt;") && !page.contains("<b>"));
 }
 
-/// A reader that is gone, or a full disk, is a failure that is told; nothing panics.
+/// Whatever is printed, output that is lost ends with 3. A full disk is told, and so is output that
+/// cannot be written at all; a reader that is gone is not. Nothing panics.
 #[test]
-fn closed_pipes() {
+fn lost_output() {
+    let sheet = "examples/film-line.sheet";
     for words in [
-        &["plan", "examples/film-line.sheet"][..],
-        &["show", "examples/film-line.sheet"],
-        &["report", "examples/film-line.sheet"],
-        &["batch", "examples"],
+        &["plan", sheet][..],
+        &["plan", sheet, "-o", "-"],
+        &["plan", sheet, "--json"],
+        &[
+            "verdict",
+            "examples/film-core.rec",
+            "examples/film-core.cost",
+        ],
+        &["verdict", "--table", "examples/film-core.table"],
+        &["show", sheet],
+        &["report", sheet],
+        &["desk", sheet],
         &["completions", "bash"],
-        &["--help"],
+        &["man"],
+        &["plan", "--help"],
+        &["--version"],
+    ] {
+        let ended = |output: Stdio| {
+            let edits = File::open(root("examples/film-line.edits")).unwrap();
+            let mut program = program();
+            let ended = program.args(words).stdin(edits).stdout(output).output();
+            let ended = ended.unwrap();
+            assert_eq!(ended.status.code(), Some(3), "{words:?}");
+            text(&ended.stderr)
+        };
+        assert_eq!(ended(closed()), "", "{words:?}");
+        let full = File::options().write(true).open("/dev/full").unwrap();
+        let space = "standard output: No space left on device (os error 28)\n";
+        assert_eq!(ended(full.into()), space, "{words:?}");
+        let unwritable = File::open("/dev/null").unwrap();
+        let bad = "standard output: Bad file descriptor (os error 9)\n";
+        assert_eq!(ended(unwritable.into()), bad, "{words:?}");
+    }
+    // what a refusal prints is output too; its message stands alone
+    for words in [
+        &["plan", "--json", "examples/film-line-mistyped.sheet"][..],
+        &["report", "examples/film-line-mistyped.sheet"],
+        &["desk", "examples/film-line-mistyped.sheet"],
+        &["batch", "examples"],
     ] {
         let ended = program().args(words).stdout(closed()).output().unwrap();
         assert_eq!(ended.status.code(), Some(3), "{words:?}");
         let said = text(&ended.stderr);
-        assert!(said.contains("standard output: Broken pipe"), "{said}");
+        assert!(!said.contains("standard output"), "{said}");
         let full = File::options().write(true).open("/dev/full").unwrap();
         let ended = program().args(words).stdout(full).output().unwrap();
         assert_eq!(ended.status.code(), Some(3), "{words:?}");
+        let said = text(&ended.stderr);
+        assert!(said.ends_with("(os error 28)\n"), "{said}");
     }
     let quiet = program()
         .args(["plan", "examples/film-line-mistyped.sheet"])
@@ -169,6 +206,49 @@ fn closed_pipes() {
         .output()
         .unwrap();
     assert_eq!(quiet.status.code(), Some(1));
+}
+
+/// The desk answers an edit before the next one comes. When its answers are lost it ends, though edits
+/// may still come.
+#[test]
+fn the_desk_answers_at_once() {
+    let desk = |output: Stdio| {
+        let mut desk = program()
+            .args(["desk", "examples/film-line.sheet"])
+            .stdin(Stdio::piped())
+            .stdout(output)
+            .stderr(Stdio::piped())
+            .spawn()
+            .unwrap();
+        let mut edits = desk.stdin.take().unwrap();
+        edits.write_all(b"list\n").unwrap();
+        (desk, edits)
+    };
+    let (mut played, mut edits) = desk(Stdio::piped());
+    let mut answers = BufReader::new(played.stdout.take().unwrap()).lines();
+    for line in file("examples/film-line.listing").lines() {
+        assert_eq!(answers.next().unwrap().unwrap(), line);
+    }
+    edits.write_all(b"withdraw\tpanel\n").unwrap();
+    assert_eq!(answers.next().unwrap().unwrap(), "ok");
+    drop(edits);
+    assert!(answers.next().is_none());
+    assert_eq!(played.wait().unwrap().code(), Some(0));
+
+    let full = File::options().write(true).open("/dev/full").unwrap();
+    for (output, said) in [(full.into(), "standard output: No space"), (closed(), "")] {
+        let (mut lost, edits) = desk(output);
+        let ended = (0..6_000).any(|_| {
+            sleep(Duration::from_millis(10));
+            lost.try_wait().unwrap().is_some()
+        });
+        drop(edits);
+        assert!(ended, "the desk waits for edits");
+        let lost = lost.wait_with_output().unwrap();
+        assert_eq!(lost.status.code(), Some(3));
+        assert!(text(&lost.stderr).starts_with(said));
+        assert_eq!(lost.stderr.is_empty(), said.is_empty());
+    }
 }
 
 /// A stream whose reader is gone. It is shut down and not only dropped: a process that another test
@@ -255,10 +335,20 @@ fn permissions_are_kept() {
 #[test]
 fn failed_output_is_told() {
     let folder = folder("failed-output");
+    let unwritable = |name: &str, cause: &str| {
+        let inner = folder.join(name);
+        format!("the folder {} cannot be written: {cause}", inner.display())
+    };
     for (name, words) in [
-        ("none/out", "No such file or directory (os error 2)"),
-        ("file/out", "Not a directory (os error 20)"),
-        ("none/..", "this is no file's name"),
+        (
+            "none/out",
+            unwritable("none", "No such file or directory (os error 2)"),
+        ),
+        (
+            "file/out",
+            unwritable("file", "Not a directory (os error 20)"),
+        ),
+        ("none/..", "this is no file's name".to_owned()),
     ] {
         File::create(folder.join("file")).unwrap();
         let path = folder.join(name);
@@ -268,4 +358,237 @@ fn failed_output_is_told() {
         assert_eq!(text(&failed.stderr), said);
     }
     assert_eq!(names(&folder), ["file"]);
+}
+
+/// An output that is the sheet, by whichever name, is wrong use. Nothing is written, whether the sheet
+/// would be planned or refused.
+#[test]
+fn the_sheet_is_never_the_output() {
+    let folder = folder("sheet-as-output");
+    let path = folder.join("s.sheet");
+    fs::create_dir(folder.join("sub")).unwrap();
+    for sheet in [SHEET, "no sheet\n"] {
+        for other in ["link", "hard", "link-to-link"] {
+            let _ = fs::remove_file(folder.join(other));
+        }
+        fs::write(&path, sheet).unwrap();
+        fs::hard_link(&path, folder.join("hard")).unwrap();
+        symlink("s.sheet", folder.join("link")).unwrap();
+        symlink("sub/../link", folder.join("link-to-link")).unwrap();
+        let before = names(&folder);
+        let whole = path.to_str().unwrap();
+        for (input, output) in [
+            ("s.sheet", "s.sheet"),
+            ("s.sheet", "./s.sheet"),
+            ("s.sheet", "sub/../s.sheet"),
+            ("s.sheet", whole),
+            (whole, "s.sheet"),
+            ("s.sheet", "link"),
+            ("s.sheet", "link-to-link"),
+            ("link", "s.sheet"),
+            ("s.sheet", "hard"),
+            ("hard", "link"),
+            ("-", "s.sheet"),
+            ("-", "hard"),
+            ("-", "/dev/stdin"),
+            ("/dev/stdin", "link"),
+        ] {
+            for sub in [&["plan"][..], &["plan", "--json"], &["report"]] {
+                let words = [sub, &[input, "-o", output]].concat();
+                let wrong = program()
+                    .args(&words)
+                    .current_dir(&folder)
+                    .stdin(File::open(&path).unwrap())
+                    .output()
+                    .unwrap();
+                assert_eq!(wrong.status.code(), Some(2), "{words:?}");
+                assert!(wrong.stdout.is_empty(), "{words:?}");
+                let name = if input == "-" {
+                    "standard input"
+                } else {
+                    input
+                };
+                assert_eq!(
+                    text(&wrong.stderr),
+                    format!(
+                        "{output}: this would overwrite the input {name}; \
+                         choose another place for the output\n"
+                    )
+                );
+                assert_eq!(fs::read_to_string(&path).unwrap(), sheet, "{words:?}");
+            }
+        }
+        assert_eq!(names(&folder), before);
+    }
+    // a device is no file that is overwritten
+    let both = spardimple(&["plan", "/dev/null", "-o", "/dev/null"]);
+    assert_eq!(both.status.code(), Some(1));
+}
+
+/// Runs `batch` on a folder, with an output folder.
+fn batch(sheets: &Path, out: &Path) -> Output {
+    let words = [
+        "batch".as_ref(),
+        sheets.as_os_str(),
+        "-o".as_ref(),
+        out.as_os_str(),
+    ];
+    spardimple(&words)
+}
+
+/// A batch that would write a listing over one of its sheets is wrong use as a whole: no other listing
+/// is written, and no folder is made.
+#[test]
+fn a_batch_overwrites_none_of_its_sheets() {
+    let (sheets, out) = (folder("batch-sheets"), folder("batch-listings"));
+    let sheet = |name: &str| sheets.join(name);
+    for name in ["a.sheet", "b.sheet"] {
+        fs::write(sheet(name), SHEET).unwrap();
+    }
+    let refused = |out: &Path, written: &Path, input: &str| {
+        let before = names(&sheets);
+        let wrong = batch(&sheets, out);
+        assert_eq!(wrong.status.code(), Some(2), "{written:?}");
+        assert!(wrong.stdout.is_empty());
+        let (written, input) = (written.display(), sheet(input));
+        assert_eq!(
+            text(&wrong.stderr),
+            format!(
+                "{written}: this would overwrite the input {}; \
+                 choose another place for the output\n",
+                input.display()
+            )
+        );
+        assert_eq!(names(&sheets), before);
+        for name in ["a.sheet", "b.sheet"] {
+            assert_eq!(fs::read_to_string(sheet(name)).unwrap(), SHEET);
+        }
+    };
+    refused(&sheet("b.sheet"), &sheet("b.sheet"), "b.sheet");
+    let listing = out.join("b.listing");
+    fs::hard_link(sheet("a.sheet"), &listing).unwrap();
+    refused(&out, &listing, "a.sheet");
+    fs::remove_file(&listing).unwrap();
+    symlink(sheet("b.sheet"), &listing).unwrap();
+    refused(&out, &listing, "b.sheet");
+    assert_eq!(names(&out), ["b.listing"]);
+    // a sheet that is a link to where a listing goes
+    fs::write(sheet("a.listing"), SHEET).unwrap();
+    symlink("a.listing", sheet("c.sheet")).unwrap();
+    refused(&sheets, &sheet("a.listing"), "c.sheet");
+    fs::remove_file(sheet("c.sheet")).unwrap();
+    // beside the sheets there is room
+    assert_eq!(batch(&sheets, &sheets).status.code(), Some(0));
+    let listings = ["a.listing", "a.sheet", "b.listing", "b.sheet"];
+    assert_eq!(names(&sheets), listings);
+}
+
+/// The summary names each older listing of a sheet that is not planned now; it is left as it was.
+#[test]
+fn a_batch_names_older_listings() {
+    let (sheets, out) = (folder("batch-now"), folder("batch-older"));
+    for name in ["a.sheet", "b.sheet", "c.sheet"] {
+        fs::write(sheets.join(name), SHEET).unwrap();
+    }
+    assert_eq!(batch(&sheets, &out).status.code(), Some(0));
+    fs::write(sheets.join("b.sheet"), "no sheet\n").unwrap();
+    fs::write(sheets.join("d.sheet"), "no sheet\n").unwrap();
+    let done = batch(&sheets, &out);
+    assert_eq!(done.status.code(), Some(1));
+    let rows = "sheet    answer                 tasks  pieces
+a.sheet  planned                    3       4
+b.sheet  refused (8) at line 1
+c.sheet  planned                    3       4
+d.sheet  refused (8) at line 1
+";
+    let older = |name: &str| {
+        let listing = out.join(format!("{name}.listing"));
+        let listing = listing.display();
+        format!("{name}.sheet: an older listing of it is still there, unchanged: {listing}\n")
+    };
+    let sum = "4 sheets: 2 planned, 2 refused, 0 not read or written\n";
+    assert_eq!(text(&done.stdout), [rows, &older("b"), sum].concat());
+    assert_eq!(names(&out), ["a.listing", "b.listing", "c.listing"]);
+    assert_eq!(fs::read_to_string(out.join("b.listing")).unwrap(), LISTING);
+    // a listing that may not be written is an older one too
+    let kept = out.join("c.listing");
+    fs::write(&kept, "kept\n").unwrap();
+    fs::set_permissions(&kept, Permissions::from_mode(0o444)).unwrap();
+    let done = batch(&sheets, &out);
+    assert_eq!(done.status.code(), Some(3));
+    let said = text(&done.stdout);
+    assert!(said.contains(&[older("b"), older("c")].concat()), "{said}");
+    assert!(said.ends_with("1 planned, 2 refused, 1 not read or written\n"));
+    let why = format!("{}: the file is read-only\n", kept.display());
+    assert!(text(&done.stderr).contains(&why));
+    assert_eq!(fs::read_to_string(&kept).unwrap(), "kept\n");
+}
+
+/// The program, run by somebody whom permissions bind: root is made nobody. None where nobody cannot
+/// run it.
+fn bound() -> Option<Command> {
+    let root = fs::metadata(folder("owner")).unwrap().uid() == 0;
+    let bind = |mut program: Command| {
+        if root {
+            program.uid(65_534).gid(65_534);
+        }
+        program
+    };
+    let runs = bind(program()).arg("--version").output();
+    runs.map_or(false, |runs| runs.status.success())
+        .then(|| bind(program()))
+}
+
+/// A read-only file is not replaced, and a folder that cannot be written is named.
+#[test]
+fn what_may_not_be_written() {
+    let folder = fs::canonicalize(folder("read-only")).unwrap();
+    let (path, inner) = (folder.join("out.listing"), folder.join("inner"));
+    fs::write(&path, "kept\n").unwrap();
+    let allow = |path: &Path, mode| {
+        fs::set_permissions(path, Permissions::from_mode(mode)).unwrap();
+    };
+    let failed = |mut program: Command, words: &[&str], out: &Path, said: &str| {
+        let failed = program.args(words).arg("-o").arg(out).output().unwrap();
+        assert_eq!(failed.status.code(), Some(3), "{words:?}");
+        assert_eq!(text(&failed.stderr), said, "{words:?}");
+    };
+    let (plan, report) = (
+        &["plan", "examples/labeller.sheet"],
+        &["report", "examples/labeller.sheet"],
+    );
+    let of = |path: &Path, why: &str| format!("{}: {why}\n", path.display());
+    allow(&path, 0o444);
+    for words in [plan, report] {
+        failed(program(), words, &path, &of(&path, "the file is read-only"));
+    }
+    assert_eq!(fs::metadata(&path).unwrap().mode() & 0o777, 0o444);
+    if bound().is_none() {
+        println!("nobody cannot run the program here; what root may write is not tested");
+        return;
+    }
+    let denied = "Permission denied (os error 13)";
+    allow(&folder, 0o777);
+    allow(&path, 0o020);
+    failed(bound().unwrap(), plan, &path, &of(&path, denied));
+    allow(&path, 0o666);
+    allow(&folder, 0o555);
+    let unwritable = format!(
+        "the folder {} cannot be written: {denied}",
+        folder.display()
+    );
+    for out in [&path, &inner] {
+        for words in [plan, report] {
+            failed(bound().unwrap(), words, out, &of(out, &unwritable));
+        }
+    }
+    let sheets = self::folder("read-only-sheets");
+    fs::write(sheets.join("out.sheet"), SHEET).unwrap();
+    let batch = ["batch", sheets.to_str().unwrap()];
+    failed(bound().unwrap(), &batch, &folder, &of(&path, &unwritable));
+    let unmade = format!("the folder {} cannot be made: {denied}\n", inner.display());
+    failed(bound().unwrap(), &batch, &inner, &unmade);
+    assert_eq!(fs::read_to_string(&path).unwrap(), "kept\n");
+    assert_eq!(names(&folder), ["out.listing"]);
+    allow(&folder, 0o755);
 }

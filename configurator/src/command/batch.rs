@@ -3,8 +3,10 @@
 
 use super::show::counted;
 use super::{columns, files, parsed, planned, Failure, Planned, Status, Streams};
+use std::collections::HashMap;
 use std::fmt::Write as _;
 use std::fs;
+use std::iter;
 use std::path::{Path, PathBuf};
 use std::sync::atomic::{AtomicUsize, Ordering};
 use std::sync::mpsc;
@@ -23,7 +25,8 @@ struct Outcome {
 ///
 /// # Errors
 ///
-/// The folder cannot be read, or the one for the listings not be made.
+/// The folder cannot be read, or the one for the listings not be made, or a listing would overwrite a
+/// sheet. Then nothing is written.
 pub fn plan_all(
     folder: &Path,
     out: Option<&Path>,
@@ -31,11 +34,26 @@ pub fn plan_all(
 ) -> Result<Status, Failure> {
     let sheets = sheets(folder)?;
     if let Some(out) = out {
-        fs::create_dir_all(out).map_err(|error| Failure::of(out, &error))?;
+        kept(&sheets, out)?;
+        fs::create_dir_all(out).map_err(|error| {
+            Failure::new(format!(
+                "the folder {} cannot be made: {error}",
+                files::shown(out)
+            ))
+        })?;
     }
     let outcomes = all(&sheets, out, streams);
-    let mut rows = Vec::new();
+    let (mut rows, mut older) = (Vec::new(), Vec::new());
     for (sheet, outcome) in sheets.iter().zip(&outcomes) {
+        let listing = out.map(|out| listing_in(out, sheet));
+        let unplanned = outcome.status != Status::Accepted;
+        if let Some(left) = listing.filter(|listing| unplanned && listing.is_file()) {
+            older.push(format!(
+                "{}: an older listing of it is still there, unchanged: {}",
+                short(sheet),
+                files::shown(&left)
+            ));
+        }
         let mut row = vec![short(sheet)];
         row.extend(outcome.fields.iter().cloned());
         rows.push(row);
@@ -43,7 +61,9 @@ pub fn plan_all(
             streams.say(said);
         }
     }
-    let mut text = columns::lines(&["<sheet", "<answer", "tasks", "pieces"], &rows).join("\n");
+    let mut lines = columns::lines(&["<sheet", "<answer", "tasks", "pieces"], &rows);
+    lines.append(&mut older);
+    let mut text = lines.join("\n");
     let with = |status| {
         outcomes
             .iter()
@@ -75,6 +95,28 @@ fn sheets(folder: &Path) -> Result<Vec<PathBuf>, Failure> {
     }
     sheets.sort();
     Ok(sheets)
+}
+
+/// Looks that no listing would overwrite a sheet, by whichever name.
+fn kept(sheets: &[PathBuf], out: &Path) -> Result<(), Failure> {
+    let identity = |path: &Path| files::identity(fs::metadata(path));
+    let known: HashMap<_, _> = (sheets.iter())
+        .filter_map(|sheet| Some((identity(sheet)?, sheet)))
+        .collect();
+    let listings = sheets.iter().map(|sheet| listing_in(out, sheet));
+    for written in iter::once(out.to_owned()).chain(listings) {
+        if let Some(sheet) = identity(&written).and_then(|there| known.get(&there)) {
+            return Err(files::overwrites(&written, sheet));
+        }
+    }
+    Ok(())
+}
+
+/// Where a sheet's listing goes.
+fn listing_in(out: &Path, sheet: &Path) -> PathBuf {
+    let mut name = sheet.file_stem().unwrap_or_default().to_owned();
+    name.push(".listing");
+    out.join(name)
 }
 
 /// What becomes of the sheets, in their order. As many threads as the machine has cores take one
@@ -109,14 +151,14 @@ fn all(sheets: &[PathBuf], out: Option<&Path>, streams: &mut Streams) -> Vec<Out
 
 /// What becomes of one sheet.
 fn one(path: &Path, out: Option<&Path>) -> Outcome {
-    attempt(path, out).unwrap_or_else(|Failure(why)| Outcome {
+    attempt(path, out).unwrap_or_else(|failure| Outcome {
         status: Status::Failed,
         fields: [
             "not read or written".to_owned(),
             String::new(),
             String::new(),
         ],
-        said: Some(why),
+        said: failure.why,
     })
 }
 
@@ -125,10 +167,8 @@ fn attempt(path: &Path, out: Option<&Path>) -> Result<Outcome, Failure> {
     Ok(match planned(&sheet)? {
         Planned::Listing(bytes) => {
             let listing = parsed(&bytes)?;
-            if let (Some(out), Some(name)) = (out, path.file_stem()) {
-                let mut name = name.to_owned();
-                name.push(".listing");
-                files::write(&out.join(name), &bytes)?;
+            if let Some(out) = out {
+                files::write(&listing_in(out, path), &bytes)?;
             }
             let (tasks, pieces) = (listing.tasks, listing.pieces.len());
             Outcome {

@@ -85,11 +85,15 @@ A sheet has lines of fields parted by one tab, in this order:
 
 Where a file is read, - stands for standard input.
 
+A file is written whole or not at all. A file that is read is never overwritten, whichever name -o
+has for it: that is wrong use. A read-only file is left as it is.
+
 Exit status:
   0  accepted: planned, or judged, whatever the verdict
   1  refused: the message has the number, the line and what to do
   2  wrong use
-  3  a file could not be read or written";
+  3  a file could not be read or written, or standard output could not; the message has the cause.
+     There is no message if the reader of a pipe has gone, as in `spardimple man | head -1`";
 
 /// The description of the arguments.
 #[must_use]
@@ -186,7 +190,8 @@ fn batch() -> Command {
         .about("Plans every *.sheet of a folder and prints a summary")
         .after_help(
             "Example: spardimple batch examples -o listings\n\n\
-             A refused sheet stops nothing. The exit status is that of the worst sheet.",
+             A refused sheet stops nothing. The exit status is that of the worst sheet. If OUT has an\n\
+             older listing of a sheet that is not planned now, the summary names it, and it stays.",
         )
         .arg(file("DIR", "The folder"))
         .arg(out("OUT", "Writes each listing into the folder OUT"))

@@ -1,11 +1,12 @@
 //! `desk`: edits on a sheet's plan, played by the proved program of that name. Here the program is
-//! found and run, with standard input and output as they are.
+//! found and run, with standard input as it is, and its answers are printed.
 
 use super::{files, planned, Failure, Planned, Status, Streams};
 use crate::ffi::is_terminal;
 use std::env;
+use std::io;
 use std::path::{Path, PathBuf};
-use std::process::Command;
+use std::process::{Command, Stdio};
 
 /// What a person at a terminal is told first.
 const EDITS: &str = "edits, one a line, fields parted by one tab; Ctrl-D ends:
@@ -16,11 +17,14 @@ const EDITS: &str = "edits, one a line, fields parted by one tab; Ctrl-D ends:
 
 /// Plays the edits of standard input.
 ///
+/// The program has no exit status of its own, so it cannot tell that an answer was lost. It answers
+/// into a pipe, and what comes is printed here, at once.
+///
 /// # Errors
 ///
-/// The sheet cannot be read, or the program is missing or ends by itself.
+/// The sheet cannot be read, an answer not be printed, or the program is missing or ends by itself.
 pub fn play(sheet: &Path, streams: &mut Streams) -> Result<Status, Failure> {
-    if sheet == Path::new("-") {
+    if files::is_standard(sheet) {
         streams.say("desk reads edits from standard input, so the sheet has to be a file");
         return Ok(Status::WrongUse);
     }
@@ -42,8 +46,19 @@ pub fn play(sheet: &Path, streams: &mut Streams) -> Result<Status, Failure> {
     };
     // a name that begins with a hyphen is still a file's
     let sheet = Path::new(".").join(sheet);
-    let ended = command.arg(sheet).status();
-    let ended = ended.map_err(|error| Failure::of(&program, &error))?;
+    let failed = |error| Failure::of(&program, &error);
+    let mut desk = (command.arg(sheet).stdout(Stdio::piped()))
+        .spawn()
+        .map_err(failed)?;
+    if let Some(mut answers) = desk.stdout.take() {
+        if let Err(error) = io::copy(&mut answers, streams.out) {
+            // the program may wait for edits, and whatever it answers is lost
+            let _ = desk.kill();
+            let _ = desk.wait();
+            return Err(Failure::of_output(&error));
+        }
+    }
+    let ended = desk.wait().map_err(failed)?;
     match refused {
         Some(message) => {
             streams.say(&message);

@@ -2,10 +2,13 @@
 //! all. Names may be any bytes that the system allows.
 
 use super::Failure;
+use crate::ffi::close;
 use crate::text;
-use std::fs::{self, File};
+use std::fs::{self, File, Metadata};
 use std::io::{self, Read, Write};
 use std::os::unix::ffi::OsStrExt;
+use std::os::unix::fs::MetadataExt;
+use std::os::unix::io::AsFd;
 use std::path::Path;
 use tempfile::Builder;
 
@@ -22,7 +25,7 @@ const RECORDS_MOST: usize = 79;
 /// How a file is called in messages; what cannot be seen of its name is written out.
 #[must_use]
 pub fn shown(path: &Path) -> String {
-    if is_stdin(path) {
+    if is_standard(path) {
         "standard input".to_owned()
     } else {
         text::shown(path.as_os_str().as_bytes())
@@ -36,7 +39,41 @@ pub fn shown(path: &Path) -> String {
 ///
 /// The file cannot be read.
 pub fn sheet(path: &Path) -> Result<Vec<u8>, Failure> {
-    beginning(path, SHEET_MOST + 1)
+    beginning(open(path)?, path, SHEET_MOST + 1)
+}
+
+/// A sheet's bytes, where the answer goes into a file.
+///
+/// # Errors
+///
+/// The file cannot be read, or is the one that the answer would overwrite.
+pub fn sheet_for(out: Option<&Path>, path: &Path) -> Result<Vec<u8>, Failure> {
+    let file = open(path)?;
+    if let Some(out) = out.filter(|out| !is_standard(out)) {
+        let there = identity(fs::metadata(out));
+        if there.is_some() && there == identity(file.metadata()) {
+            return Err(overwrites(out, path));
+        }
+    }
+    beginning(file, path, SHEET_MOST + 1)
+}
+
+/// What an ordinary file is known by, whichever of its names led to it: its device and its number
+/// there. Nothing is overwritten in what is no ordinary file, as a terminal.
+#[must_use]
+pub fn identity(there: io::Result<Metadata>) -> Option<(u64, u64)> {
+    let there = there.ok().filter(Metadata::is_file)?;
+    Some((there.dev(), there.ino()))
+}
+
+/// The wrong use that an output is an input.
+#[must_use]
+pub fn overwrites(out: &Path, input: &Path) -> Failure {
+    Failure::wrong_use(format!(
+        "{}: this would overwrite the input {}; choose another place for the output",
+        shown(out),
+        shown(input)
+    ))
 }
 
 /// The bytes of nine costs, or one byte more, which is refused however many follow.
@@ -45,7 +82,7 @@ pub fn sheet(path: &Path) -> Result<Vec<u8>, Failure> {
 ///
 /// The file cannot be read.
 pub fn costs(path: &Path) -> Result<Vec<u8>, Failure> {
-    beginning(path, COSTS + 1)
+    beginning(open(path)?, path, COSTS + 1)
 }
 
 /// The bytes of piece records. Of a file of more than 79 records whole records are left out behind
@@ -60,7 +97,7 @@ pub fn records(path: &Path) -> Result<Vec<u8>, Failure> {
     let mut file = open(path)?;
     let most = (RECORDS_MOST + 1) * RECORD;
     let mut bytes = Vec::new();
-    file.by_ref()
+    Read::by_ref(&mut file)
         .take(most as u64)
         .read_to_end(&mut bytes)
         .map_err(failed)?;
@@ -79,29 +116,47 @@ pub fn records(path: &Path) -> Result<Vec<u8>, Failure> {
 }
 
 /// At most so many bytes of a file.
-fn beginning(path: &Path, most: usize) -> Result<Vec<u8>, Failure> {
+fn beginning(file: File, path: &Path, most: usize) -> Result<Vec<u8>, Failure> {
     let mut bytes = Vec::new();
-    open(path)?
-        .take(most as u64)
+    file.take(most as u64)
         .read_to_end(&mut bytes)
         .map_err(|error| Failure::of(path, &error))?;
     Ok(bytes)
 }
 
-fn open(path: &Path) -> Result<Box<dyn Read>, Failure> {
-    if is_stdin(path) {
-        return Ok(Box::new(io::stdin()));
-    }
-    let file = File::open(path).map_err(|error| Failure::of(path, &error))?;
-    Ok(Box::new(file))
+fn open(path: &Path) -> Result<File, Failure> {
+    let opened = if is_standard(path) {
+        io::stdin().as_fd().try_clone_to_owned().map(File::from)
+    } else {
+        File::open(path)
+    };
+    opened.map_err(|error| Failure::of(path, &error))
 }
 
-fn is_stdin(path: &Path) -> bool {
+/// Standard output, as a file. (Rust's own standard output is silent about one that cannot be
+/// written to at all.)
+///
+/// # Errors
+///
+/// The process may open no more files.
+pub fn output() -> Result<File, Failure> {
+    let opened = io::stdout().as_fd().try_clone_to_owned();
+    opened
+        .map(File::from)
+        .map_err(|error| Failure::of_output(&error))
+}
+
+/// Whether standard input, or where something is written standard output, is meant.
+#[must_use]
+pub fn is_standard(path: &Path) -> bool {
     path == Path::new("-")
 }
 
 /// Writes a file whole or not at all: inside a new folder beside it, from which it is moved to its
 /// place. A link is followed; what is no ordinary file, as `/dev/null`, is written to as it is.
+///
+/// A file can be moved over one that may not be written, so the one that is there is opened first.
+/// Root may open every file, so its permissions are looked at too.
 ///
 /// The folder is `tempfile`'s, so its name is new and it goes whatever happens. The file in it is
 /// ours: one that `tempfile` makes is for its owner's eyes alone, and stays so.
@@ -113,15 +168,31 @@ pub fn write(path: &Path, bytes: &[u8]) -> Result<(), Failure> {
     let failed = |error: io::Error| Failure::of(path, &error);
     let target = fs::canonicalize(path).unwrap_or_else(|_| path.to_owned());
     let there = fs::metadata(&target).ok();
-    if there.as_ref().map_or(false, |there| !there.is_file()) {
-        return fs::write(&target, bytes).map_err(failed);
+    let told = |why: &str| Failure::new(format!("{}: {why}", shown(path)));
+    match &there {
+        Some(there) if !there.is_file() => {
+            return File::create(&target)
+                .and_then(|mut file| {
+                    file.write_all(bytes)?;
+                    close(file)
+                })
+                .map_err(failed);
+        }
+        Some(there) if there.permissions().readonly() => {
+            return Err(told("the file is read-only"));
+        }
+        Some(_) => drop(File::options().write(true).open(&target).map_err(failed)?),
+        None => {}
     }
-    let (folder, name) = (target.parent().zip(target.file_name()))
-        .ok_or_else(|| Failure::new(format!("{}: this is no file's name", shown(path))))?;
-    let beside = Builder::new()
-        .prefix(".spardimple-")
-        .tempdir_in(folder)
-        .map_err(|error| Failure::new(format!("{}: {}", shown(path), unplaced(&error))))?;
+    let (folder, name) =
+        (target.parent().zip(target.file_name())).ok_or_else(|| told("this is no file's name"))?;
+    let here = folder.as_os_str().is_empty();
+    let folder = if here { Path::new(".") } else { folder };
+    let beside = Builder::new().prefix(".spardimple-").tempdir_in(folder);
+    let beside = beside.map_err(|error| {
+        let (folder, why) = (shown(folder), unplaced(&error));
+        told(&format!("the folder {folder} cannot be written: {why}"))
+    })?;
     let part = beside.path().join(name);
     File::create(&part)
         .and_then(|mut file| {
@@ -129,7 +200,8 @@ pub fn write(path: &Path, bytes: &[u8]) -> Result<(), Failure> {
             if let Some(there) = there {
                 file.set_permissions(there.permissions())?;
             }
-            file.sync_all()
+            file.sync_all()?;
+            close(file)
         })
         .and_then(|()| fs::rename(&part, &target))
         .map_err(failed)

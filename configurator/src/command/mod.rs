@@ -44,25 +44,65 @@ pub enum Status {
 
 /// Why a run ended without an answer.
 #[derive(Clone, Debug, PartialEq, Eq)]
-pub struct Failure(String);
+pub struct Failure {
+    status: Status,
+    /// The sentence that tells it, if there is anything to tell.
+    why: Option<String>,
+}
 
 impl Failure {
     /// The failure that a sentence tells.
     #[must_use]
     pub fn new(why: String) -> Self {
-        Failure(why)
+        Failure {
+            status: Status::Failed,
+            why: Some(why),
+        }
+    }
+
+    /// Wrong use that shows only when the files are looked at.
+    #[must_use]
+    pub fn wrong_use(why: String) -> Self {
+        Failure {
+            status: Status::WrongUse,
+            why: Some(why),
+        }
     }
 
     /// An error of the system about a file.
     #[must_use]
     pub fn of(path: &Path, error: &io::Error) -> Self {
-        Failure(format!("{}: {error}", files::shown(path)))
+        Failure::at(&files::shown(path), error)
+    }
+
+    /// An error of the system about standard output.
+    #[must_use]
+    pub fn of_output(error: &io::Error) -> Self {
+        Failure::at("standard output", error)
+    }
+
+    /// An error of the system. A reader that is gone has what it wanted, as `head -1` has: the exit
+    /// status is that of every output that is not written whole, but there is nothing to tell.
+    fn at(name: &str, error: &io::Error) -> Self {
+        let gone = error.kind() == io::ErrorKind::BrokenPipe;
+        Failure {
+            status: Status::Failed,
+            why: (!gone).then(|| format!("{name}: {error}")),
+        }
+    }
+
+    /// Tells the failure, and gives the exit status. Where nobody can hear it, the status still tells.
+    pub fn tell(self, err: &mut dyn Write) -> Status {
+        if let Some(why) = self.why {
+            let _ = writeln!(err, "{why}");
+        }
+        self.status
     }
 }
 
 impl From<UnknownNumber> for Failure {
     fn from(unknown: UnknownNumber) -> Self {
-        Failure(unknown.to_string())
+        Failure::new(unknown.to_string())
     }
 }
 
@@ -84,7 +124,7 @@ impl Streams<'_> {
         let printed = self.out.write_all(bytes).and_then(|()| self.out.flush());
         match printed {
             Ok(()) => Ok(Status::Accepted),
-            Err(error) => Err(Failure(format!("standard output: {error}"))),
+            Err(error) => Err(Failure::of_output(&error)),
         }
     }
 
@@ -95,16 +135,13 @@ impl Streams<'_> {
 
     /// How the run ended; a failure is told.
     fn end(&mut self, done: Result<Status, Failure>) -> Status {
-        done.unwrap_or_else(|Failure(why)| {
-            self.say(&why);
-            Status::Failed
-        })
+        done.unwrap_or_else(|failure| failure.tell(self.err))
     }
 
     /// Writes to a file, or where there is none to standard output.
     fn deliver(&mut self, out: Option<&Path>, bytes: &[u8]) -> Result<Status, Failure> {
         match out {
-            Some(path) if path != Path::new("-") => {
+            Some(path) if !files::is_standard(path) => {
                 files::write(path, bytes).map(|()| Status::Accepted)
             }
             _ => self.print(bytes),
@@ -144,12 +181,13 @@ fn answer_words(error: &clap::Error, streams: &mut Streams) -> Result<Status, Fa
 fn attempt(task: &Task, streams: &mut Streams) -> Result<Status, Failure> {
     match task {
         Task::Plan { sheet, out, json } => {
-            let (name, bytes) = (files::shown(sheet), files::sheet(sheet)?);
+            let out = out.as_deref();
+            let (name, bytes) = (files::shown(sheet), files::sheet_for(out, sheet)?);
             match (planned(&bytes)?, json) {
-                (Planned::Listing(listing), false) => streams.deliver(out.as_deref(), &listing),
+                (Planned::Listing(listing), false) => streams.deliver(out, &listing),
                 (Planned::Listing(listing), true) => {
                     let text = json::listing(&parsed(&listing)?);
-                    streams.deliver(out.as_deref(), text.as_bytes())
+                    streams.deliver(out, text.as_bytes())
                 }
                 (Planned::Refused(why), json) => {
                     streams.say(&why.message(&name));
@@ -175,16 +213,17 @@ fn attempt(task: &Task, streams: &mut Streams) -> Result<Status, Failure> {
             }
         }
         Task::Report { sheet, out } => {
-            let (name, bytes) = (files::shown(sheet), files::sheet(sheet)?);
+            let out = out.as_deref();
+            let (name, bytes) = (files::shown(sheet), files::sheet_for(out, sheet)?);
             match planned(&bytes)? {
                 Planned::Listing(listing) => {
                     let page = report::plan(&name, &quoted(&bytes)?, &parsed(&listing)?, &listing);
-                    streams.deliver(out.as_deref(), page.as_bytes())
+                    streams.deliver(out, page.as_bytes())
                 }
                 Planned::Refused(why) => {
                     streams.say(&why.message(&name));
                     let page = report::refused(&name, &bytes, &why);
-                    streams.deliver(out.as_deref(), page.as_bytes())?;
+                    streams.deliver(out, page.as_bytes())?;
                     Ok(Status::Refused)
                 }
             }
@@ -240,12 +279,13 @@ pub fn planned(sheet: &[u8]) -> Result<Planned, Failure> {
 
 /// A listing's rows.
 fn parsed(listing: &[u8]) -> Result<Listing<'_>, Failure> {
-    Listing::parse(listing).ok_or_else(|| Failure("the library's listing has no known form".into()))
+    Listing::parse(listing)
+        .ok_or_else(|| Failure::new("the library's listing has no known form".into()))
 }
 
 /// An accepted sheet's words.
 fn quoted(sheet: &[u8]) -> Result<Sheet<'_>, Failure> {
-    Sheet::parse(sheet).ok_or_else(|| Failure("the accepted sheet has no known form".into()))
+    Sheet::parse(sheet).ok_or_else(|| Failure::new("the accepted sheet has no known form".into()))
 }
 
 /// The completions of a shell that the description of the arguments allows.

@@ -46,10 +46,14 @@ pub fn text(bytes: &[u8]) -> String {
     String::from_utf8(bytes.to_vec()).expect("the command prints text")
 }
 
+/// Where a file of the project is.
+pub fn root(path: &str) -> PathBuf {
+    Path::new(concat!(env!("CARGO_MANIFEST_DIR"), "/..")).join(path)
+}
+
 /// A file of the project, as text.
 pub fn file(path: &str) -> String {
-    let root = concat!(env!("CARGO_MANIFEST_DIR"), "/../");
-    fs::read_to_string(format!("{root}{path}")).expect("the file is there")
+    fs::read_to_string(root(path)).expect("the file is there")
 }
 
 /// A folder of that name to write in, empty at first.
