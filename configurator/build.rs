@@ -1,6 +1,6 @@
 //! Links the proved library. The archive is what `rt staticlib spardimple` writes at the project's
 //! root; the environment variable `SPARDIMPLE_ARCHIVE` may name another. Writes the manual page from
-//! the command's own description.
+//! the command's own description, and tells the command what it is built from.
 
 #![warn(clippy::all, clippy::pedantic)]
 
@@ -13,10 +13,12 @@ mod manual;
 #[path = "src/refusals.rs"]
 mod refusals;
 
+use sha2::{Digest, Sha256};
 use std::env;
+use std::fmt::Write;
 use std::fs;
 use std::path::{Path, PathBuf};
-use std::process;
+use std::process::{self, Command};
 
 fn main() {
     println!("cargo:rerun-if-env-changed=SPARDIMPLE_ARCHIVE");
@@ -36,6 +38,43 @@ fn main() {
         _ => stop(&format!("{} is not named libNAME.a", archive.display())),
     }
     write_manual();
+    tell_origin(&archive);
+}
+
+/// Tells the command the archive's digest, and the commit that its own sources are of. Where there is
+/// no history the commit is unknown.
+fn tell_origin(archive: &Path) {
+    let bytes = fs::read(archive).unwrap_or_else(|error| stop(&format!("the archive: {error}")));
+    let mut digest = String::new();
+    for byte in Sha256::digest(bytes) {
+        let _ = write!(digest, "{byte:02x}");
+    }
+    println!("cargo:rustc-env=SPARDIMPLE_ARCHIVE_SHA256={digest}");
+    let changed = git(&[
+        "status",
+        "--porcelain",
+        "--",
+        ".",
+        "../crates",
+        "../crates.txt",
+    ]);
+    let commit = match (git(&["rev-parse", "HEAD"]), changed) {
+        (Some(commit), Some(none)) if none.is_empty() => commit,
+        (Some(commit), _) => format!("{commit} with changes"),
+        (None, _) => "unknown".to_owned(),
+    };
+    println!("cargo:rustc-env=SPARDIMPLE_COMMIT={commit}");
+    println!("cargo:rerun-if-changed=src");
+    if let Some(history) = git(&["rev-parse", "--git-path", "logs/HEAD"]) {
+        println!("cargo:rerun-if-changed={history}");
+    }
+}
+
+/// What git says about the project, if it says anything.
+fn git(words: &[&str]) -> Option<String> {
+    let said = Command::new("git").args(words).output().ok()?;
+    let said = said.status.success().then_some(said.stdout)?;
+    Some(String::from_utf8(said).ok()?.trim().to_owned())
 }
 
 /// Writes the manual page, where the command takes it from.

@@ -12,6 +12,7 @@
 //!   [`fault`] finds.
 //! - [`text`]: bytes as text for people.
 //! - [`listing`], [`quoted`]: the lines of a listing and of an accepted sheet, for tables and drawings.
+//! - [`origin`]: what a paper came from.
 //! - [`command`]: the command for people.
 //!
 //! Document 01's sheet, three drives of six ticks in ten on two cores, and its listing:
@@ -55,6 +56,7 @@ pub mod explain;
 pub mod fault;
 pub mod ffi;
 pub mod listing;
+pub mod origin;
 pub mod quoted;
 pub mod refusals;
 pub mod text;

@@ -4,11 +4,13 @@
 
 mod common;
 
-use common::command::{file, folder, names, program, spardimple, spardimple_fed, text};
+use common::command::{
+    batch, desk, file, folder, names, program, spardimple, spardimple_fed, text,
+};
 use serde_json::Value;
 use std::fs;
 use std::os::unix::fs::symlink;
-use std::path::{Path, PathBuf};
+use std::path::Path;
 use std::process::{Command, Output};
 
 #[test]
@@ -109,12 +111,6 @@ fn the_tour_can_be_gone() {
             line.contains("mistyped") && !line.starts_with("sed") || line.contains("batch");
         assert_eq!(gone.status.code(), Some(i32::from(refused)), "{line}");
     }
-}
-
-/// Where the desk program is, if it is built.
-fn desk() -> PathBuf {
-    let built = Path::new(env!("CARGO_MANIFEST_DIR")).join("../target/bin/desk");
-    std::env::var_os("SPARDIMPLE_DESK").map_or(built, PathBuf::from)
 }
 
 /// The JSON that the command prints.
@@ -349,16 +345,7 @@ fn batches() {
         fs::write(sheets.join(&file), self::file(&format!("examples/{file}"))).unwrap();
     }
     fs::write(sheets.join("notes.txt"), "no sheet").unwrap();
-    let run = || {
-        let words = [
-            "batch".as_ref(),
-            sheets.as_os_str(),
-            "-o".as_ref(),
-            out.as_os_str(),
-        ];
-        spardimple(&words)
-    };
-    let done = run();
+    let done = batch(&sheets, &out);
     assert_eq!(done.status.code(), Some(1));
     assert_eq!(
         text(&done.stdout),
@@ -380,7 +367,7 @@ labeller.sheet            planned                     9       9
         assert_eq!(listing, file(&format!("examples/{name}")));
     }
     fs::create_dir(sheets.join("folder.sheet")).unwrap();
-    let done = run();
+    let done = batch(&sheets, &out);
     assert_eq!(done.status.code(), Some(3));
     assert!(text(&done.stdout).ends_with("4 sheets: 2 planned, 1 refused, 1 not read or written\n"));
     let none = spardimple(&["batch".as_ref(), out.as_os_str()]);
@@ -406,7 +393,6 @@ fn desk_plays_edits() {
         let emulator = std::env::var_os("CARGO_TARGET_X86_64_UNKNOWN_LINUX_GNU_RUNNER");
         program()
             .args(["desk", sheet])
-            .env("SPARDIMPLE_DESK", &desk)
             .env("SPARDIMPLE_EMULATOR", emulator.unwrap_or_default())
             .stdin(edits.as_ref().unwrap().try_clone().unwrap())
             .output()
@@ -490,10 +476,7 @@ fn help() {
             "{sub}"
         );
     }
-    assert_eq!(
-        text(&spardimple(&["--version"]).stdout),
-        "spardimple 0.1.0\n"
-    );
+    assert_eq!(text(&spardimple(&["-V"]).stdout), "spardimple 0.1.0\n");
 }
 
 #[test]

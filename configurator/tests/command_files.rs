@@ -5,7 +5,9 @@
 
 mod common;
 
-use common::command::{file, folder, names, program, root, spardimple, spardimple_fed, text};
+use common::command::{
+    batch, file, folder, names, program, root, spardimple, spardimple_fed, text,
+};
 use inputs::sheets::{LISTING, SHEET};
 use std::ffi::OsStr;
 use std::fs::{self, File, Permissions};
@@ -423,17 +425,6 @@ fn the_sheet_is_never_the_output() {
     // a device is no file that is overwritten
     let both = spardimple(&["plan", "/dev/null", "-o", "/dev/null"]);
     assert_eq!(both.status.code(), Some(1));
-}
-
-/// Runs `batch` on a folder, with an output folder.
-fn batch(sheets: &Path, out: &Path) -> Output {
-    let words = [
-        "batch".as_ref(),
-        sheets.as_os_str(),
-        "-o".as_ref(),
-        out.as_os_str(),
-    ];
-    spardimple(&words)
 }
 
 /// A batch that would write a listing over one of its sheets is wrong use as a whole: no other listing

@@ -5,12 +5,12 @@
 mod common;
 
 use common::command::{folder, spardimple};
-use configurator::command::cli::Task;
-use configurator::command::{perform, Status, Streams};
+use configurator::command::{run, Status, Streams};
 use configurator::explain::refused;
 use configurator::plan;
 use inputs::sheets::{damaged, SheetDraw, SHEET};
 use inputs::Random;
+use std::ffi::OsString;
 use std::fs;
 use std::path::Path;
 
@@ -39,7 +39,7 @@ fn put(path: &Path, bytes: &[u8]) {
 }
 
 /// What the command says in this process.
-fn said(task: &Task) -> (Status, Vec<u8>, String) {
+fn said(words: &[&str]) -> (Status, Vec<u8>, String) {
     let (mut out, mut err) = (Vec::new(), Vec::new());
     let mut streams = Streams {
         out: &mut out,
@@ -47,7 +47,7 @@ fn said(task: &Task) -> (Status, Vec<u8>, String) {
         colour: true,
         progress: true,
     };
-    let status = perform(task, &mut streams);
+    let status = run(words.iter().map(OsString::from), &mut streams);
     (
         status,
         out,
@@ -63,35 +63,22 @@ fn ten_thousand_files() {
     let folder = folder("random");
     let sheet = folder.join("s.sheet");
     let path = sheet.to_str().unwrap();
-    let (out, table, records, costs) = (None, sheet.clone(), sheet.clone(), sheet.clone());
-    let all = Task::Plan {
-        sheet: sheet.clone(),
-        out: None,
-        json: false,
-    };
-    let others = [
-        Task::Show {
-            sheet: sheet.clone(),
-        },
-        Task::Report {
-            sheet: sheet.clone(),
-            out: None,
-        },
-        Task::Batch {
-            folder: folder.clone(),
-            out,
-        },
-        Task::VerdictTable { table },
-        Task::Verdict { records, costs },
+    let dir = folder.to_str().unwrap();
+    let others: [&[&str]; 5] = [
+        &["show", path],
+        &["report", path],
+        &["batch", dir],
+        &["verdict", "--table", path],
+        &["verdict", path, path],
     ];
     let mut planned = 0;
     for count in 0..10_000 {
         let bytes = random_file(&mut random);
         put(&sheet, &bytes);
-        let (status, out, err) = said(&all);
-        let other = &others[count % others.len()];
+        let (status, out, err) = said(&["plan", path]);
+        let other = others[count % others.len()];
         let (second, ..) = said(other);
-        let of_the_sheet = !matches!(other, Task::VerdictTable { .. } | Task::Verdict { .. });
+        let of_the_sheet = other[0] != "verdict";
         assert!(second == status || !of_the_sheet && second <= Status::Refused);
         match plan(&bytes).unwrap() {
             Ok(listing) => {

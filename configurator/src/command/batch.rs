@@ -2,7 +2,8 @@
 //! refused or cannot be read stops no other.
 
 use super::show::counted;
-use super::{columns, files, parsed, planned, Failure, Planned, Status, Streams};
+use super::{cli, columns, files, parsed, planned, Failure, Planned, Status, Streams};
+use clap::ArgMatches;
 use std::collections::HashMap;
 use std::fmt::Write as _;
 use std::fs;
@@ -27,11 +28,12 @@ struct Outcome {
 ///
 /// The folder cannot be read, or the one for the listings not be made, or a listing would overwrite a
 /// sheet. Then nothing is written.
-pub fn plan_all(
-    folder: &Path,
-    out: Option<&Path>,
-    streams: &mut Streams,
-) -> Result<Status, Failure> {
+pub fn run(given: &ArgMatches, streams: &mut Streams) -> Result<Status, Failure> {
+    let (folder, out) = (cli::needed(given, "DIR"), cli::path(given, "out"));
+    plan_all(&folder, out.as_deref(), streams)
+}
+
+fn plan_all(folder: &Path, out: Option<&Path>, streams: &mut Streams) -> Result<Status, Failure> {
     let sheets = sheets(folder)?;
     if let Some(out) = out {
         kept(&sheets, out)?;

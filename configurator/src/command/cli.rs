@@ -2,65 +2,7 @@
 //! are made from this description.
 
 use clap::{value_parser, Arg, ArgAction, ArgMatches, Command};
-use std::ffi::OsString;
 use std::path::PathBuf;
-
-/// What the command is asked to do.
-#[derive(Clone, Debug, PartialEq, Eq)]
-pub enum Task {
-    /// The listing of a sheet.
-    Plan {
-        /// The sheet's file.
-        sheet: PathBuf,
-        /// Where the listing goes, if not to standard output.
-        out: Option<PathBuf>,
-        /// As JSON.
-        json: bool,
-    },
-    /// The verdict on records and costs as bytes.
-    Verdict {
-        /// The records' file.
-        records: PathBuf,
-        /// The costs' file.
-        costs: PathBuf,
-    },
-    /// The verdict on a table of costs and records.
-    VerdictTable {
-        /// The table's file.
-        table: PathBuf,
-    },
-    /// The plan as a table that a person reads.
-    Show {
-        /// The sheet's file.
-        sheet: PathBuf,
-    },
-    /// The plan as a page.
-    Report {
-        /// The sheet's file.
-        sheet: PathBuf,
-        /// Where the page goes, if not to standard output.
-        out: Option<PathBuf>,
-    },
-    /// Edits, played by the proved desk program.
-    Desk {
-        /// The sheet's file.
-        sheet: PathBuf,
-    },
-    /// The plans of all sheets of a folder.
-    Batch {
-        /// The folder.
-        folder: PathBuf,
-        /// The folder where the listings go, if they are wanted.
-        out: Option<PathBuf>,
-    },
-    /// The completions of a shell.
-    Completions {
-        /// The shell's name.
-        shell: String,
-    },
-    /// The manual page.
-    Man,
-}
 
 /// The shells that have completions.
 pub const SHELLS: [&str; 5] = ["bash", "elvish", "fish", "powershell", "zsh"];
@@ -239,54 +181,14 @@ fn file(name: &'static str, help: &'static str) -> Arg {
         .help(help)
 }
 
-/// What the words behind the command's name ask for.
-///
-/// # Errors
-///
-/// The words ask for nothing, or for help or the version.
-pub fn parse(words: impl IntoIterator<Item = OsString>) -> Result<Task, clap::Error> {
-    let name = OsString::from("spardimple");
-    let matches = command().try_get_matches_from(std::iter::once(name).chain(words))?;
-    let (sub, given) = matches.subcommand().unwrap_or(("man", &matches));
-    let needed = |id| path(given, id).unwrap_or_default();
-    Ok(match sub {
-        "plan" => Task::Plan {
-            sheet: needed("SHEET"),
-            out: path(given, "out"),
-            json: given.get_flag("json"),
-        },
-        "verdict" => match path(given, "table") {
-            Some(table) => Task::VerdictTable { table },
-            None => Task::Verdict {
-                records: needed("RECORDS"),
-                costs: needed("COSTS"),
-            },
-        },
-        "show" => Task::Show {
-            sheet: needed("SHEET"),
-        },
-        "report" => Task::Report {
-            sheet: needed("SHEET"),
-            out: path(given, "out"),
-        },
-        "desk" => Task::Desk {
-            sheet: needed("SHEET"),
-        },
-        "batch" => Task::Batch {
-            folder: needed("DIR"),
-            out: path(given, "out"),
-        },
-        "completions" => Task::Completions {
-            shell: given
-                .get_one::<String>("SHELL")
-                .cloned()
-                .unwrap_or_default(),
-        },
-        _ => Task::Man,
-    })
+/// The file that an argument names.
+#[must_use]
+pub fn path(given: &ArgMatches, id: &str) -> Option<PathBuf> {
+    given.get_one::<PathBuf>(id).cloned()
 }
 
-/// The file that an argument names.
-fn path(given: &ArgMatches, id: &str) -> Option<PathBuf> {
-    given.get_one::<PathBuf>(id).cloned()
+/// The file that a required argument names.
+#[must_use]
+pub fn needed(given: &ArgMatches, id: &str) -> PathBuf {
+    path(given, id).unwrap_or_default()
 }

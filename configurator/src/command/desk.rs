@@ -1,8 +1,9 @@
 //! `desk`: edits on a sheet's plan, played by the proved program of that name. Here the program is
 //! found and run, with standard input as it is, and its answers are printed.
 
-use super::{files, planned, Failure, Planned, Status, Streams};
+use super::{cli, files, planned, Failure, Planned, Status, Streams};
 use crate::ffi::is_terminal;
+use clap::ArgMatches;
 use std::env;
 use std::io;
 use std::path::{Path, PathBuf};
@@ -23,7 +24,11 @@ const EDITS: &str = "edits, one a line, fields parted by one tab; Ctrl-D ends:
 /// # Errors
 ///
 /// The sheet cannot be read, an answer not be printed, or the program is missing or ends by itself.
-pub fn play(sheet: &Path, streams: &mut Streams) -> Result<Status, Failure> {
+pub fn run(given: &ArgMatches, streams: &mut Streams) -> Result<Status, Failure> {
+    play(&cli::needed(given, "SHEET"), streams)
+}
+
+fn play(sheet: &Path, streams: &mut Streams) -> Result<Status, Failure> {
     if files::is_standard(sheet) {
         streams.say("desk reads edits from standard input, so the sheet has to be a file");
         return Ok(Status::WrongUse);

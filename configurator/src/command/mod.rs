@@ -1,5 +1,5 @@
 //! The command for people, as one function from words to an exit status. Each subcommand has a file
-//! of its own, or a few lines here.
+//! of its own with a function `run`, from its arguments to how the run ended.
 //!
 //! Every figure that is printed stands in an answer of the proved library or in the sheet itself.
 
@@ -11,19 +11,22 @@ pub mod drawing;
 pub mod files;
 pub mod html;
 pub mod json;
+pub mod plan;
 pub mod report;
 pub mod show;
 pub mod table;
+pub mod verdict;
 
 use crate::explain::{self, Explained};
-use crate::fault::Text;
 use crate::listing::Listing;
+use crate::origin;
 use crate::quoted::Sheet;
-use crate::{plan, verdict, Answer, UnknownNumber};
+use crate::UnknownNumber;
 use clap::error::ErrorKind;
-use cli::Task;
+use clap::ArgMatches;
 use std::ffi::OsString;
 use std::io::{self, Write};
+use std::iter;
 use std::path::Path;
 
 /// The manual page, as the build has written it.
@@ -151,18 +154,13 @@ impl Streams<'_> {
 
 /// Runs the command on the words behind its name.
 pub fn run(words: impl IntoIterator<Item = OsString>, streams: &mut Streams) -> Status {
-    match cli::parse(words) {
-        Ok(task) => perform(&task, streams),
-        Err(error) => {
-            let answered = answer_words(&error, streams);
-            streams.end(answered)
-        }
-    }
-}
-
-/// Runs the command on what its words ask for.
-pub fn perform(task: &Task, streams: &mut Streams) -> Status {
-    let done = attempt(task, streams);
+    let name = OsString::from("spardimple");
+    let command = cli::command().long_version(origin::VERSION);
+    let given = command.try_get_matches_from(iter::once(name).chain(words));
+    let done = match &given {
+        Ok(given) => attempt(given, streams),
+        Err(error) => answer_words(error, streams),
+    };
     streams.end(done)
 }
 
@@ -178,82 +176,16 @@ fn answer_words(error: &clap::Error, streams: &mut Streams) -> Result<Status, Fa
     }
 }
 
-fn attempt(task: &Task, streams: &mut Streams) -> Result<Status, Failure> {
-    match task {
-        Task::Plan { sheet, out, json } => {
-            let out = out.as_deref();
-            let (name, bytes) = (files::shown(sheet), files::sheet_for(out, sheet)?);
-            match (planned(&bytes)?, json) {
-                (Planned::Listing(listing), false) => streams.deliver(out, &listing),
-                (Planned::Listing(listing), true) => {
-                    let text = json::listing(&parsed(&listing)?);
-                    streams.deliver(out, text.as_bytes())
-                }
-                (Planned::Refused(why), json) => {
-                    streams.say(&why.message(&name));
-                    if *json && out.is_none() {
-                        streams.print(json::refused(&name, &why).as_bytes())?;
-                    }
-                    Ok(Status::Refused)
-                }
-            }
-        }
-        Task::Show { sheet } => {
-            let (name, bytes) = (files::shown(sheet), files::sheet(sheet)?);
-            match planned(&bytes)? {
-                Planned::Listing(listing) => {
-                    let paint = show::Paint(streams.colour);
-                    let text = show::plan(&name, &quoted(&bytes)?, &parsed(&listing)?, paint);
-                    streams.print(text.as_bytes())
-                }
-                Planned::Refused(why) => {
-                    streams.say(&why.message(&name));
-                    Ok(Status::Refused)
-                }
-            }
-        }
-        Task::Report { sheet, out } => {
-            let out = out.as_deref();
-            let (name, bytes) = (files::shown(sheet), files::sheet_for(out, sheet)?);
-            match planned(&bytes)? {
-                Planned::Listing(listing) => {
-                    let page = report::plan(&name, &quoted(&bytes)?, &parsed(&listing)?, &listing);
-                    streams.deliver(out, page.as_bytes())
-                }
-                Planned::Refused(why) => {
-                    streams.say(&why.message(&name));
-                    let page = report::refused(&name, &bytes, &why);
-                    streams.deliver(out, page.as_bytes())?;
-                    Ok(Status::Refused)
-                }
-            }
-        }
-        Task::Verdict { records, costs } => {
-            match verdict(&files::records(records)?, &files::costs(costs)?)? {
-                refused @ Answer::Refused(why) => {
-                    streams.say(&format!("{}: {refused}", files::shown(records)));
-                    streams.say(&format!("  to do: {}", why.remedy()));
-                    Ok(Status::Refused)
-                }
-                answer => streams.print(format!("{answer}\n").as_bytes()),
-            }
-        }
-        Task::VerdictTable { table } => {
-            let (name, bytes) = (files::shown(table), files::sheet(table)?);
-            let answer = table::verdict(&bytes)?;
-            match answer {
-                Answer::Refused(refusal) => {
-                    let why = explain::refused_in(Text::Table, refusal, &bytes);
-                    streams.say(&why.message(&name));
-                    Ok(Status::Refused)
-                }
-                answer => streams.print(format!("{answer}\n").as_bytes()),
-            }
-        }
-        Task::Desk { sheet } => desk::play(sheet, streams),
-        Task::Batch { folder, out } => batch::plan_all(folder, out.as_deref(), streams),
-        Task::Completions { shell } => streams.print(&completions(shell)),
-        Task::Man => streams.print(MANUAL.as_bytes()),
+fn attempt(given: &ArgMatches, streams: &mut Streams) -> Result<Status, Failure> {
+    match given.subcommand() {
+        Some(("plan", given)) => plan::run(given, streams),
+        Some(("verdict", given)) => verdict::run(given, streams),
+        Some(("show", given)) => show::run(given, streams),
+        Some(("report", given)) => report::run(given, streams),
+        Some(("desk", given)) => desk::run(given, streams),
+        Some(("batch", given)) => batch::run(given, streams),
+        Some(("completions", given)) => streams.print(&completions(given)),
+        _ => streams.print(MANUAL.as_bytes()),
     }
 }
 
@@ -271,7 +203,7 @@ pub enum Planned {
 ///
 /// The library answers a number that stands for nothing, which a proved library never does.
 pub fn planned(sheet: &[u8]) -> Result<Planned, Failure> {
-    Ok(match plan(sheet)? {
+    Ok(match crate::plan(sheet)? {
         Ok(listing) => Planned::Listing(listing),
         Err(refusal) => Planned::Refused(explain::refused(refusal, sheet)),
     })
@@ -289,9 +221,10 @@ fn quoted(sheet: &[u8]) -> Result<Sheet<'_>, Failure> {
 }
 
 /// The completions of a shell that the description of the arguments allows.
-fn completions(shell: &str) -> Vec<u8> {
+fn completions(given: &ArgMatches) -> Vec<u8> {
     let mut script = Vec::new();
-    if let Ok(shell) = shell.parse::<clap_complete::Shell>() {
+    let shell = given.get_one::<String>("SHELL").map(|shell| shell.parse());
+    if let Some(Ok::<clap_complete::Shell, _>(shell)) = shell {
         clap_complete::generate(shell, &mut cli::command(), "spardimple", &mut script);
     }
     script

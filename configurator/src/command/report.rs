@@ -2,12 +2,37 @@
 //! the listing's, all other words the sheet's.
 
 use super::html::escaped;
-use super::{drawing, show};
+use super::{cli, drawing, files, parsed, planned, quoted, show};
+use super::{Failure, Planned, Status, Streams};
 use crate::explain::Explained;
 use crate::listing::{Kind, Listing, Piece};
 use crate::quoted::{Sheet, COSTS, TIMES};
 use crate::text::shown;
+use clap::ArgMatches;
 use std::fmt::Write;
+
+/// Prints or writes the page.
+///
+/// # Errors
+///
+/// The sheet cannot be read or the page not be written.
+pub fn run(given: &ArgMatches, streams: &mut Streams) -> Result<Status, Failure> {
+    let (sheet, out) = (cli::needed(given, "SHEET"), cli::path(given, "out"));
+    let out = out.as_deref();
+    let (name, bytes) = (files::shown(&sheet), files::sheet_for(out, &sheet)?);
+    match planned(&bytes)? {
+        Planned::Listing(listing) => {
+            let page = plan(&name, &quoted(&bytes)?, &parsed(&listing)?, &listing);
+            streams.deliver(out, page.as_bytes())
+        }
+        Planned::Refused(why) => {
+            streams.say(&why.message(&name));
+            let page = refused(&name, &bytes, &why);
+            streams.deliver(out, page.as_bytes())?;
+            Ok(Status::Refused)
+        }
+    }
+}
 
 /// The page of a plan.
 #[must_use]

@@ -1,10 +1,32 @@
 //! `show`: a plan as tables that a person reads. The figures are the listing's, the parts and periods
 //! the sheet's.
 
-use super::columns;
+use super::{cli, columns, files, parsed, planned, quoted, Failure, Planned, Status, Streams};
 use crate::listing::{Listing, Piece};
 use crate::quoted::Sheet;
+use clap::ArgMatches;
 use std::fmt::Write;
+
+/// Prints the tables.
+///
+/// # Errors
+///
+/// The sheet cannot be read.
+pub fn run(given: &ArgMatches, streams: &mut Streams) -> Result<Status, Failure> {
+    let sheet = cli::needed(given, "SHEET");
+    let (name, bytes) = (files::shown(&sheet), files::sheet(&sheet)?);
+    match planned(&bytes)? {
+        Planned::Listing(listing) => {
+            let paint = Paint(streams.colour);
+            let text = plan(&name, &quoted(&bytes)?, &parsed(&listing)?, paint);
+            streams.print(text.as_bytes())
+        }
+        Planned::Refused(why) => {
+            streams.say(&why.message(&name));
+            Ok(Status::Refused)
+        }
+    }
+}
 
 /// Whether colours are used.
 #[derive(Clone, Copy, Debug, PartialEq, Eq)]

@@ -18,7 +18,13 @@ pub fn program() -> Command {
         Err(_) => Command::new(program),
     };
     command.current_dir(concat!(env!("CARGO_MANIFEST_DIR"), "/.."));
+    command.env("SPARDIMPLE_DESK", desk());
     command
+}
+
+/// Where the desk program is, if it is built.
+pub fn desk() -> PathBuf {
+    root("target/bin/desk")
 }
 
 /// Runs the command.
@@ -39,6 +45,17 @@ pub fn spardimple_fed<S: AsRef<OsStr>>(words: &[S], bytes: &[u8]) -> Output {
     let _ = input.write_all(bytes);
     drop(input);
     child.wait_with_output().expect("the command ends")
+}
+
+/// Runs `batch` on a folder, with an output folder.
+pub fn batch(sheets: &Path, out: &Path) -> Output {
+    let words = [
+        "batch".as_ref(),
+        sheets.as_os_str(),
+        "-o".as_ref(),
+        out.as_os_str(),
+    ];
+    spardimple(&words)
 }
 
 /// Standard output or standard error, as text.
