@@ -7,11 +7,10 @@ mod common;
 use common::command::{
     batch, desk, file, folder, names, program, spardimple, spardimple_fed, text,
 };
-use serde_json::Value;
 use std::fs;
 use std::os::unix::fs::symlink;
 use std::path::Path;
-use std::process::{Command, Output};
+use std::process::Command;
 
 #[test]
 fn plans_of_the_examples() {
@@ -111,77 +110,6 @@ fn the_tour_can_be_gone() {
             line.contains("mistyped") && !line.starts_with("sed") || line.contains("batch");
         assert_eq!(gone.status.code(), Some(i32::from(refused)), "{line}");
     }
-}
-
-/// The JSON that the command prints.
-fn json(output: &Output) -> Value {
-    serde_json::from_slice(&output.stdout).expect("the command prints JSON")
-}
-
-/// A listing as JSON has the listing's fields in their order, each piece on a line.
-#[test]
-fn plans_as_json() {
-    let planned = spardimple(&["plan", "--json", "examples/film-line.sheet"]);
-    assert_eq!(planned.status.code(), Some(0));
-    let lines = text(&planned.stdout);
-    assert!(
-        lines.starts_with("{\n  \"tasks\": 11,\n  \"pieces\": [\n"),
-        "{lines}"
-    );
-    let planned = json(&planned);
-    let pieces = planned["pieces"].as_array().unwrap();
-    let rows = file("examples/film-line.listing");
-    assert_eq!(rows.lines().count(), 1 + pieces.len());
-    for (row, piece) in rows.lines().skip(1).zip(pieces) {
-        let fields: Vec<&str> = row.split('\t').collect();
-        if let [_, core, task, kind, budget, window, jitter, charged] = fields[..] {
-            let line = format!(
-                "{{\"core\": {core}, \"task\": \"{task}\", \"kind\": \"{kind}\", \"budget\": {budget}, \
-                 \"window\": {window}, \"jitter\": {jitter}, \"charged\": {charged}}}"
-            );
-            assert!(lines.contains(&format!("\n    {line}")), "{line}");
-            assert_eq!(&serde_json::from_str::<Value>(&line).unwrap(), piece);
-        }
-    }
-    let none = spardimple_fed(
-        &["plan", "--json", "-"],
-        b"machine\t1\t1\ncost\t0\t0\t0\t0\t0\t0\t0\t0\t0\n",
-    );
-    assert_eq!(
-        text(&none.stdout),
-        "{\n  \"tasks\": 0,\n  \"pieces\": []\n}\n"
-    );
-}
-
-/// A refusal as JSON has the message's sentences; the text is ASCII, whatever they hold.
-#[test]
-fn refusals_as_json() {
-    let path = "examples/film-line-mistyped.sheet";
-    let refused = spardimple(&["plan", "--json", path]);
-    assert_eq!(refused.status.code(), Some(1));
-    let parsed = json(&refused);
-    let fields = [
-        ("number", Value::from(5)),
-        ("carries", Value::from(14)),
-        ("file", Value::from(path)),
-        ("line", Value::from(14)),
-    ];
-    for (name, value) in fields {
-        assert_eq!(parsed["refused"][name], value, "{name}");
-    }
-    for name in ["meaning", "why", "remedy"] {
-        let sentence = parsed["refused"][name].as_str().unwrap();
-        assert!(text(&refused.stderr).contains(sentence), "{sentence}");
-    }
-    let long = spardimple_fed(&["plan", "--json", "-"], &vec![b'x'; 16_385]);
-    let parsed = json(&long);
-    for name in ["line", "why"] {
-        assert_eq!(parsed["refused"][name], Value::Null, "{name}");
-    }
-    let sheet = "machine\t1\t1\ncost\t0\t0\t0\t0\t0\t0\t0\t0\t100001\n";
-    let refused = spardimple_fed(&["plan", "--json", "-"], sheet.as_bytes());
-    assert!(refused.stdout.is_ascii());
-    assert_eq!(json(&refused)["refused"]["why"], "π is 100001 here");
 }
 
 #[test]

@@ -46,7 +46,6 @@ pub fn command() -> Command {
         .after_help(BELOW)
         .subcommand_required(true)
         .arg_required_else_help(true)
-        .disable_help_subcommand(true)
         .subcommands([plan(), verdict(), show(), report(), desk(), batch(), completions(), man()])
 }
 
@@ -54,12 +53,13 @@ fn plan() -> Command {
     Command::new("plan")
         .about("Prints the listing of a sheet: which core runs which task, whole or in two pieces")
         .after_help(
-            "Example: spardimple plan examples/film-line.sheet -o film-line.listing\n\n\
+            "Example: spardimple plan examples/film-line.sheet -o film-line.listing --origin\n\n\
              A refused sheet has no listing, and FILE is left as it was. With --json the refusal is\n\
              printed as JSON too.",
         )
         .arg(sheet())
         .arg(out("FILE", "Writes the listing to FILE, whole or not at all"))
+        .arg(origin())
         .arg(
             Arg::new("json")
                 .long("json")
@@ -171,6 +171,15 @@ fn out(value: &'static str, help: &'static str) -> Arg {
         .value_name(value)
         .value_parser(value_parser!(PathBuf))
         .help(help)
+}
+
+/// Whether a file beside the listing says what it came from.
+fn origin() -> Arg {
+    Arg::new("origin")
+        .long("origin")
+        .action(ArgAction::SetTrue)
+        .requires("out")
+        .help("Writes a file beside it, its name with .origin behind, that says what it came from: the program's commit, and the SHA-256 of the library, the sheet and the listing")
 }
 
 /// A file or folder that stands by its place.

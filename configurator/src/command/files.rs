@@ -42,14 +42,17 @@ pub fn sheet(path: &Path) -> Result<Vec<u8>, Failure> {
     beginning(open(path)?, path, SHEET_MOST + 1)
 }
 
-/// A sheet's bytes, where the answer goes into a file.
+/// A sheet's bytes, where the answer goes into files.
 ///
 /// # Errors
 ///
-/// The file cannot be read, or is the one that the answer would overwrite.
-pub fn sheet_for(out: Option<&Path>, path: &Path) -> Result<Vec<u8>, Failure> {
+/// The file cannot be read, or is one that the answer would overwrite.
+pub fn sheet_for<'a>(
+    outs: impl IntoIterator<Item = &'a Path>,
+    path: &Path,
+) -> Result<Vec<u8>, Failure> {
     let file = open(path)?;
-    if let Some(out) = out.filter(|out| !is_standard(out)) {
+    for out in outs.into_iter().filter(|out| !is_standard(out)) {
         let there = identity(fs::metadata(out));
         if there.is_some() && there == identity(file.metadata()) {
             return Err(overwrites(out, path));

@@ -1,15 +1,79 @@
-//! A listing, or a refusal, as JSON.
+//! Answers as JSON. `docs/json.schema.json` describes them; its examples are the tests'.
 
+use super::files::{self, SHEET_MOST};
+use super::layout::laid_out;
+use super::{Failure, Status, Streams};
 use crate::explain::Explained;
 use crate::listing::{Listing, Piece};
-use serde::Serialize;
-use serde_json::ser::{Formatter, Serializer};
-use serde_json::{json, Value};
-use std::io::{self, Write};
+use crate::origin;
+use crate::quoted::{number, Sheet, COSTS, TIMES};
+use serde_json::{json, Map, Value};
+use std::fmt::Write;
+use std::os::unix::ffi::OsStrExt;
+use std::path::Path;
 
-/// A listing: its tasks, and its pieces in the listing's order.
+/// The version of the form. It grows when a field changes its meaning or goes; a new field changes
+/// nothing for those who do not know it.
+pub const VERSION: u32 = 1;
+
+/// A file that was asked about: what it is, where it is, and its bytes if they could be read.
+pub struct Asked<'a> {
+    /// `sheet`, `records`, `costs` or `table`.
+    pub what: &'static str,
+    /// Its name.
+    pub path: &'a Path,
+    /// What was read of it.
+    pub bytes: Option<&'a [u8]>,
+}
+
+/// An answer: fields by their names, in order.
+pub type Fields = Map<String, Value>;
+
+/// The answer to a command, begun: what made it, and what it was asked about.
 #[must_use]
-pub fn listing(listing: &Listing) -> String {
+pub fn begun(command: &str, asked: &[Asked]) -> Fields {
+    let files: Vec<Value> = asked.iter().map(file).collect();
+    fields(json!({
+        "version": VERSION,
+        "command": command,
+        "made": {
+            "program": origin::PROGRAM,
+            "commit": origin::COMMIT,
+            "archive_sha256": origin::ARCHIVE,
+        },
+        "files": files,
+    }))
+}
+
+/// A file: its name for people, its name to open it by, and its digest if it was read whole.
+fn file(asked: &Asked) -> Value {
+    let whole = asked.bytes.filter(|bytes| bytes.len() <= SHEET_MOST);
+    let path = (!files::is_standard(asked.path)).then(|| encoded(asked.path));
+    json!({
+        "what": asked.what,
+        "name": files::shown(asked.path),
+        "path": path,
+        "sha256": whole.map(origin::digest),
+    })
+}
+
+/// A file's name by which it can be opened again, whatever bytes it has: as in a URL, what is no
+/// letter, digit, or one of `-._~/` is `%` and two hexadecimal digits.
+fn encoded(path: &Path) -> String {
+    let mut text = String::new();
+    for &byte in path.as_os_str().as_bytes() {
+        if byte.is_ascii_alphanumeric() || b"-._~/".contains(&byte) {
+            text.push(char::from(byte));
+        } else {
+            let _ = write!(text, "%{byte:02X}");
+        }
+    }
+    text
+}
+
+/// A listing's fields: its tasks, and its pieces in the listing's order.
+#[must_use]
+pub fn listing(listing: &Listing) -> Fields {
     let piece = |piece: &Piece| {
         json!({
             "core": piece.core,
@@ -22,17 +86,43 @@ pub fn listing(listing: &Listing) -> String {
         })
     };
     let pieces: Vec<Value> = listing.pieces.iter().map(piece).collect();
-    laid_out(&json!({ "tasks": listing.tasks, "pieces": pieces }))
+    fields(json!({ "answer": "planned", "tasks": listing.tasks, "pieces": pieces }))
 }
 
-/// A refusal: its number, what it carries, the line, and the sentences.
+/// An accepted sheet's fields: machine, costs, parts and fits, as they stand in it.
 #[must_use]
-pub fn refused(file: &str, explained: &Explained) -> String {
-    laid_out(&json!({
+pub fn sheet(sheet: &Sheet) -> Fields {
+    let part = |part: &crate::quoted::Part| {
+        let mut fields = fields(json!({ "name": part.name }));
+        fields.extend(numbers(&TIMES, &part.times));
+        Value::Object(fields)
+    };
+    let parts: Vec<Value> = sheet.parts.iter().map(part).collect();
+    let fit = |fit: &crate::quoted::Fit| json!({ "task": fit.task, "part": fit.part });
+    let fits: Vec<Value> = sheet.fits.iter().map(fit).collect();
+    fields(json!({
+        "machine": { "cores": sheet.cores, "grain": number(sheet.grain) },
+        "costs": numbers(&COSTS, &sheet.costs),
+        "parts": parts,
+        "fits": fits,
+    }))
+}
+
+/// Numbers of the sheet by their names.
+fn numbers(names: &[&str], texts: &[&str]) -> Fields {
+    (names.iter().zip(texts))
+        .map(|(name, text)| ((*name).to_owned(), json!(number(text))))
+        .collect()
+}
+
+/// A refusal's fields: its number, what it carries, the line, and the sentences.
+#[must_use]
+pub fn refused(explained: &Explained) -> Fields {
+    fields(json!({
+        "answer": "refused",
         "refused": {
             "number": explained.refusal.number(),
             "carries": explained.refusal.carries(),
-            "file": file,
             "line": explained.line.as_ref().map(|line| line.number),
             "meaning": explained.meaning,
             "why": explained.why,
@@ -41,141 +131,44 @@ pub fn refused(file: &str, explained: &Explained) -> String {
     }))
 }
 
-/// A value as text, with a newline behind it.
-fn laid_out(value: &Value) -> String {
-    let mut bytes = Vec::new();
-    let mut serializer = Serializer::with_formatter(&mut bytes, Layout::default());
-    // a vector takes all bytes, and the layout writes none but ASCII
-    let _ = value.serialize(&mut serializer);
-    bytes.push(b'\n');
-    String::from_utf8(bytes).unwrap_or_default()
+/// A failure's fields: the exit status and the sentence.
+#[must_use]
+pub fn failed(failure: &Failure) -> Fields {
+    fields(json!({
+        "answer": "failed",
+        "failed": { "status": failure.status as u8, "why": failure.why },
+    }))
 }
 
-/// The levels whose values have lines of their own; what lies deeper stands on one line.
-const LINES: usize = 2;
-
-/// How JSON is laid out, in ASCII: other letters are written by their numbers.
-#[derive(Default)]
-struct Layout {
-    /// The brackets that are open.
-    depth: usize,
-    /// Whether nothing stands behind the last one yet.
-    empty: bool,
+/// An answer whole, as text.
+#[must_use]
+pub fn text(mut begun: Fields, answer: Fields) -> String {
+    begun.extend(answer);
+    laid_out(&Value::Object(begun))
 }
 
-impl Layout {
-    fn open<W: ?Sized + Write>(&mut self, writer: &mut W, bracket: &[u8]) -> io::Result<()> {
-        self.depth += 1;
-        self.empty = true;
-        writer.write_all(bracket)
+/// How a run ended whose answers are JSON: a failure is told as JSON too, if that can be printed.
+///
+/// # Errors
+///
+/// The failure itself.
+pub fn told(
+    command: &str,
+    asked: &[Asked],
+    done: Result<Status, Failure>,
+    streams: &mut Streams,
+) -> Result<Status, Failure> {
+    if let Err(failure) = &done {
+        let text = text(begun(command, asked), failed(failure));
+        let _ = streams.print(text.as_bytes());
     }
-
-    fn close<W: ?Sized + Write>(&mut self, writer: &mut W, bracket: &[u8]) -> io::Result<()> {
-        self.depth -= 1;
-        if self.depth < LINES && !self.empty {
-            self.line(writer)?;
-        }
-        self.empty = false;
-        writer.write_all(bracket)
-    }
-
-    /// What stands before a value, or before its name.
-    fn next<W: ?Sized + Write>(&mut self, writer: &mut W, first: bool) -> io::Result<()> {
-        self.empty = false;
-        match (first, self.depth <= LINES) {
-            (true, true) => self.line(writer),
-            (true, false) => Ok(()),
-            (false, true) => writer.write_all(b",").and_then(|()| self.line(writer)),
-            (false, false) => writer.write_all(b", "),
-        }
-    }
-
-    fn line<W: ?Sized + Write>(&self, writer: &mut W) -> io::Result<()> {
-        write!(writer, "\n{:indent$}", "", indent = 2 * self.depth)
-    }
+    done
 }
 
-impl Formatter for Layout {
-    fn begin_array<W: ?Sized + Write>(&mut self, writer: &mut W) -> io::Result<()> {
-        self.open(writer, b"[")
-    }
-
-    fn end_array<W: ?Sized + Write>(&mut self, writer: &mut W) -> io::Result<()> {
-        self.close(writer, b"]")
-    }
-
-    fn begin_array_value<W: ?Sized + Write>(
-        &mut self,
-        writer: &mut W,
-        first: bool,
-    ) -> io::Result<()> {
-        self.next(writer, first)
-    }
-
-    fn begin_object<W: ?Sized + Write>(&mut self, writer: &mut W) -> io::Result<()> {
-        self.open(writer, b"{")
-    }
-
-    fn end_object<W: ?Sized + Write>(&mut self, writer: &mut W) -> io::Result<()> {
-        self.close(writer, b"}")
-    }
-
-    fn begin_object_key<W: ?Sized + Write>(
-        &mut self,
-        writer: &mut W,
-        first: bool,
-    ) -> io::Result<()> {
-        self.next(writer, first)
-    }
-
-    fn begin_object_value<W: ?Sized + Write>(&mut self, writer: &mut W) -> io::Result<()> {
-        writer.write_all(b": ")
-    }
-
-    fn write_string_fragment<W: ?Sized + Write>(
-        &mut self,
-        writer: &mut W,
-        fragment: &str,
-    ) -> io::Result<()> {
-        for c in fragment.chars() {
-            if c.is_ascii() {
-                write!(writer, "{c}")?;
-            } else {
-                for unit in c.encode_utf16(&mut [0; 2]) {
-                    write!(writer, "\\u{unit:04x}")?;
-                }
-            }
-        }
-        Ok(())
-    }
-}
-
-#[cfg(test)]
-mod tests {
-    use super::*;
-
-    #[test]
-    fn texts_are_quoted() {
-        let text = |text: &str| laid_out(&Value::from(text));
-        assert_eq!(text("a\"b\\c\n"), "\"a\\\"b\\\\c\\n\"\n");
-        assert_eq!(text("é𝄞"), "\"\\u00e9\\ud834\\udd1e\"\n");
-    }
-
-    #[test]
-    fn two_levels_have_lines() {
-        let value = json!({ "a": [], "b": [{ "c": [1, 2], "d": {} }, 3], "e": { "f": null } });
-        let text = "{
-  \"a\": [],
-  \"b\": [
-    {\"c\": [1, 2], \"d\": {}},
-    3
-  ],
-  \"e\": {
-    \"f\": null
-  }
-}
-";
-        assert_eq!(laid_out(&value), text);
-        assert_eq!(serde_json::from_str::<Value>(text).unwrap(), value);
+/// The fields of an object.
+fn fields(object: Value) -> Fields {
+    match object {
+        Value::Object(fields) => fields,
+        _ => Fields::new(),
     }
 }

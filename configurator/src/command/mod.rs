@@ -11,6 +11,7 @@ pub mod drawing;
 pub mod files;
 pub mod html;
 pub mod json;
+pub mod layout;
 pub mod plan;
 pub mod report;
 pub mod show;

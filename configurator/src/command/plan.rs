@@ -1,7 +1,10 @@
 //! `plan`: the listing of a sheet.
 
-use super::{cli, files, json, parsed, planned, Failure, Planned, Status, Streams};
+use super::json::{self, Asked};
+use super::{cli, files, parsed, planned, Failure, Planned, Status, Streams};
+use crate::origin;
 use clap::ArgMatches;
+use std::path::{Path, PathBuf};
 
 /// Prints or writes the listing.
 ///
@@ -9,25 +12,62 @@ use clap::ArgMatches;
 ///
 /// The sheet cannot be read or the listing not be written.
 pub fn run(given: &ArgMatches, streams: &mut Streams) -> Result<Status, Failure> {
-    let (sheet, out, json) = (
-        cli::needed(given, "SHEET"),
-        cli::path(given, "out"),
-        given.get_flag("json"),
-    );
+    let sheet = cli::needed(given, "SHEET");
+    let done = plan(given, &sheet, streams);
+    if given.get_flag("json") {
+        return json::told("plan", &[asked(&sheet, None)], done, streams);
+    }
+    done
+}
+
+fn plan(given: &ArgMatches, sheet: &Path, streams: &mut Streams) -> Result<Status, Failure> {
+    let out = cli::path(given, "out");
     let out = out.as_deref();
-    let (name, bytes) = (files::shown(&sheet), files::sheet_for(out, &sheet)?);
-    match (planned(&bytes)?, json) {
-        (Planned::Listing(listing), false) => streams.deliver(out, &listing),
-        (Planned::Listing(listing), true) => {
-            let text = json::listing(&parsed(&listing)?);
-            streams.deliver(out, text.as_bytes())
+    let beside = match out {
+        Some(out) if given.get_flag("origin") => Some(origin_of(out)?),
+        _ => None,
+    };
+    let beside = beside.as_deref();
+    let bytes = files::sheet_for(out.into_iter().chain(beside), sheet)?;
+    let name = files::shown(sheet);
+    let in_json = |answer| {
+        let begun = json::begun("plan", &[asked(sheet, Some(&bytes))]);
+        json::text(begun, answer).into_bytes()
+    };
+    match planned(&bytes)? {
+        Planned::Listing(mut listing) => {
+            if given.get_flag("json") {
+                listing = in_json(json::listing(&parsed(&listing)?));
+            }
+            streams.deliver(out, &listing)?;
+            if let Some(beside) = beside {
+                files::write(beside, origin::beside(&name, &bytes, &listing).as_bytes())?;
+            }
+            Ok(Status::Accepted)
         }
-        (Planned::Refused(why), json) => {
+        Planned::Refused(why) => {
             streams.say(&why.message(&name));
-            if json && out.is_none() {
-                streams.print(json::refused(&name, &why).as_bytes())?;
+            if given.get_flag("json") {
+                streams.print(&in_json(json::refused(&why)))?;
             }
             Ok(Status::Refused)
         }
     }
+}
+
+/// Where it is said what a listing came from.
+fn origin_of(listing: &Path) -> Result<PathBuf, Failure> {
+    if files::is_standard(listing) {
+        let why = "--origin: there is no file beside standard output; name one with -o";
+        return Err(Failure::wrong_use(why.to_owned()));
+    }
+    let mut name = listing.as_os_str().to_owned();
+    name.push(".origin");
+    Ok(PathBuf::from(name))
+}
+
+/// The sheet, as it was asked about.
+fn asked<'a>(path: &'a Path, bytes: Option<&'a [u8]>) -> Asked<'a> {
+    let what = "sheet";
+    Asked { what, path, bytes }
 }
