@@ -404,7 +404,8 @@ fn the_sheet_is_never_the_output() {
                     .output()
                     .unwrap();
                 assert_eq!(wrong.status.code(), Some(2), "{words:?}");
-                assert!(wrong.stdout.is_empty(), "{words:?}");
+                let in_json = words.contains(&"--json");
+                assert_eq!(!wrong.stdout.is_empty(), in_json, "{words:?}");
                 let name = if input == "-" {
                     "standard input"
                 } else {
