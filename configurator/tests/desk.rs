@@ -5,7 +5,7 @@
 #![warn(clippy::all, clippy::pedantic)]
 
 use inputs::sheets::{full_load, SMALL};
-use inputs::{bytes, cases, Random};
+use inputs::{bytes, cases, rounds, Random};
 use plain::desk::play;
 use plain::verdict::Way;
 use std::collections::BTreeMap;
@@ -74,7 +74,7 @@ fn random_scripts() {
     let file = NamedTempFile::new().unwrap();
     let mut counts = BTreeMap::new();
     let mut compared = 0;
-    for round in 0..420 {
+    for round in 0..rounds(100) {
         for draw in &SMALL {
             let sheet = if round % 4 == 0 && draw.cost == 0 {
                 full_load(0, &mut random)

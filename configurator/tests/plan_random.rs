@@ -12,7 +12,7 @@ use common::refusal;
 use configurator::Refusal;
 use inputs::sheets::{full_load, SheetDraw, SHEET, SMALL};
 use inputs::strategies::{self, smallest_failure};
-use inputs::Random;
+use inputs::{rounds, Random};
 use plain::listing;
 use plain::verdict::Way;
 
@@ -28,7 +28,7 @@ fn whole_sheets() {
     let mut random = Random::for_test();
     let mut tally = Tally::default();
     for draw in SMALL {
-        for _ in 0..6_000 {
+        for _ in 0..rounds(1_500) {
             let _ = tally.sheet(&draw.sheet(&mut random), Way::EveryLength);
         }
     }
@@ -41,8 +41,8 @@ fn whole_sheets() {
 fn full_loads() {
     let mut random = Random::for_test();
     let mut tally = Tally::default();
-    for (cost, each, way) in [(0, 10_000, Way::EveryLength), (2, 2_000, Way::Stretches)] {
-        for _ in 0..each {
+    for (cost, each, way) in [(0, 1_500, Way::EveryLength), (2, 300, Way::Stretches)] {
+        for _ in 0..rounds(each) {
             let _ = tally.sheet(&full_load(cost, &mut random), way);
         }
         println!("costs up to {cost}, the sum so far: {tally}");
@@ -60,7 +60,7 @@ fn long_times() {
         (SheetDraw::new(6, 50_000, 100, 500), 250),
         (SheetDraw::new(16, 1_000_000, 500, 20_000), 5_000),
     ] {
-        for _ in 0..800 {
+        for _ in 0..rounds(200) {
             let sheet = String::from_utf8(draw.sheet(&mut random)).unwrap();
             let fields: Vec<&str> = sheet.splitn(3, '\t').collect();
             let rest = fields[2].trim_start_matches(|c: char| c.is_ascii_digit());

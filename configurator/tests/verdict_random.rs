@@ -6,7 +6,7 @@ mod common;
 
 use common::compare::Tally;
 use inputs::cores::{piece, share_of, Draw};
-use inputs::Random;
+use inputs::{rounds, Random};
 use plain::demand::Core;
 use plain::piece::{Costs, Kind, Piece};
 
@@ -16,7 +16,7 @@ fn compare(draws: &[Draw], each: u64) {
     let mut random = Random::for_test();
     let mut tally = Tally::default();
     for draw in draws {
-        for _ in 0..each {
+        for _ in 0..rounds(each) {
             let core = draw.core(&mut random);
             tally.core(&core, &mut random);
         }
@@ -29,25 +29,22 @@ fn compare(draws: &[Draw], each: u64) {
 
 #[test]
 fn small_cores_without_costs() {
-    compare(&[Draw::new(5, 12, 0, 0), Draw::new(7, 60, 0, 0)], 20_000);
+    compare(&[Draw::new(5, 12, 0, 0), Draw::new(7, 60, 0, 0)], 8_000);
 }
 
 #[test]
 fn small_cores_with_jitter() {
-    compare(&[Draw::new(5, 12, 30, 0), Draw::new(5, 60, 220, 0)], 20_000);
+    compare(&[Draw::new(5, 12, 30, 0), Draw::new(5, 60, 220, 0)], 8_000);
 }
 
 #[test]
 fn small_cores_with_costs() {
-    compare(&[Draw::new(4, 40, 0, 2), Draw::new(6, 200, 0, 6)], 20_000);
+    compare(&[Draw::new(4, 40, 0, 2), Draw::new(6, 200, 0, 6)], 8_000);
 }
 
 #[test]
 fn small_cores_with_costs_and_jitter() {
-    compare(
-        &[Draw::new(4, 40, 25, 2), Draw::new(6, 200, 120, 6)],
-        20_000,
-    );
+    compare(&[Draw::new(4, 40, 25, 2), Draw::new(6, 200, 120, 6)], 8_000);
 }
 
 #[test]

@@ -16,5 +16,5 @@ pub mod sheets;
 pub mod stated;
 pub mod strategies;
 
-pub use random::Random;
+pub use random::{rounds, Random};
 pub use stated::{bytes, cases, data};

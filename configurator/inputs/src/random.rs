@@ -5,6 +5,14 @@ use std::env;
 /// The seed where none is set.
 pub const SEED: u64 = 20_231_115;
 
+/// So many rounds of a random test, or where `SPARDIMPLE_MORE` is set that many times as many. The
+/// gate takes few: it may run under an emulator.
+#[must_use]
+pub fn rounds(few: u64) -> u64 {
+    let more = env::var("SPARDIMPLE_MORE").ok();
+    few * more.and_then(|more| more.parse().ok()).unwrap_or(1)
+}
+
 /// Random numbers by splitmix64.
 ///
 /// ```
