@@ -231,13 +231,13 @@ fn damage() -> impl Strategy<Value = Damage> {
 /// There are no such values.
 pub fn smallest_failure<S: Strategy>(
     values: &S,
-    cases: u32,
+    cases: u64,
     random: &mut Random,
     property: impl Fn(&S::Value) -> Result<(), String>,
 ) -> Option<(String, S::Value)> {
     let seed = [0; 16].map(|_: u8| random.byte());
     let config = Config {
-        cases,
+        cases: u32::try_from(cases).unwrap_or(u32::MAX),
         failure_persistence: None,
         max_shrink_iters: 100_000,
         ..Config::default()
