@@ -3,6 +3,7 @@
 //! `cargo bench --bench plan` prints tables; behind `--` it takes `--json` (one object instead),
 //! `--quick` (a tenth of the sheets), `--svg DIR` (plots besides), and `--spin NAME`, which only has
 //! the library plan the workload of that name for five seconds, for a profiler to look on.
+//! `--first-fit` only counts the sheets that the walk plans, and those that first fit would.
 //! `--core LIST` only looks at the core of such pieces as `1/2, 3/7`, a budget in a period.
 //! `--hunt SECONDS` searches for slow inputs instead, from the seed in the environment variable
 //! `SPARDIMPLE_SEED`.
@@ -20,6 +21,7 @@
 )] // counts become means, nanoseconds ratios, and utilisations ticks
 
 mod counted;
+mod first_fit;
 mod hunts;
 mod loads;
 mod papers;
@@ -47,6 +49,7 @@ use tally::{Counts, Silent};
 struct Options {
     json: bool,
     quick: bool,
+    first_fit: bool,
     svg: Option<PathBuf>,
     spin: Option<String>,
     hunt: Option<u64>,
@@ -61,12 +64,13 @@ fn options() -> Options {
             "--bench" => {} // cargo says so
             "--json" => options.json = true,
             "--quick" => options.quick = true,
+            "--first-fit" => options.first_fit = true,
             "--svg" => options.svg = words.next().map(PathBuf::from),
             "--spin" => options.spin = words.next(),
             "--core" => options.core = words.next(),
             "--hunt" => options.hunt = words.next().and_then(|word| word.parse().ok()),
             _ => {
-                eprintln!("plan [--json] [--quick] [--svg DIR] [--spin NAME] [--core LIST] [--hunt SECONDS], not {word}");
+                eprintln!("plan [--json] [--quick] [--first-fit] [--svg DIR] [--spin NAME] [--core LIST] [--hunt SECONDS], not {word}");
                 process::exit(2);
             }
         }
@@ -87,6 +91,9 @@ fn main() {
         return hunt(Duration::from_secs(seconds));
     }
     let (each, rounds) = if options.quick { (1, 3) } else { (10, 9) };
+    if options.first_fit {
+        return println!("{}", first_fit::table(&loads::loads(each)));
+    }
     let mut measured = Vec::new();
     for load in loads::loads(each) {
         eprintln!("{} ({} sheets)", load.name, load.sheets.len());
