@@ -277,35 +277,6 @@ fn a_refused_verdict_is_a_sentence_on_standard_error() {
     assert!(text(&refused.stderr).starts_with("examples/film-core.rec: refused (8)"));
 }
 
-/// Every figure of `show` stands in the listing or in the sheet, and every piece is shown.
-#[test]
-fn show_has_the_listing() {
-    let shown = spardimple(&["show", "examples/film-line.sheet"]);
-    assert_eq!(shown.status.code(), Some(0));
-    let shown = text(&shown.stdout);
-    let words = |line: &str| {
-        line.split_whitespace()
-            .map(str::to_owned)
-            .collect::<Vec<_>>()
-    };
-    let rows: Vec<Vec<String>> = shown.lines().map(words).collect();
-    for line in file("examples/film-line.listing").lines().skip(1) {
-        let f = words(line);
-        let has = |row: &Vec<String>| {
-            row.len() == 8
-                && [&row[0], &row[2], &row[3], &row[4], &row[6], &row[7]]
-                    == [&f[2], &f[3], &f[4], &f[5], &f[6], &f[7]]
-        };
-        assert!(rows.iter().any(has), "{line}");
-    }
-    let halves = words("jaw-cross 2 150 315 0 245 │ 3 160 685 1 265");
-    assert!(rows.contains(&halves), "{shown}");
-    assert!(!shown.contains('\u{1b}'), "no colour in a pipe");
-    let refused = spardimple(&["show", "examples/film-line-mistyped.sheet"]);
-    assert_eq!(refused.status.code(), Some(1));
-    assert!(refused.stdout.is_empty());
-}
-
 /// On a terminal there are colours, but not where `NO_COLOR` is set, and a progress bar; `script`
 /// makes the terminal.
 #[test]

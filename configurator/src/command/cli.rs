@@ -177,7 +177,7 @@ fn unit_of_ticks() -> Arg {
         .default_value(TICKS)
         .hide_default_value(true)
         .value_parser(short_word)
-        .help("Says what a tick is, as us or ms, in place of ticks; no number is changed by it")
+        .help("What a tick is, as us or ms; no number is changed by it")
 }
 
 /// A word that can stand behind any number: 1 to 8 letters and digits, not digits alone.
