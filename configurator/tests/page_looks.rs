@@ -8,6 +8,7 @@ mod common;
 use common::command::{folder, text};
 use common::long::{tallest, widest};
 use common::page::{bars, drawings, example, made};
+use std::fmt::Write;
 use std::fs;
 use std::path::Path;
 use std::process::Command;
@@ -103,8 +104,9 @@ fn on_a_desk_and_on_a_phone() {
         let copy = format!("{before}<script>{looks}</script>\n{behind}");
         fs::write(folder.join(format!("{name}-looked-at.html")), copy).unwrap();
         for width in [320, 360, 820, 821, 1100] {
-            frames += &format!(
-                "<iframe width=\"{width}\" height=\"800\" src=\"{name}-looked-at.html\"></iframe>\n"
+            let _ = writeln!(
+                frames,
+                "<iframe width=\"{width}\" height=\"800\" src=\"{name}-looked-at.html\"></iframe>"
             );
             expected.push(format!("{name} {width}: {} bars", bars(page)));
         }

@@ -149,10 +149,16 @@ fn drawings(body: &mut String, sheet: &Sheet, listing: &Listing, unit: &str) {
     }
 }
 
-/// A title over figures, with what they are in.
-fn title(body: &mut String, title: &str, unit: &str) {
-    let unit = escaped(unit);
-    let _ = writeln!(body, "<h2>{title} <small>times in {unit}</small></h2>");
+/// A table with a title over it and what its times are in, if it has rows.
+fn section(body: &mut String, title: &str, unit: &str, head: &[&str], groups: &[Group]) {
+    if groups.iter().any(|group| !group.rows.is_empty()) {
+        let _ = writeln!(
+            body,
+            "<h2>{title} <small>times in {}</small></h2>\n{}",
+            escaped(unit),
+            table(head, groups)
+        );
+    }
 }
 
 /// Each core's pieces in placement order.
@@ -164,18 +170,15 @@ fn pieces(body: &mut String, sheet: &Sheet, listing: &Listing, unit: &str) {
         Group { title, rows }
     };
     let groups: Vec<Group> = (1..=sheet.cores).map(group).collect();
-    title(body, "Pieces", unit);
-    body.push_str(&table(&show::PIECE, &groups));
+    section(body, "Pieces", unit, &show::PIECE, &groups);
 }
 
 /// The split tasks, each with its two pieces.
 fn splits(body: &mut String, listing: &Listing, unit: &str) {
     let rows = show::half_rows(listing);
-    if !rows.is_empty() {
-        title(body, "Split tasks", unit);
-        let groups = rows.chunks(2).map(|rows| Group::untitled(rows.to_vec()));
-        body.push_str(&table(&show::HALF, &groups.collect::<Vec<_>>()));
-    }
+    let groups = rows.chunks(2).map(|rows| Group::untitled(rows.to_vec()));
+    let groups: Vec<Group> = groups.collect();
+    section(body, "Split tasks", unit, &show::HALF, &groups);
 }
 
 /// The sheet's tasks, each with its part's times and where it is placed.
@@ -190,13 +193,14 @@ fn tasks(body: &mut String, sheet: &Sheet, listing: &Listing, unit: &str) {
         row.push(placed(listing, fit.task));
         row
     };
-    title(body, "Tasks", unit);
-    body.push_str(
-        "<p class=\"note\">C is the work, D the deadline, T the period, J the jitter, P and M the cache charges of a \
-         preemption and a migration.</p>\n",
-    );
-    let rows = sheet.fits.iter().map(row).collect();
-    body.push_str(&table(&head, &[Group::untitled(rows)]));
+    let rows = Group::untitled(sheet.fits.iter().map(row).collect());
+    section(body, "Tasks", unit, &head, &[rows]);
+    if !sheet.fits.is_empty() {
+        body.push_str(
+            "<p class=\"note\">C is the work, D the deadline, T the period, J the jitter, P and M the cache charges of a \
+             preemption and a migration.</p>\n",
+        );
+    }
 }
 
 /// Where a task is placed.
@@ -219,9 +223,8 @@ fn parts(body: &mut String, sheet: &Sheet, unit: &str) {
         row.push(tasks.join(", "));
         row
     };
-    title(body, "Parts", unit);
-    let rows = sheet.parts.iter().map(row).collect();
-    body.push_str(&table(&head, &[Group::untitled(rows)]));
+    let rows = Group::untitled(sheet.parts.iter().map(row).collect());
+    section(body, "Parts", unit, &head, &[rows]);
 }
 
 /// The machine and the costs.
@@ -230,8 +233,8 @@ fn machine(body: &mut String, sheet: &Sheet, unit: &str) {
     head.extend(COSTS);
     let mut row = vec![sheet.cores.to_string(), sheet.grain.to_owned()];
     row.extend(sheet.costs.map(str::to_owned));
-    title(body, "Machine and costs", unit);
-    body.push_str(&table(&head, &[Group::untitled(vec![row])]));
+    let row = Group::untitled(vec![row]);
+    section(body, "Machine and costs", unit, &head, &[row]);
 }
 
 /// The whole page around its body. The policy forbids the browser to fetch or run anything.
