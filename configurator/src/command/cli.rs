@@ -100,9 +100,9 @@ fn show() -> Command {
     Command::new("show")
         .about("Shows a sheet's plan as a table: each core with its pieces, and the split tasks")
         .after_help(
-            "Example: spardimple show examples/film-line.sheet\n\n\
-             No line is longer than 80 columns, unless the file's name is. There is colour on a\n\
-             terminal only, and none where NO_COLOR is set.",
+            "Example: spardimple show --unit us examples/film-line.sheet\n\n\
+             No line is longer than 80 columns, unless the file's name is. There is colour on\n\
+             a terminal only, and none where NO_COLOR is set.",
         )
         .arg(sheet())
         .arg(unit_of_ticks())
@@ -112,9 +112,10 @@ fn report() -> Command {
     Command::new("report")
         .about("Writes a sheet's plan, or its refusal, as one page for a browser")
         .after_help(
-            "Example: spardimple report examples/film-line.sheet -o film-line.html\n\n\
-             The page needs no network and no script. A refused sheet has a page too, with what was\n\
-             refused, where and what to do; the exit status is 1 then.",
+            "Example: spardimple report --unit us examples/film-line.sheet -o film-line.html\n\n\
+             The page needs no network and no script; it can be printed, and read on a phone. A\n\
+             refused sheet has a page too, with what was refused, where and what to do; the exit\n\
+             status is 1 then.",
         )
         .arg(sheet())
         .arg(unit_of_ticks())

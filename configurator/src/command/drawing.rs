@@ -6,6 +6,7 @@
 //! A row is HTML, and only what is to scale is SVG, with places in per cent: so letters have their
 //! own size on every screen, and a table that goes over several printed pages has its axis on each.
 
+use super::columns;
 use super::html::escaped;
 use crate::listing::{Kind, Listing, Piece};
 use std::fmt::Write;
@@ -44,14 +45,14 @@ pub fn near(listing: &Listing) -> Option<u32> {
 #[must_use]
 pub fn cores(listing: &Listing, cores: usize, end: u32, unit: &str) -> String {
     let axis = Axis::new(end);
-    let below = format!("{} after release", escaped(unit));
+    let caption = format!("{unit} after release");
     let widest = |words: &dyn Fn(&Piece) -> String| {
         let letters = listing.pieces.iter().map(|p| words(p).chars().count());
         letters.max().unwrap_or(0)
     };
-    let figures_wide = widest(&figures).max(unit.chars().count() + " after release".len());
+    let behind = widest(&figures).max(columns::width(&caption));
     let mut html = format!(
-        "<div class=\"charts\" style=\"--names: {}ch; --figures: {figures_wide}ch\">\n",
+        "<div class=\"charts\" style=\"--names: {}ch; --figures: {behind}ch\">\n",
         widest(&label).max("Core 16".len())
     );
     for core in 1..=cores {
@@ -66,10 +67,11 @@ pub fn cores(listing: &Listing, cores: usize, end: u32, unit: &str) -> String {
         let _ = write!(
             html,
             "<table class=\"chart{}\">\n<colgroup><col class=\"names\"/><col/><col class=\"figures\"/></colgroup>\n\
-             <thead><tr><th>Core {core}</th><td class=\"to-scale\">{}</td><td class=\"figures\">{below}</td></tr></thead>\n\
+             <thead><tr><th>Core {core}</th><td class=\"to-scale\">{}</td><td class=\"figures\">{}</td></tr></thead>\n\
              <tbody>\n",
             if pieces > LONG { " long" } else { "" },
-            axis.drawn()
+            axis.drawn(),
+            escaped(&caption)
         );
         for piece in listing.on_core(core) {
             let _ = writeln!(
