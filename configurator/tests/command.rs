@@ -5,12 +5,11 @@
 mod common;
 
 use common::command::{
-    batch, desk, file, folder, names, program, spardimple, spardimple_fed, text,
+    batch, desk, file, folder, names, on_a_terminal, program, spardimple, spardimple_fed, text,
 };
 use serde_json::Value;
 use std::fs;
 use std::os::unix::fs::symlink;
-use std::path::Path;
 use std::process::{Command, Output};
 
 #[test]
@@ -277,30 +276,10 @@ fn a_refused_verdict_is_a_sentence_on_standard_error() {
     assert!(text(&refused.stderr).starts_with("examples/film-core.rec: refused (8)"));
 }
 
-/// On a terminal there are colours, but not where `NO_COLOR` is set, and a progress bar; `script`
-/// makes the terminal.
+/// On a terminal there is a progress bar.
 #[test]
-fn colours_and_progress_on_a_terminal() {
-    let emulated = std::env::var_os("CARGO_TARGET_X86_64_UNKNOWN_LINUX_GNU_RUNNER").is_some();
-    if emulated || !Path::new("/usr/bin/script").exists() {
-        println!("no terminal can be made here; colours are not tested");
-        return;
-    }
-    let shown = |words: &str, no_color: &str| {
-        let command = format!("'{}' {words}", env!("CARGO_BIN_EXE_spardimple"));
-        let shown = Command::new("/usr/bin/script")
-            .args(["-qec", &command, "/dev/null"])
-            .current_dir(concat!(env!("CARGO_MANIFEST_DIR"), "/.."))
-            .env("NO_COLOR", no_color)
-            .output()
-            .unwrap();
-        text(&shown.stdout)
-    };
-    let show = "show examples/film-line.sheet";
-    assert!(shown(show, "").contains("\u{1b}[1mcore 1\u{1b}[0m"));
-    let plain = shown(show, "1");
-    assert!(plain.contains("core 1") && !plain.contains('\u{1b}'));
-    let batch = shown("batch examples", "");
+fn progress_on_a_terminal() {
+    let batch = on_a_terminal("batch examples", "");
     assert!(
         batch.contains(&format!("\r[{}] 4 of 4\r\u{1b}[K", "=".repeat(40))),
         "{batch}"

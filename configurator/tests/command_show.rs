@@ -4,7 +4,7 @@
 
 mod common;
 
-use common::command::{file, folder, spardimple, spardimple_fed, text};
+use common::command::{file, folder, on_a_terminal, spardimple, spardimple_fed, text};
 use common::long::widest;
 use configurator::command::columns::width;
 use std::fs;
@@ -157,6 +157,18 @@ fn a_refused_sheet_is_not_shown() {
     assert_eq!(refused.status.code(), Some(1));
     assert!(refused.stdout.is_empty());
     assert!(text(&refused.stderr).contains("film-line-mistyped.sheet:14: refused (5)"));
+}
+
+/// On a terminal titles are bold and split tasks coloured, but not where `NO_COLOR` is set; in a pipe
+/// there is no colour.
+#[test]
+fn colours_on_a_terminal() {
+    let words = "show examples/film-line.sheet";
+    let coloured = on_a_terminal(words, "");
+    assert!(coloured.contains("\u{1b}[1mcore 1\u{1b}[0m: 3 pieces"));
+    assert!(coloured.contains("\u{1b}[33mjaw-cross  last      3     160"));
+    let plain = on_a_terminal(words, "1");
+    assert!(plain.contains("core 1: 3 pieces") && !plain.contains('\u{1b}'));
 }
 
 /// A unit is a word in place of `ticks`; no number changes.
