@@ -12,10 +12,10 @@ addEventListener('load', () => {
   }
   const tell = (what, ...elements) => wrong.push(what + ' ' + elements.map(element => element.textContent).join(' | '))
 
-  const wide = document.documentElement.scrollWidth
-  if (wide > innerWidth) wrong.push('the page is ' + wide + ' wide')
+  const { scrollWidth, clientWidth } = document.documentElement
+  if (scrollWidth > clientWidth) wrong.push('the page is ' + scrollWidth + ' wide')
   for (const element of document.querySelectorAll('h1, h2, p, footer, .scroll, pre, .refusal, .chart'))
-    if (box(element).left < 0 || box(element).right > innerWidth) tell('outside the page:', element)
+    if (box(element).left < 0 || box(element).right > clientWidth) tell('outside the page:', element)
 
   const bars = document.querySelectorAll('.chart .piece')
   for (const chart of document.querySelectorAll('.chart')) {
@@ -35,7 +35,7 @@ addEventListener('load', () => {
         const beside = numbers[at + 1] || figures
         const its = beside === figures ? letters(figures) : box(beside)
         if (!apart(box(number), its)) tell('upon each other:', number, beside)
-        if (box(number).left < 0 || box(number).right > innerWidth) tell('outside the page:', number)
+        if (box(number).left < 0 || box(number).right > clientWidth) tell('outside the page:', number)
         if (parseFloat(getComputedStyle(number).fontSize) < 11) tell('too small:', number)
       })
     }

@@ -20,19 +20,10 @@ fn chromium(profile: &str, words: &[&str], path: &Path) -> Vec<u8> {
         Path::new(browser).exists(),
         "{browser} is missing, and pages are looked at in it: apt-get install chromium poppler-utils"
     );
+    let fixed = "--headless --no-sandbox --disable-gpu --disable-dev-shm-usage --no-first-run";
     let output = Command::new("timeout")
-        .args([
-            "120",
-            browser,
-            "--headless",
-            "--no-sandbox",
-            "--disable-gpu",
-        ])
-        .args([
-            "--disable-dev-shm-usage",
-            "--no-first-run",
-            "--hide-scrollbars",
-        ])
+        .args(["120", browser])
+        .args(fixed.split(' '))
         .arg(format!("--user-data-dir={}", folder(profile).display()))
         .args(words)
         .arg(format!("file://{}", path.display()))
@@ -48,7 +39,8 @@ fn picture(path: &Path, name: &str, size: &str) {
     let picture = path.with_file_name(name);
     let option = format!("--screenshot={}", picture.display());
     let size = format!("--window-size={size}");
-    chromium("page-picture-profile", &[&size, &option], path);
+    let options = ["--hide-scrollbars", &size, &option];
+    chromium("page-picture-profile", &options, path);
     let bytes = fs::read(&picture).expect("there is a picture");
     println!("{}: {} bytes", picture.display(), bytes.len());
     assert!(bytes.starts_with(b"\x89PNG") && bytes.len() > 20_000);
@@ -103,7 +95,7 @@ fn on_a_desk_and_on_a_phone() {
         let (_, behind) = behind.split_once('\n').unwrap();
         let copy = format!("{before}<script>{looks}</script>\n{behind}");
         fs::write(folder.join(format!("{name}-looked-at.html")), copy).unwrap();
-        for width in [320, 360, 820, 821, 1100] {
+        for width in [320, 360, 860, 861, 1100] {
             let _ = writeln!(
                 frames,
                 "<iframe width=\"{width}\" height=\"800\" src=\"{name}-looked-at.html\"></iframe>"
