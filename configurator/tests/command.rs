@@ -5,11 +5,10 @@
 mod common;
 
 use common::command::{
-    batch, desk, file, folder, names, program, spardimple, spardimple_fed, text,
+    batch, desk, file, folder, names, on_a_terminal, program, spardimple, spardimple_fed, text,
 };
 use std::fs;
 use std::os::unix::fs::symlink;
-use std::path::Path;
 use std::process::Command;
 
 #[test]
@@ -205,59 +204,10 @@ fn a_refused_verdict_is_a_sentence_on_standard_error() {
     assert!(text(&refused.stderr).starts_with("examples/film-core.rec: refused (8)"));
 }
 
-/// Every figure of `show` stands in the listing or in the sheet, and every piece is shown.
+/// On a terminal there is a progress bar.
 #[test]
-fn show_has_the_listing() {
-    let shown = spardimple(&["show", "examples/film-line.sheet"]);
-    assert_eq!(shown.status.code(), Some(0));
-    let shown = text(&shown.stdout);
-    let words = |line: &str| {
-        line.split_whitespace()
-            .map(str::to_owned)
-            .collect::<Vec<_>>()
-    };
-    let rows: Vec<Vec<String>> = shown.lines().map(words).collect();
-    for line in file("examples/film-line.listing").lines().skip(1) {
-        let f = words(line);
-        let has = |row: &Vec<String>| {
-            row.len() == 8
-                && [&row[0], &row[2], &row[3], &row[4], &row[6], &row[7]]
-                    == [&f[2], &f[3], &f[4], &f[5], &f[6], &f[7]]
-        };
-        assert!(rows.iter().any(has), "{line}");
-    }
-    let halves = words("jaw-cross 2 150 315 0 245 │ 3 160 685 1 265");
-    assert!(rows.contains(&halves), "{shown}");
-    assert!(!shown.contains('\u{1b}'), "no colour in a pipe");
-    let refused = spardimple(&["show", "examples/film-line-mistyped.sheet"]);
-    assert_eq!(refused.status.code(), Some(1));
-    assert!(refused.stdout.is_empty());
-}
-
-/// On a terminal there are colours, but not where `NO_COLOR` is set, and a progress bar; `script`
-/// makes the terminal.
-#[test]
-fn colours_and_progress_on_a_terminal() {
-    let emulated = std::env::var_os("CARGO_TARGET_X86_64_UNKNOWN_LINUX_GNU_RUNNER").is_some();
-    if emulated || !Path::new("/usr/bin/script").exists() {
-        println!("no terminal can be made here; colours are not tested");
-        return;
-    }
-    let shown = |words: &str, no_color: &str| {
-        let command = format!("'{}' {words}", env!("CARGO_BIN_EXE_spardimple"));
-        let shown = Command::new("/usr/bin/script")
-            .args(["-qec", &command, "/dev/null"])
-            .current_dir(concat!(env!("CARGO_MANIFEST_DIR"), "/.."))
-            .env("NO_COLOR", no_color)
-            .output()
-            .unwrap();
-        text(&shown.stdout)
-    };
-    let show = "show examples/film-line.sheet";
-    assert!(shown(show, "").contains("\u{1b}[1mcore 1\u{1b}[0m"));
-    let plain = shown(show, "1");
-    assert!(plain.contains("core 1") && !plain.contains('\u{1b}'));
-    let batch = shown("batch examples", "");
+fn progress_on_a_terminal() {
+    let batch = on_a_terminal("batch examples", "");
     assert!(
         batch.contains(&format!("\r[{}] 4 of 4\r\u{1b}[K", "=".repeat(40))),
         "{batch}"

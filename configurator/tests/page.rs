@@ -1,29 +1,11 @@
-//! The report's pages: their structure, and where Debian's Chromium is installed what the browser
-//! makes of them, with pictures to look at in the folder that is printed.
+//! The report's pages, as they are written: their structure, their figures and their scale.
 
 #![warn(clippy::all, clippy::pedantic)]
 
 mod common;
 
-use common::command::{file, folder, spardimple, text};
-use std::fs;
-use std::path::{Path, PathBuf};
-use std::process::Command;
-
-/// Writes the page of an example and gives back its path and its text.
-fn page(folder: &Path, name: &str, status: i32) -> (PathBuf, String) {
-    let path = folder.join(format!("{name}.html"));
-    let sheet = format!("examples/{name}.sheet");
-    let words = [
-        "report".as_ref(),
-        sheet.as_ref(),
-        "-o".as_ref(),
-        path.as_os_str(),
-    ];
-    assert_eq!(spardimple(&words).status.code(), Some(status), "{name}");
-    let page = fs::read_to_string(&path).unwrap();
-    (path, page)
-}
+use common::command::{file, folder};
+use common::page::{bars, drawings, example};
 
 /// Whether a page's elements are closed in order. Its comments, scripts and attributes are few enough
 /// for this: there are none of the first two, and no attribute has an angle.
@@ -51,13 +33,19 @@ fn closed(page: &str) -> bool {
 fn structure() {
     let folder = folder("page");
     for name in ["film-line", "case-packer", "labeller"] {
-        let (_, page) = page(&folder, name, 0);
+        let (_, page) = example(&folder, name, 0);
         let listing = file(&format!("examples/{name}.listing"));
         assert!(closed(&page), "{name}");
         assert!(page.contains(&format!("<pre class=\"listing\">{listing}</pre>")));
-        let drawings = page.matches("<figure>").count();
-        let pieces = listing.lines().count() - 1;
-        assert_eq!(page.matches("<g class=\"piece ").count(), drawings * pieces);
+        let (drawings, pieces) = (drawings(&page), listing.lines().count() - 1);
+        assert_eq!(bars(&page), drawings * pieces, "{name}");
+        assert_eq!(page.matches("A bar is not when a piece runs.").count(), 1);
+        assert_eq!(
+            page.matches("Here too a bar is not when a piece runs.")
+                .count(),
+            drawings - 1
+        );
+        let mut cores = Vec::new();
         for line in listing.lines().skip(1) {
             let fields: Vec<&str> = line.split('\t').collect();
             if let [_, core, task, kind, budget, window, jitter, charged] = fields[..] {
@@ -66,7 +54,12 @@ fn structure() {
                      jitter {jitter}, charged {charged}</title>"
                 );
                 assert_eq!(page.matches(&title).count(), drawings, "{title}");
+                cores.push(core);
             }
+        }
+        cores.dedup();
+        for sign in ["<svg class=\"axis\"", "ticks after release"] {
+            assert_eq!(page.matches(sign).count(), drawings * cores.len(), "{sign}");
         }
         for word in [
             "<script",
@@ -79,7 +72,7 @@ fn structure() {
             assert!(!page.contains(word), "{word}");
         }
     }
-    let (_, page) = page(&folder, "film-line-mistyped", 1);
+    let (_, page) = example(&folder, "film-line-mistyped", 1);
     assert!(closed(&page));
     assert!(page.contains("<h2>Refused (5) at line 14</h2>"));
     assert!(page.contains("fit⇥jaw-cross⇥<mark>servo-1m</mark>"));
@@ -87,96 +80,98 @@ fn structure() {
     assert!(page.contains("<strong>What to do.</strong>"));
 }
 
-/// Bars are to scale: on one axis, as long as their windows, filled as far as their budgets.
+/// The table of pieces has the listing's figures, and the sheet's part and period.
+#[test]
+fn pieces_have_their_periods_and_jitters() {
+    let (_, page) = example(&folder("page-pieces"), "film-line", 0);
+    let row = |fields: [&str; 8]| {
+        let [task, part, kind, figures @ ..] = fields;
+        let figures = figures.map(|figure| format!("<td class=\"n\">{figure}</td>"));
+        format!(
+            "<tr><td class=\"name\">{task}</td><td class=\"t\">{part}</td><td class=\"t\">{kind}</td>{}</tr>",
+            figures.concat()
+        )
+    };
+    for fields in [
+        [
+            "reject",
+            "reject-gate",
+            "whole",
+            "300",
+            "5000",
+            "20000",
+            "200",
+            "355",
+        ],
+        [
+            "jaw-cross",
+            "servo-1ms",
+            "first",
+            "150",
+            "315",
+            "1000",
+            "0",
+            "245",
+        ],
+        [
+            "jaw-cross",
+            "servo-1ms",
+            "last",
+            "160",
+            "685",
+            "1000",
+            "1",
+            "265",
+        ],
+    ] {
+        assert_eq!(page.matches(&row(fields)).count(), 1, "{fields:?}");
+    }
+    assert!(page.contains("<span>Core 3: 6 pieces</span>"));
+}
+
+/// Bars are to scale: on one axis, as long as their windows, filled as far as their budgets, and below
+/// as long as their charged times.
 #[test]
 fn bars_are_to_scale() {
-    let (_, page) = page(&folder("scale"), "film-line", 0);
-    let drawing = page.split("<figure>").nth(1).unwrap();
+    let (_, page) = example(&folder("page-scale"), "film-line", 0);
+    let drawing = page.split("<div class=\"charts\"").nth(1).unwrap();
     let number = |rect: &str, name: &str| -> f64 {
         let behind = rect.split(&format!(" {name}=\"")).nth(1).unwrap();
-        behind.split('"').next().unwrap().parse().unwrap()
+        behind.split(['%', '"']).next().unwrap().parse().unwrap()
     };
-    let mut scales = Vec::new();
-    for piece in drawing.split("<g class=\"piece ").skip(1) {
+    let mut seen = 0;
+    for piece in drawing.split("<svg class=\"piece ").skip(1) {
         let title = piece.split("<title>").nth(1).unwrap();
         let after = |words: &str| -> f64 {
             let behind = title.split(words).nth(1).unwrap();
-            behind.split([' ', ',']).next().unwrap().parse().unwrap()
+            behind
+                .split([' ', ',', '<'])
+                .next()
+                .unwrap()
+                .parse()
+                .unwrap()
         };
         let rects: Vec<&str> = piece.split("<rect class=").skip(1).collect();
-        for (rect, length) in [
-            (rects[0], after("window of ")),
-            (rects[1], after("budget ")),
+        let start = if title.contains(", last,") {
+            315.0
+        } else {
+            0.0
+        };
+        for (rect, class, words) in [
+            (rects[0], "\"window\"", "window of "),
+            (rects[1], "\"budget\"", "budget "),
+            (rects[2], "\"charged\"", "charged "),
         ] {
-            scales.push((number(rect, "width") / length, length));
+            assert!(rect.starts_with(class), "{rect}");
+            for (is, length) in [
+                (number(rect, "width"), after(words)),
+                (number(rect, "x"), start),
+            ] {
+                let should = 96.0 * length / 50_000.0; // per cent; the panel's window is the longest
+                assert!((is - should).abs() < 0.001, "{is} {should} {title}");
+            }
+            seen += 1;
         }
     }
-    assert_eq!(scales.len(), 24);
-    let scale = scales
-        .iter()
-        .find(|(_, length)| *length > 49_999.0)
-        .unwrap()
-        .0;
-    for (other, length) in scales {
-        assert!(
-            (other - scale).abs() * length < 0.02,
-            "{other} {scale} {length}"
-        );
-    }
-}
-
-/// The browser, where there is one.
-fn chromium(words: &[&str], path: &Path) -> Option<Vec<u8>> {
-    let browser = Path::new("/usr/bin/chromium");
-    if !browser.exists() {
-        println!("no /usr/bin/chromium here: only the page's structure is tested");
-        return None;
-    }
-    let profile = folder("page-profile");
-    let output = Command::new(browser)
-        .args([
-            "--headless",
-            "--no-sandbox",
-            "--disable-gpu",
-            "--hide-scrollbars",
-        ])
-        .arg(format!("--user-data-dir={}", profile.display()))
-        .args(words)
-        .arg(format!("file://{}", path.display()))
-        .output()
-        .expect("chromium runs");
-    assert!(
-        output.status.success(),
-        "{}",
-        String::from_utf8_lossy(&output.stderr)
-    );
-    Some(output.stdout)
-}
-
-/// The browser's own tree has the page's text and shapes, and its picture is no blank one.
-#[test]
-fn in_a_browser() {
-    let folder = folder("page-browser");
-    for (name, status, shapes) in [("film-line", 0, 24), ("film-line-mistyped", 1, 0)] {
-        let (path, page) = page(&folder, name, status);
-        let tree = match chromium(&["--dump-dom"], &path) {
-            Some(tree) => text(&tree),
-            None => return,
-        };
-        assert_eq!(tree.matches("<g class=\"piece ").count(), shapes, "{name}");
-        assert_eq!(
-            tree.matches("<rect class=\"budget\"").count(),
-            shapes,
-            "{name}"
-        );
-        let body = |page: &str| page[page.find("<body>").unwrap()..].matches('<').count();
-        let (seen, written) = (body(&tree), body(&page));
-        assert!(seen >= written && seen < written + 200, "{seen} {written}"); // tbody, closed rects
-        let picture = folder.join(format!("{name}.png"));
-        let option = format!("--screenshot={}", picture.display());
-        chromium(&["--window-size=1100,1500", &option], &path);
-        let bytes = fs::read(&picture).expect("there is a picture");
-        println!("{}: {} bytes", picture.display(), bytes.len());
-        assert!(bytes.starts_with(b"\x89PNG") && bytes.len() > 20_000);
-    }
+    assert_eq!(seen, 36);
 }

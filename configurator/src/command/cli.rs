@@ -7,6 +7,9 @@ use std::path::PathBuf;
 /// The shells that have completions.
 pub const SHELLS: [&str; 5] = ["bash", "elvish", "fish", "powershell", "zsh"];
 
+/// What times are in where nothing else is said.
+const TICKS: &str = "ticks";
+
 /// What stands below the command's own help.
 const BELOW: &str = "\
 Examples:
@@ -97,21 +100,25 @@ fn show() -> Command {
     Command::new("show")
         .about("Shows a sheet's plan as a table: each core with its pieces, and the split tasks")
         .after_help(
-            "Example: spardimple show examples/film-line.sheet\n\n\
-             There is colour on a terminal only, and none where NO_COLOR is set.",
+            "Example: spardimple show --unit us examples/film-line.sheet\n\n\
+             No line is longer than 80 columns, unless the file's name is. There is colour on\n\
+             a terminal only, and none where NO_COLOR is set.",
         )
         .arg(sheet())
+        .arg(unit_of_ticks())
 }
 
 fn report() -> Command {
     Command::new("report")
         .about("Writes a sheet's plan, or its refusal, as one page for a browser")
         .after_help(
-            "Example: spardimple report examples/film-line.sheet -o film-line.html\n\n\
-             The page needs no network and no script. A refused sheet has a page too, with what was\n\
-             refused, where and what to do; the exit status is 1 then.",
+            "Example: spardimple report --unit us examples/film-line.sheet -o film-line.html\n\n\
+             The page needs no network and no script; it can be printed, and read on a phone. A\n\
+             refused sheet has a page too, with what was refused, where and what to do; the exit\n\
+             status is 1 then.",
         )
         .arg(sheet())
+        .arg(unit_of_ticks())
         .arg(out("FILE", "Writes the page to FILE, whole or not at all"))
 }
 
@@ -163,6 +170,27 @@ fn sheet() -> Arg {
     file("SHEET", "A timing sheet; - reads standard input")
 }
 
+/// What a tick is, for people: the planner knows only ticks.
+fn unit_of_ticks() -> Arg {
+    Arg::new("unit")
+        .long("unit")
+        .value_name("UNIT")
+        .default_value(TICKS)
+        .hide_default_value(true)
+        .value_parser(short_word)
+        .help("What a tick is, as us or ms; no number is changed by it")
+}
+
+/// A word that can stand behind any number: 1 to 8 letters and digits, not digits alone.
+fn short_word(word: &str) -> Result<String, String> {
+    let formed = word.chars().count() <= 8 && word.chars().all(char::is_alphanumeric);
+    if formed && word.chars().any(char::is_alphabetic) {
+        Ok(word.to_owned())
+    } else {
+        Err("a unit is a word of at most 8 letters and digits, as us".to_owned())
+    }
+}
+
 /// Where the answer goes.
 fn out(value: &'static str, help: &'static str) -> Arg {
     Arg::new("out")
@@ -188,6 +216,12 @@ fn file(name: &'static str, help: &'static str) -> Arg {
         .required(true)
         .value_parser(value_parser!(PathBuf))
         .help(help)
+}
+
+/// What a tick is called.
+#[must_use]
+pub fn unit(given: &ArgMatches) -> &str {
+    given.get_one::<String>("unit").map_or(TICKS, |unit| unit)
 }
 
 /// The file that an argument names.

@@ -1,12 +1,12 @@
 //! `report`: a plan, or a refusal, as one page that needs no network and no script. The figures are
 //! the listing's, all other words the sheet's.
 
-use super::html::escaped;
+use super::html::{escaped, table, Group};
 use super::{cli, drawing, files, parsed, planned, quoted, show};
 use super::{Failure, Planned, Status, Streams};
 use crate::explain::Explained;
-use crate::listing::{Kind, Listing, Piece};
-use crate::quoted::{Sheet, COSTS, TIMES};
+use crate::listing::Listing;
+use crate::quoted::{Fit, Part, Sheet, COSTS, TIMES};
 use crate::text::shown;
 use clap::ArgMatches;
 use std::fmt::Write;
@@ -22,7 +22,8 @@ pub fn run(given: &ArgMatches, streams: &mut Streams) -> Result<Status, Failure>
     let (name, bytes) = (files::shown(&sheet), files::sheet_for(out, &sheet)?);
     match planned(&bytes)? {
         Planned::Listing(listing) => {
-            let page = plan(&name, &quoted(&bytes)?, &parsed(&listing)?, &listing);
+            let (sheet, rows) = (quoted(&bytes)?, parsed(&listing)?);
+            let page = plan(&name, &sheet, &rows, cli::unit(given), &listing);
             streams.deliver(out, page.as_bytes())
         }
         Planned::Refused(why) => {
@@ -36,17 +37,18 @@ pub fn run(given: &ArgMatches, streams: &mut Streams) -> Result<Status, Failure>
 
 /// The page of a plan.
 #[must_use]
-pub fn plan(name: &str, sheet: &Sheet, listing: &Listing, bytes: &[u8]) -> String {
+pub fn plan(name: &str, sheet: &Sheet, listing: &Listing, unit: &str, bytes: &[u8]) -> String {
     let mut body = format!(
         "<h1>Plan of {}</h1>\n<p class=\"sum\">{}.</p>\n",
         escaped(name),
-        show::sum(sheet, listing)
+        escaped(&show::sum(sheet, listing, unit))
     );
-    drawings(&mut body, sheet, listing);
-    splits(&mut body, listing);
-    tasks(&mut body, sheet, listing);
-    parts(&mut body, sheet);
-    machine(&mut body, sheet);
+    drawings(&mut body, sheet, listing, unit);
+    pieces(&mut body, sheet, listing, unit);
+    splits(&mut body, listing, unit);
+    tasks(&mut body, sheet, listing, unit);
+    parts(&mut body, sheet, unit);
+    machine(&mut body, sheet, unit);
     let listing = escaped(&String::from_utf8_lossy(bytes));
     let _ = write!(
         body,
@@ -124,77 +126,96 @@ fn sheet_lines(body: &mut String, sheet: &[u8], why: &Explained) {
 }
 
 /// The plan drawn, and where its windows differ much, its beginning drawn once more.
-fn drawings(body: &mut String, sheet: &Sheet, listing: &Listing) {
-    let figure = |name, end| drawing::figure(name, listing, sheet.cores, end);
+fn drawings(body: &mut String, sheet: &Sheet, listing: &Listing, unit: &str) {
+    let cores = |end| drawing::cores(listing, sheet.cores, end, unit);
     let _ = write!(
         body,
-        "<h2>The cores</h2>\n<figure>\n{}</figure>\n{}",
-        figure("plan", drawing::longest(listing)),
-        drawing::key("plan")
+        "{}<h2>The cores</h2>\n\
+         <p class=\"note\"><strong>A bar is not when a piece runs.</strong> It is the window that the piece must be done \
+         in, from its task's release on; a last piece's begins where the first one's ends. The filled part is the budget, \
+         the time that the piece needs at most. The thin bar below is the charged time, which has the overheads too and \
+         is what the core is judged with. When in its window a piece runs is settled as the machine runs.</p>\n{}{}",
+        drawing::PATTERNS,
+        drawing::key(listing),
+        cores(drawing::longest(listing))
     );
     if let Some(end) = drawing::near(listing) {
         let _ = write!(
             body,
-            "<h2>The same, nearer</h2>\n<p class=\"note\">The first ticks only; an arrow marks a window that goes on \
-             beyond them.</p>\n<figure>\n{}</figure>\n",
-            figure("near", end)
+            "<h2>The same, nearer</h2>\n<p class=\"note\">The beginning of the same bars, drawn larger; an arrow marks a \
+             window that goes on. <strong>Here too a bar is not when a piece runs.</strong></p>\n{}",
+            cores(end)
         );
     }
 }
 
-/// The split tasks, both halves side by side.
-fn splits(body: &mut String, listing: &Listing) {
-    let rows: Vec<Vec<String>> = listing
-        .splits()
-        .iter()
-        .map(|(first, last)| {
-            let halves = first.figures().into_iter().chain(last.figures());
-            [first.task.to_owned()].into_iter().chain(halves).collect()
-        })
-        .collect();
-    if !rows.is_empty() {
-        let halves = ["core", "budget", "window", "jitter", "charged"];
-        let mut head = vec!["<task".to_owned()];
-        head.extend(halves.iter().chain(&halves).map(ToString::to_string));
-        let above = "<tr><th></th><th class=\"g\" colspan=\"5\">first piece</th>\
-                     <th class=\"g\" colspan=\"5\">last piece</th></tr>\n";
-        table(body, "Split tasks", above, &head, &rows);
+/// A table with a title over it and what its times are in, if it has rows.
+fn section(body: &mut String, title: &str, unit: &str, head: &[&str], groups: &[Group]) {
+    if groups.iter().any(|group| !group.rows.is_empty()) {
+        let _ = writeln!(
+            body,
+            "<h2>{title} <small>times in {}</small></h2>\n{}",
+            escaped(unit),
+            table(head, groups)
+        );
     }
+}
+
+/// Each core's pieces in placement order.
+fn pieces(body: &mut String, sheet: &Sheet, listing: &Listing, unit: &str) {
+    let group = |core| {
+        let row = |piece| show::piece_row(sheet, piece).to_vec();
+        let rows: Vec<Vec<String>> = listing.on_core(core).map(row).collect();
+        let title = format!("Core {core}: {}", show::counted(rows.len(), "piece"));
+        Group { title, rows }
+    };
+    let groups: Vec<Group> = (1..=sheet.cores).map(group).collect();
+    section(body, "Pieces", unit, &show::PIECE, &groups);
+}
+
+/// The split tasks, each with its two pieces.
+fn splits(body: &mut String, listing: &Listing, unit: &str) {
+    let rows = show::half_rows(listing);
+    let groups = rows.chunks(2).map(|rows| Group::untitled(rows.to_vec()));
+    let groups: Vec<Group> = groups.collect();
+    section(body, "Split tasks", unit, &show::HALF, &groups);
 }
 
 /// The sheet's tasks, each with its part's times and where it is placed.
-fn tasks(body: &mut String, sheet: &Sheet, listing: &Listing) {
-    let mut head = vec!["<task".to_owned(), "<part".to_owned()];
-    head.extend(TIMES.map(str::to_owned));
-    head.extend(["<placed".to_owned(), "charged".to_owned()]);
-    let row = |fit: &crate::quoted::Fit| {
+fn tasks(body: &mut String, sheet: &Sheet, listing: &Listing, unit: &str) {
+    let mut head = vec!["<task", "<part"];
+    head.extend(TIMES);
+    head.push("<placed");
+    let row = |fit: &Fit| {
         let mut row = vec![fit.task.to_owned(), fit.part.to_owned()];
         let times = sheet.part_of(fit.task).map_or([""; 6], |part| part.times);
         row.extend(times.map(str::to_owned));
-        let pieces = || listing.pieces.iter().filter(|piece| piece.task == fit.task);
-        let places: Vec<String> = pieces().map(place).collect();
-        let charged: Vec<String> = pieces().map(|piece| piece.charged.to_string()).collect();
-        row.extend([places.join(", "), charged.join(", ")]);
+        row.push(placed(listing, fit.task));
         row
     };
-    let rows: Vec<Vec<String>> = sheet.fits.iter().map(row).collect();
-    table(body, "Tasks", "", &head, &rows);
-}
-
-/// Where a piece is placed.
-fn place(piece: &Piece) -> String {
-    match piece.kind {
-        Kind::Whole => format!("core {}", piece.core),
-        Kind::First | Kind::Last => format!("{} on core {}", piece.kind.word(), piece.core),
+    let rows = Group::untitled(sheet.fits.iter().map(row).collect());
+    section(body, "Tasks", unit, &head, &[rows]);
+    if !sheet.fits.is_empty() {
+        body.push_str(
+            "<p class=\"note\">C is the work, D the deadline, T the period, J the jitter, P and M the cache charges of a \
+             preemption and a migration.</p>\n",
+        );
     }
 }
 
+/// Where a task is placed.
+fn placed(listing: &Listing, task: &str) -> String {
+    let pieces = listing.pieces.iter().filter(|piece| piece.task == task);
+    let cores: Vec<String> = pieces.map(|piece| piece.core.to_string()).collect();
+    format!("core {}", cores.join(", then "))
+}
+
 /// The sheet's parts, each with the tasks that are fitted with it.
-fn parts(body: &mut String, sheet: &Sheet) {
-    let mut head = vec!["<part".to_owned()];
-    head.extend(TIMES.map(str::to_owned));
-    head.push("<tasks".to_owned());
-    let row = |part: &crate::quoted::Part| {
+fn parts(body: &mut String, sheet: &Sheet, unit: &str) {
+    let mut head = vec!["<part"];
+    head.extend(TIMES);
+    head.push("<tasks");
+    let row = |part: &Part| {
         let fits = sheet.fits.iter().filter(|fit| fit.part == part.name);
         let tasks: Vec<&str> = fits.map(|fit| fit.task).collect();
         let mut row = vec![part.name.to_owned()];
@@ -202,45 +223,18 @@ fn parts(body: &mut String, sheet: &Sheet) {
         row.push(tasks.join(", "));
         row
     };
-    let rows: Vec<Vec<String>> = sheet.parts.iter().map(row).collect();
-    table(body, "Parts", "", &head, &rows);
-    body.push_str(
-        "<p class=\"note\">C the work, D the deadline, T the period, J the jitter, P and M the cache charges of a \
-         preemption and a migration.</p>\n",
-    );
+    let rows = Group::untitled(sheet.parts.iter().map(row).collect());
+    section(body, "Parts", unit, &head, &[rows]);
 }
 
 /// The machine and the costs.
-fn machine(body: &mut String, sheet: &Sheet) {
-    let mut head = vec!["cores".to_owned(), "grain".to_owned()];
-    head.extend(COSTS.map(str::to_owned));
+fn machine(body: &mut String, sheet: &Sheet, unit: &str) {
+    let mut head = vec!["cores", "grain"];
+    head.extend(COSTS);
     let mut row = vec![sheet.cores.to_string(), sheet.grain.to_owned()];
     row.extend(sheet.costs.map(str::to_owned));
-    table(body, "Machine and costs", "", &head, &[row]);
-}
-
-/// A table under its title, with a row `above` its header's if there is to be one. A header that begins
-/// with `<` is a column of names, set to the left.
-fn table(body: &mut String, title: &str, above: &str, head: &[String], rows: &[Vec<String>]) {
-    let class = |at: usize| match (head[at].starts_with('<'), at) {
-        (true, 0) => " class=\"name\"",
-        (true, _) => " class=\"t\"",
-        (false, _) => " class=\"n\"",
-    };
-    let _ = write!(body, "<h2>{}</h2>\n<table>\n{above}<tr>", escaped(title));
-    for (at, name) in head.iter().enumerate() {
-        let name = escaped(name.trim_start_matches('<'));
-        let _ = write!(body, "<th{}>{name}</th>", class(at));
-    }
-    body.push_str("</tr>\n");
-    for row in rows {
-        body.push_str("<tr>");
-        for (at, field) in row.iter().enumerate() {
-            let _ = write!(body, "<td{}>{}</td>", class(at), escaped(field));
-        }
-        body.push_str("</tr>\n");
-    }
-    body.push_str("</table>\n");
+    let row = Group::untitled(vec![row]);
+    section(body, "Machine and costs", unit, &head, &[row]);
 }
 
 /// The whole page around its body. The policy forbids the browser to fetch or run anything.

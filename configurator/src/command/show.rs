@@ -1,9 +1,9 @@
-//! `show`: a plan as tables that a person reads. The figures are the listing's, the parts and periods
-//! the sheet's.
+//! `show`: a plan as tables that a person reads, on a terminal of 80 columns. The figures are the
+//! listing's, the parts and periods the sheet's.
 
 use super::{cli, columns, files, parsed, planned, quoted, Failure, Planned, Status, Streams};
 use crate::listing::{Listing, Piece};
-use crate::quoted::Sheet;
+use crate::quoted::{Fit, Sheet};
 use clap::ArgMatches;
 use std::fmt::Write;
 
@@ -17,8 +17,8 @@ pub fn run(given: &ArgMatches, streams: &mut Streams) -> Result<Status, Failure>
     let (name, bytes) = (files::shown(&sheet), files::sheet(&sheet)?);
     match planned(&bytes)? {
         Planned::Listing(listing) => {
-            let paint = Paint(streams.colour);
-            let text = plan(&name, &quoted(&bytes)?, &parsed(&listing)?, paint);
+            let (paint, unit) = (Paint(streams.colour), cli::unit(given));
+            let text = plan(&name, &quoted(&bytes)?, &parsed(&listing)?, unit, paint);
             streams.print(text.as_bytes())
         }
         Planned::Refused(why) => {
@@ -27,6 +27,12 @@ pub fn run(given: &ArgMatches, streams: &mut Streams) -> Result<Status, Failure>
         }
     }
 }
+
+/// The columns that every line keeps to. Only a file's name can be longer, on a line of its own.
+const COLUMNS: usize = 80;
+
+/// What stands before each line of a table.
+const INDENT: &str = "  ";
 
 /// Whether colours are used.
 #[derive(Clone, Copy, Debug, PartialEq, Eq)]
@@ -47,42 +53,94 @@ impl Paint {
     }
 }
 
-/// Each core with its pieces in placement order, then the split tasks with both halves side by side.
+/// The headers of a piece's fields.
+pub const PIECE: [&str; 8] = [
+    "<task", "<part", "<kind", "budget", "window", "period", "jitter", "charged",
+];
+
+/// The headers of a split task's two pieces.
+pub const HALF: [&str; 7] = [
+    "<task", "<kind", "core", "budget", "window", "jitter", "charged",
+];
+
+/// Each core with its pieces in placement order, then the split tasks. Where the names are too long
+/// for task and part in one row, the parts have a table of their own.
 #[must_use]
-pub fn plan(name: &str, sheet: &Sheet, listing: &Listing, paint: Paint) -> String {
-    let mut text = format!("{}: {}\n", paint.on(Paint::BOLD, name), sum(sheet, listing));
-    let head = [
-        "<task", "<part", "<kind", "budget", "window", "period", "jitter", "charged",
-    ];
-    let rows: Vec<Vec<String>> = listing
-        .pieces
-        .iter()
-        .map(|piece| piece_row(sheet, piece))
-        .collect();
-    let table = columns::lines(&head, &rows);
-    for core in 1..=sheet.cores {
-        let title = paint.on(Paint::BOLD, &format!("core {core}"));
-        let pieces: Vec<_> = (listing.pieces.iter().zip(&table[1..]))
-            .filter(|(piece, _)| piece.core == core)
-            .collect();
-        let _ = writeln!(text, "\n{title}: {}", counted(pieces.len(), "piece"));
-        if !pieces.is_empty() {
-            let _ = writeln!(text, "  {}", paint.on(Paint::DIM, &table[0]));
+pub fn plan(name: &str, sheet: &Sheet, listing: &Listing, unit: &str, paint: Paint) -> String {
+    let sum = sum(sheet, listing, unit);
+    let beside = columns::width(name) + 2 + columns::width(&sum) <= COLUMNS;
+    let between = if beside { " " } else { "\n  " };
+    let mut tables = Tables {
+        text: format!("{}:{between}{sum}\n", paint.on(Paint::BOLD, name)),
+        paint,
+    };
+    let mut head = PIECE.to_vec();
+    let row = |piece| piece_row(sheet, piece).to_vec();
+    let mut rows: Vec<Vec<String>> = listing.pieces.iter().map(row).collect();
+    let mut lines = columns::lines(&head, &rows);
+    let fits = |line: &String| INDENT.len() + columns::width(line) <= COLUMNS;
+    let with_parts = lines.iter().all(fits);
+    if !with_parts {
+        head.remove(1);
+        for row in &mut rows {
+            row.remove(1);
         }
-        for (piece, line) in pieces {
-            let paint = Paint(paint.0 && piece.is_half());
-            let _ = writeln!(text, "  {}", paint.on(Paint::SPLIT, line));
+        lines = columns::lines(&head, &rows);
+    }
+    for core in 1..=sheet.cores {
+        let pieces: Vec<_> = (lines[1..].iter().zip(&listing.pieces))
+            .filter(|(_, piece)| piece.core == core)
+            .map(|(line, piece)| (line, piece.is_half()))
+            .collect();
+        let count = counted(pieces.len(), "piece");
+        tables.add(&format!("core {core}"), &count, &lines[0], &pieces);
+    }
+    let halves = half_rows(listing);
+    if !halves.is_empty() {
+        let count = counted(halves.len() / 2, "task");
+        tables.add_all("split", &count, &columns::lines(&HALF, &halves), true);
+    }
+    if !with_parts {
+        let row = |fit: &Fit| vec![fit.task.to_owned(), fit.part.to_owned()];
+        let rows: Vec<Vec<String>> = sheet.fits.iter().map(row).collect();
+        let (count, lines) = (rows.len(), columns::lines(&PIECE[..2], &rows));
+        tables.add_all("parts", &counted(count, "task"), &lines, false);
+    }
+    tables.text
+}
+
+/// Tables, one below the other.
+struct Tables {
+    text: String,
+    paint: Paint,
+}
+
+impl Tables {
+    /// Adds a table under its title: its header and its lines, those of split tasks marked.
+    fn add(&mut self, title: &str, count: &str, head: &str, lines: &[(&String, bool)]) {
+        let title = self.paint.on(Paint::BOLD, title);
+        let _ = writeln!(self.text, "\n{title}: {count}");
+        if !lines.is_empty() {
+            let _ = writeln!(self.text, "{INDENT}{}", self.paint.on(Paint::DIM, head));
+        }
+        for (line, split) in lines {
+            let paint = Paint(self.paint.0 && *split);
+            let _ = writeln!(self.text, "{INDENT}{}", paint.on(Paint::SPLIT, line));
         }
     }
-    splits(&mut text, listing, paint);
-    text
+
+    /// Adds all lines of a table, the header first.
+    fn add_all(&mut self, title: &str, count: &str, lines: &[String], split: bool) {
+        let rows: Vec<_> = lines[1..].iter().map(|line| (line, split)).collect();
+        self.add(title, count, &lines[0], &rows);
+    }
 }
 
 /// The sum above the tables.
 #[must_use]
-pub fn sum(sheet: &Sheet, listing: &Listing) -> String {
+pub fn sum(sheet: &Sheet, listing: &Listing, unit: &str) -> String {
     format!(
-        "{} in {} on {}, grain {}, times in ticks",
+        "{} in {} on {}, grain {}, times in {unit}",
         counted(listing.tasks, "task"),
         counted(listing.pieces.len(), "piece"),
         counted(sheet.cores, "core"),
@@ -101,9 +159,10 @@ pub fn counted(number: usize, thing: &str) -> String {
 }
 
 /// A piece's fields.
-fn piece_row(sheet: &Sheet, piece: &Piece) -> Vec<String> {
+#[must_use]
+pub fn piece_row(sheet: &Sheet, piece: &Piece) -> [String; 8] {
     let part = sheet.part_of(piece.task);
-    vec![
+    [
         piece.task.to_owned(),
         part.map_or("", |part| part.name).to_owned(),
         piece.kind.word().to_owned(),
@@ -115,41 +174,15 @@ fn piece_row(sheet: &Sheet, piece: &Piece) -> Vec<String> {
     ]
 }
 
-/// The split tasks, with both halves side by side.
-fn splits(text: &mut String, listing: &Listing, paint: Paint) {
+/// The split tasks' pieces, each first piece followed by its last.
+#[must_use]
+pub fn half_rows(listing: &Listing) -> Vec<Vec<String>> {
+    let row = |piece: &Piece| {
+        let names = [piece.task.to_owned(), piece.kind.word().to_owned()];
+        names.into_iter().chain(piece.figures()).collect()
+    };
     let splits = listing.splits();
-    if splits.is_empty() {
-        return;
-    }
-    let rows: Vec<Vec<String>> = splits
-        .iter()
-        .map(|(first, last)| {
-            let mut row = vec![first.task.to_owned()];
-            row.extend(first.figures());
-            row.push("│".to_owned());
-            row.extend(last.figures());
-            row
-        })
-        .collect();
-    let head = [
-        "<task",
-        "first: core",
-        "budget",
-        "window",
-        "jitter",
-        "charged",
-        "│",
-        "last: core",
-        "budget",
-        "window",
-        "jitter",
-        "charged",
-    ];
-    let table = columns::lines(&head, &rows);
-    let title = paint.on(Paint::BOLD, "split");
-    let _ = writeln!(text, "\n{title}: {}", counted(splits.len(), "task"));
-    let _ = writeln!(text, "  {}", paint.on(Paint::DIM, &table[0]));
-    for line in &table[1..] {
-        let _ = writeln!(text, "  {}", paint.on(Paint::SPLIT, line));
-    }
+    (splits.iter())
+        .flat_map(|(first, last)| [row(first), row(last)])
+        .collect()
 }

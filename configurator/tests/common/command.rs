@@ -47,6 +47,20 @@ pub fn spardimple_fed<S: AsRef<OsStr>>(words: &[S], bytes: &[u8]) -> Output {
     child.wait_with_output().expect("the command ends")
 }
 
+/// What the command prints on a terminal, which Debian's `script` makes. A word in `no_color` asks for
+/// no colours.
+pub fn on_a_terminal(words: &str, no_color: &str) -> String {
+    let runner = std::env::var("CARGO_TARGET_X86_64_UNKNOWN_LINUX_GNU_RUNNER").unwrap_or_default();
+    let command = format!("{runner} '{}' {words}", env!("CARGO_BIN_EXE_spardimple"));
+    let shown = Command::new("script")
+        .args(["-qec", &command, "/dev/null"])
+        .current_dir(root(""))
+        .env("NO_COLOR", no_color)
+        .output()
+        .expect("script runs; it is a part of Debian's bsdutils");
+    text(&shown.stdout)
+}
+
 /// Runs `batch` on a folder, with an output folder.
 pub fn batch(sheets: &Path, out: &Path) -> Output {
     let words = [

@@ -1,10 +1,13 @@
-//! What the tests share: the command as a process, and comparisons of the library with the oracle.
+//! What the tests share: the command as a process, comparisons of the library with the oracle, long
+//! sheets, and the report's pages.
 
 #![allow(dead_code)] // no test uses all of it
 
 pub mod command;
 pub mod compare;
 pub mod listings;
+pub mod long;
+pub mod page;
 
 use configurator::{Answer, Refusal};
 use plain::verdict::Verdict;
