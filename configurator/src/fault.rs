@@ -25,6 +25,8 @@ pub enum Text {
     Sheet,
     /// A table of costs and pieces, for a verdict.
     Table,
+    /// A script of edits, for the desk.
+    Script,
 }
 
 /// The form of a line: its word, then so many names, then so many numbers.
@@ -38,6 +40,12 @@ impl Text {
             (Text::Sheet, 1) | (Text::Table, 0) => &[Form("cost", 0, 9)],
             (Text::Sheet, _) => &[Form("part", 1, 6), Form("fit", 2, 0)],
             (Text::Table, _) => &[Form("whole", 0, 6), Form("first", 0, 6), Form("last", 0, 6)],
+            (Text::Script, _) => &[
+                Form("add", 1, 6),
+                Form("withdraw", 1, 0),
+                Form("retime", 1, 6),
+                Form("list", 0, 0),
+            ],
         }
     }
 
@@ -53,7 +61,7 @@ impl Text {
     /// The names between a line's word and its times.
     fn names_before_times(self) -> usize {
         match self {
-            Text::Sheet => 1,
+            Text::Sheet | Text::Script => 1,
             Text::Table => 0,
         }
     }
@@ -194,29 +202,35 @@ fn taken(above: &[&[u8]], word: &Field, name: &Field) -> Option<Fault> {
     Some(name.fault(format!("line {line} has a {thing} `{name_text}` already")))
 }
 
-/// 5: the name that no part above has, and the names nearest to it, which are other parts.
+/// 5: the name that no part above has, and the names nearest to it.
 fn missing(above: &[&[u8]], name: &Field) -> Fault {
     let parts = above.iter().filter_map(|line| {
         let fields = fields(line);
         (fields.len() > 1 && fields[0].bytes == b"part").then(|| fields[1].text())
     });
     let wanted = name.text();
-    let mut near: Vec<(usize, String)> = parts
-        .map(|part| (distance(&wanted, &part), part))
-        .filter(|(far, part)| *far <= 1 + wanted.len().max(part.len()) / 4)
+    let hint = nearest("part", &wanted, parts);
+    name.fault(format!("no part `{wanted}` above{hint}"))
+}
+
+/// The names nearest to one that nothing has, as a hint: each is a different part or task. Empty where
+/// none is near.
+pub fn nearest(thing: &str, wanted: &str, names: impl Iterator<Item = String>) -> String {
+    let mut near: Vec<(usize, String)> = names
+        .map(|name| (distance(wanted, &name), name))
+        .filter(|(far, name)| *far <= 1 + wanted.len().max(name.len()) / 4)
         .collect();
     near.sort_by_key(|(far, _)| *far);
     let names: Vec<String> = near
         .iter()
         .take(NEAREST)
-        .map(|(_, part)| format!("`{part}`"))
+        .map(|(_, name)| format!("`{name}`"))
         .collect();
-    let hint = match names.len() {
+    match names.len() {
         0 => String::new(),
-        1 => format!("; {} is a different part", names[0]),
-        _ => format!("; {} are different parts", names.join(", ")),
-    };
-    name.fault(format!("no part `{wanted}` above{hint}"))
+        1 => format!("; {} is a different {thing}", names[0]),
+        _ => format!("; {} are different {thing}s", names.join(", ")),
+    }
 }
 
 /// How many letters have to be put in, taken out or changed to make one name the other; letters that
