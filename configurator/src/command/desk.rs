@@ -3,6 +3,7 @@
 //! on standard error why an edit was refused.
 
 mod answers;
+mod form;
 mod held;
 mod program;
 mod prompt;
@@ -128,7 +129,7 @@ impl Desk {
                 Typed::Ended => break,
             };
             for edit in text.lines().filter_map(prompt::edit) {
-                if edit == "help" {
+                if prompt::asks_help(&edit) {
                     streams.say(prompt::HELP);
                     continue;
                 }

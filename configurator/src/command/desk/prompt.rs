@@ -79,6 +79,13 @@ pub fn edit(typed: &str) -> Option<String> {
     (!fields.is_empty()).then(|| fields.join("\t"))
 }
 
+/// Whether an edit is none, but the word `help`, alone or before others.
+#[must_use]
+pub fn asks_help(edit: &str) -> bool {
+    let word = edit.split('\t').next();
+    word.map_or(false, |word| word.eq_ignore_ascii_case("help"))
+}
+
 #[cfg(test)]
 mod tests {
     use super::*;
