@@ -68,57 +68,39 @@ pub fn refused(refusal: Refusal, sheet: &[u8]) -> Explained {
 /// The refusal of a sheet or a table, with its words.
 #[must_use]
 pub fn refused_in(text: Text, refusal: Refusal, sheet: &[u8]) -> Explained {
+    let mut meaning = refusal.meaning();
     let place = usize::try_from(refusal.carries()).unwrap_or(usize::MAX);
-    let mut explained = Explained::bare(refusal);
+    let (mut line, mut why) = (None, None);
     match (refusal.number(), place.checked_sub(1)) {
         (1..=6 | 8, Some(above)) => {
             let fault = fault::find(refusal.number(), text, sheet, above);
-            if let Some(bytes) = lines(sheet).nth(above) {
-                explained = refused_line(refusal, place, bytes, fault);
-            }
+            line = lines(sheet).nth(above).map(|bytes| {
+                let part = fault
+                    .as_ref()
+                    .map_or(0..0, |fault: &Fault| fault.part.clone());
+                Line::cut(above + 1, bytes, part.start, part.end)
+            });
+            why = fault.map(|fault| fault.why);
         }
         (7, Some(above)) => {
             let mut fits = lines(sheet).enumerate().filter_map(fitted_task);
             if let Some((at, bytes, name)) = fits.nth(above) {
-                let _ = write!(explained.meaning, ", `{}`", shown(name));
-                explained.line = Some(Line::cut(at + 1, bytes, 4, 4 + name.len()));
+                let _ = write!(meaning, ", `{}`", shown(name));
+                line = Some(Line::cut(at + 1, bytes, 4, 4 + name.len()));
             }
         }
         _ => {}
     }
-    explained
-}
-
-/// The refusal of one line, which has that number and that fault.
-#[must_use]
-pub fn refused_line(
-    refusal: Refusal,
-    number: usize,
-    bytes: &[u8],
-    fault: Option<Fault>,
-) -> Explained {
-    let part = fault
-        .as_ref()
-        .map_or(0..0, |fault: &Fault| fault.part.clone());
     Explained {
-        line: Some(Line::cut(number, bytes, part.start, part.end)),
-        why: fault.map(|fault| fault.why),
-        ..Explained::bare(refusal)
+        refusal,
+        meaning,
+        line,
+        why,
+        remedy: refusal.remedy(),
     }
 }
 
 impl Explained {
-    /// A refusal by itself.
-    fn bare(refusal: Refusal) -> Self {
-        Explained {
-            refusal,
-            meaning: refusal.meaning(),
-            line: None,
-            why: None,
-            remedy: refusal.remedy(),
-        }
-    }
-
     /// The message for a terminal: the file and the line, the refusal, the line's words with the
     /// fault underlined, and what to do.
     #[must_use]
@@ -152,7 +134,8 @@ impl Explained {
 
 impl Line {
     /// A line cut at two of its bytes.
-    fn cut(number: usize, bytes: &[u8], from: usize, to: usize) -> Self {
+    #[must_use]
+    pub fn cut(number: usize, bytes: &[u8], from: usize, to: usize) -> Self {
         let before = shown(&bytes[..from]);
         let skipped = before.chars().count().saturating_sub(SHOWN);
         Line {

@@ -25,8 +25,6 @@ pub enum Text {
     Sheet,
     /// A table of costs and pieces, for a verdict.
     Table,
-    /// A script of edits, for the desk.
-    Script,
 }
 
 /// The form of a line: its word, then so many names, then so many numbers.
@@ -40,12 +38,6 @@ impl Text {
             (Text::Sheet, 1) | (Text::Table, 0) => &[Form("cost", 0, 9)],
             (Text::Sheet, _) => &[Form("part", 1, 6), Form("fit", 2, 0)],
             (Text::Table, _) => &[Form("whole", 0, 6), Form("first", 0, 6), Form("last", 0, 6)],
-            (Text::Script, _) => &[
-                Form("add", 1, 6),
-                Form("withdraw", 1, 0),
-                Form("retime", 1, 6),
-                Form("list", 0, 0),
-            ],
         }
     }
 
@@ -61,7 +53,7 @@ impl Text {
     /// The names between a line's word and its times.
     fn names_before_times(self) -> usize {
         match self {
-            Text::Sheet | Text::Script => 1,
+            Text::Sheet => 1,
             Text::Table => 0,
         }
     }
@@ -160,28 +152,28 @@ fn costs(fields: &[Field]) -> Option<Fault> {
 /// 3: the first time that is too great or too small beside the one after it.
 fn times(names: [&str; 6], fields: &[Field]) -> Option<Fault> {
     let numbers: Vec<u32> = fields.iter().filter_map(Field::number).collect();
+    let (at, why) = broken_times(names, &numbers)?;
+    let part = fields.get(at.start)?.at.start..fields.get(at.end - 1)?.at.end;
+    Some(Fault { part, why })
+}
+
+/// Which of six times are wrong, and how.
+pub(crate) fn broken_times(names: [&str; 6], numbers: &[u32]) -> Option<(Range<usize>, String)> {
     let most = [1_000_000, 1_000_000, 1_000_000, 1_000_000, 100_000, 100_000];
     let too_great = (0..6).find(|&at| numbers.get(at) > most.get(at));
-    match (too_great, &numbers[..]) {
-        (Some(at), _) => {
-            let why = format!("{} is {} here", names[at], numbers[at]);
-            Some(fields[at].fault(why))
-        }
-        (None, [0, ..]) => Some(fields[0].fault(format!("{} is 0 here", names[0]))),
-        (None, [c, d, t, ..]) => {
+    match (too_great, numbers) {
+        (Some(at), _) => Some((at..at + 1, format!("{} is {} here", names[at], numbers[at]))),
+        (None, [0, ..]) => Some((0..1, format!("{} is 0 here", names[0]))),
+        (None, [c, d, _, ..]) => {
             let at = usize::from(c <= d);
-            let (short, long) = (&fields[at], &fields[at + 1]);
-            let broken = [c, d, t];
-            Some(Fault {
-                part: short.at.start..long.at.end,
-                why: format!(
-                    "{} is {} here and {} is {}",
-                    names[at],
-                    broken[at],
-                    names[at + 1],
-                    broken[at + 1]
-                ),
-            })
+            let why = format!(
+                "{} is {} here and {} is {}",
+                names[at],
+                numbers[at],
+                names[at + 1],
+                numbers[at + 1]
+            );
+            Some((at..at + 2, why))
         }
         _ => None,
     }
@@ -215,7 +207,7 @@ fn missing(above: &[&[u8]], name: &Field) -> Fault {
 
 /// The names nearest to one that nothing has, as a hint: each is a different part or task. Empty where
 /// none is near.
-pub fn nearest(thing: &str, wanted: &str, names: impl Iterator<Item = String>) -> String {
+pub(crate) fn nearest(thing: &str, wanted: &str, names: impl Iterator<Item = String>) -> String {
     let mut near: Vec<(usize, String)> = names
         .map(|name| (distance(wanted, &name), name))
         .filter(|(far, name)| *far <= 1 + wanted.len().max(name.len()) / 4)
@@ -302,7 +294,7 @@ fn form(forms: &[Form], lines: &[&[u8]], above: usize, fields: &[Field]) -> Opti
 }
 
 /// What is wrong with a name's form.
-fn name_fault(name: &[u8]) -> Option<&'static str> {
+pub(crate) fn name_fault(name: &[u8]) -> Option<&'static str> {
     let letter = |byte: &u8| byte.is_ascii_alphanumeric() || matches!(byte, b'-' | b'.');
     if name.is_empty() {
         Some("a name is missing here")
@@ -316,7 +308,7 @@ fn name_fault(name: &[u8]) -> Option<&'static str> {
 }
 
 /// What is wrong with a number's form.
-fn number_fault(number: &[u8]) -> Option<&'static str> {
+pub(crate) fn number_fault(number: &[u8]) -> Option<&'static str> {
     if number.is_empty() {
         Some("a number is missing here")
     } else if !number.iter().all(u8::is_ascii_digit) {

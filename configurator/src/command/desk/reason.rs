@@ -1,12 +1,12 @@
 //! Why an edit was refused, for people. The refusal is the desk program's; what stands here looks at
 //! the edit's words and at the names of the tasks for what it is about.
 
-use super::form;
+use super::form::{self, Fault};
 use super::held::Held;
 use super::script::Line;
 use crate::command::show::counted;
-use crate::explain::{refused_line, Explained};
-use crate::fault::{self, Fault};
+use crate::explain::{self, Explained};
+use crate::fault::nearest;
 use crate::text::shown;
 use crate::Refusal;
 use std::fmt::Write;
@@ -16,25 +16,29 @@ use std::fmt::Write;
 pub fn of(refusal: Refusal, number: usize, edit: &Line, held: &Held) -> Explained {
     let name = edit.fields().get(1).map(|name| shown(name));
     let name = name.unwrap_or_default();
+    let named = |why| Some(at_name(edit, why));
     let fault = match refusal.number() {
-        3 => form::shared(3, edit),
-        4 => {
-            let why = format!("a task `{name}` is held already; `retime` gives it other times");
-            Some(at_name(edit, why))
-        }
+        3 => form::times(edit),
+        4 => named(format!(
+            "a task `{name}` is held already; `retime` gives it other times"
+        )),
         5 => {
-            let hint = fault::nearest("task", &name, held.shown());
-            Some(at_name(edit, format!("no task `{name}` is held{hint}")))
+            let hint = nearest("task", &name, held.shown());
+            named(format!("no task `{name}` is held{hint}"))
         }
-        6 => {
-            let tasks = counted(held.count(), "task");
-            Some(at_name(edit, format!("{tasks} are held already")))
-        }
+        6 => named(format!(
+            "{} are held already",
+            counted(held.count(), "task")
+        )),
         7 => Some(stuck(refusal, edit, held)),
         8 => form::fault(edit),
         _ => None,
     };
-    let mut explained = refused_line(refusal, number, &edit.bytes, fault);
+    let (part, why) = fault.map_or((0..0, None), |(part, why)| (part, Some(why)));
+    // the edit is no line of a sheet
+    let mut explained = explain::refused(refusal, b"");
+    let line = explain::Line::cut(number, &edit.bytes, part.start, part.end);
+    (explained.line, explained.why) = (Some(line), why);
     if let (7, Some(name)) = (refusal.number(), held.after(edit).at(refusal.carries())) {
         let _ = write!(explained.meaning, ", `{}`", shown(name));
     }
@@ -55,18 +59,14 @@ fn stuck(refusal: Refusal, edit: &Line, held: &Held) -> Fault {
     if after.at(refusal.carries()) == edit.fields().get(1).copied() {
         at_name(edit, why)
     } else {
-        Fault { part: 0..0, why }
+        (0..0, why)
     }
 }
 
 /// A fault of the name behind the edit's word.
 fn at_name(edit: &Line, why: String) -> Fault {
-    let fields = edit.fields();
-    let part = fields.get(1).map_or(0..0, |name| {
-        let start = fields[0].len() + 1;
-        start..start + name.len()
-    });
-    Fault { part, why }
+    let place = edit.places().get(1).cloned();
+    (place.unwrap_or_default(), why)
 }
 
 #[cfg(test)]

@@ -2,6 +2,7 @@
 //! each of its lines.
 
 use std::mem;
+use std::ops::Range;
 
 /// The longest line that the desk program looks at; a longer one has the form of no edit.
 pub const LINE_MOST: usize = 200;
@@ -26,6 +27,18 @@ impl Line {
     #[must_use]
     pub fn fields(&self) -> Vec<&[u8]> {
         self.bytes.split(|&byte| byte == b'\t').collect()
+    }
+
+    /// Where the fields stand.
+    #[must_use]
+    pub fn places(&self) -> Vec<Range<usize>> {
+        let mut from = 0;
+        let place = |field: &[u8]| {
+            let at = from..from + field.len();
+            from = at.end + 1;
+            at
+        };
+        self.fields().into_iter().map(place).collect()
     }
 }
 
@@ -85,6 +98,14 @@ mod tests {
             );
             assert_eq!(lines(b"list\n", at_a_time).len(), 1);
         }
+    }
+
+    #[test]
+    fn fields_have_places() {
+        let bytes = b"add\t\tx".to_vec();
+        let line = Line { bytes, ended: true };
+        assert_eq!(line.fields(), [&b"add"[..], b"", b"x"]);
+        assert_eq!(line.places(), [0..3, 4..4, 5..6]);
     }
 
     #[test]
