@@ -387,18 +387,26 @@ fn failures() {
             "/none/emulator: No such file or directory (os error 2)\n",
         );
     }
-    for (other, why) in [
-        ("/bin/false", "exit status: 1"),
-        ("/bin/true", "the desk ended before its edits"),
-    ] {
-        let endless = File::open("/dev/zero").unwrap();
-        let mut program = program();
-        program.env("SPARDIMPLE_DESK", other).stdin(endless);
-        failed(
-            program.env("SPARDIMPLE_EMULATOR", ""),
-            &format!("{other}: {why}\n"),
-        );
+    let ended = "the desk ended before its edits";
+    for (other, why) in [("/bin/false", "exit status: 1"), ("/bin/true", ended)] {
+        for edits in ["/dev/zero", "examples/film-line.edits"] {
+            let mut program = program();
+            program
+                .env("SPARDIMPLE_DESK", other)
+                .env("SPARDIMPLE_EMULATOR", "")
+                .stdin(File::open(root("").join(edits)).unwrap());
+            failed(&mut program, &format!("{other}: {why}\n"));
+        }
     }
+    // a refused sheet is answered too
+    let unanswered = program()
+        .args(["desk", "examples/film-line-mistyped.sheet"])
+        .env("SPARDIMPLE_DESK", "/bin/true")
+        .env("SPARDIMPLE_EMULATOR", "")
+        .output()
+        .unwrap();
+    assert_eq!(unanswered.status.code(), Some(3));
+    assert_eq!(text(&unanswered.stderr), format!("/bin/true: {ended}\n"));
 }
 
 /// Without `SPARDIMPLE_DESK` the program is the one that is installed beside the command. The command

@@ -40,7 +40,9 @@ pub fn run(given: &ArgMatches, streams: &mut Streams) -> Result<Status, Failure>
     if let Planned::Refused(why) = planned(&bytes)? {
         let mut program = Program::start(&bytes)?;
         drop(program.edits());
-        while program.answer(streams)?.is_some() {}
+        if program.answer(streams)?.is_none() {
+            return Err(program.early());
+        }
         streams.say(&why.message(&files::shown(&sheet)));
         return Ok(Status::Refused);
     }
@@ -104,7 +106,8 @@ impl Desk {
                 self.answered(&edit, answer, streams);
             }
         }
-        match fed.find(|fed| matches!(fed, Fed::Ended(_))) {
+        // every line is answered, and then there is the end
+        match fed.next() {
             Some(Fed::Ended(ended)) => ended.map_err(failed),
             _ => Err(self.program.early()),
         }
@@ -148,8 +151,6 @@ impl Desk {
                 }
             }
         }
-        drop(edits);
-        while self.program.answer(streams)?.is_some() {}
         Ok(())
     }
 
