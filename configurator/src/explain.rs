@@ -134,7 +134,8 @@ impl Explained {
 
 impl Line {
     /// A line cut at two of its bytes.
-    fn cut(number: usize, bytes: &[u8], from: usize, to: usize) -> Self {
+    #[must_use]
+    pub fn cut(number: usize, bytes: &[u8], from: usize, to: usize) -> Self {
         let before = shown(&bytes[..from]);
         let skipped = before.chars().count().saturating_sub(SHOWN);
         Line {

@@ -152,28 +152,28 @@ fn costs(fields: &[Field]) -> Option<Fault> {
 /// 3: the first time that is too great or too small beside the one after it.
 fn times(names: [&str; 6], fields: &[Field]) -> Option<Fault> {
     let numbers: Vec<u32> = fields.iter().filter_map(Field::number).collect();
+    let (at, why) = broken_times(names, &numbers)?;
+    let part = fields.get(at.start)?.at.start..fields.get(at.end - 1)?.at.end;
+    Some(Fault { part, why })
+}
+
+/// Which of six times are wrong, and how.
+pub(crate) fn broken_times(names: [&str; 6], numbers: &[u32]) -> Option<(Range<usize>, String)> {
     let most = [1_000_000, 1_000_000, 1_000_000, 1_000_000, 100_000, 100_000];
     let too_great = (0..6).find(|&at| numbers.get(at) > most.get(at));
-    match (too_great, &numbers[..]) {
-        (Some(at), _) => {
-            let why = format!("{} is {} here", names[at], numbers[at]);
-            Some(fields[at].fault(why))
-        }
-        (None, [0, ..]) => Some(fields[0].fault(format!("{} is 0 here", names[0]))),
-        (None, [c, d, t, ..]) => {
+    match (too_great, numbers) {
+        (Some(at), _) => Some((at..at + 1, format!("{} is {} here", names[at], numbers[at]))),
+        (None, [0, ..]) => Some((0..1, format!("{} is 0 here", names[0]))),
+        (None, [c, d, _, ..]) => {
             let at = usize::from(c <= d);
-            let (short, long) = (&fields[at], &fields[at + 1]);
-            let broken = [c, d, t];
-            Some(Fault {
-                part: short.at.start..long.at.end,
-                why: format!(
-                    "{} is {} here and {} is {}",
-                    names[at],
-                    broken[at],
-                    names[at + 1],
-                    broken[at + 1]
-                ),
-            })
+            let why = format!(
+                "{} is {} here and {} is {}",
+                names[at],
+                numbers[at],
+                names[at + 1],
+                numbers[at + 1]
+            );
+            Some((at..at + 2, why))
         }
         _ => None,
     }
@@ -194,29 +194,35 @@ fn taken(above: &[&[u8]], word: &Field, name: &Field) -> Option<Fault> {
     Some(name.fault(format!("line {line} has a {thing} `{name_text}` already")))
 }
 
-/// 5: the name that no part above has, and the names nearest to it, which are other parts.
+/// 5: the name that no part above has, and the names nearest to it.
 fn missing(above: &[&[u8]], name: &Field) -> Fault {
     let parts = above.iter().filter_map(|line| {
         let fields = fields(line);
         (fields.len() > 1 && fields[0].bytes == b"part").then(|| fields[1].text())
     });
     let wanted = name.text();
-    let mut near: Vec<(usize, String)> = parts
-        .map(|part| (distance(&wanted, &part), part))
-        .filter(|(far, part)| *far <= 1 + wanted.len().max(part.len()) / 4)
+    let hint = nearest("part", &wanted, parts);
+    name.fault(format!("no part `{wanted}` above{hint}"))
+}
+
+/// The names nearest to one that nothing has, as a hint: each is a different part or task. Empty where
+/// none is near.
+pub(crate) fn nearest(thing: &str, wanted: &str, names: impl Iterator<Item = String>) -> String {
+    let mut near: Vec<(usize, String)> = names
+        .map(|name| (distance(wanted, &name), name))
+        .filter(|(far, name)| *far <= 1 + wanted.len().max(name.len()) / 4)
         .collect();
     near.sort_by_key(|(far, _)| *far);
     let names: Vec<String> = near
         .iter()
         .take(NEAREST)
-        .map(|(_, part)| format!("`{part}`"))
+        .map(|(_, name)| format!("`{name}`"))
         .collect();
-    let hint = match names.len() {
+    match names.len() {
         0 => String::new(),
-        1 => format!("; {} is a different part", names[0]),
-        _ => format!("; {} are different parts", names.join(", ")),
-    };
-    name.fault(format!("no part `{wanted}` above{hint}"))
+        1 => format!("; {} is a different {thing}", names[0]),
+        _ => format!("; {} are different {thing}s", names.join(", ")),
+    }
 }
 
 /// How many letters have to be put in, taken out or changed to make one name the other; letters that
@@ -288,7 +294,7 @@ fn form(forms: &[Form], lines: &[&[u8]], above: usize, fields: &[Field]) -> Opti
 }
 
 /// What is wrong with a name's form.
-fn name_fault(name: &[u8]) -> Option<&'static str> {
+pub(crate) fn name_fault(name: &[u8]) -> Option<&'static str> {
     let letter = |byte: &u8| byte.is_ascii_alphanumeric() || matches!(byte, b'-' | b'.');
     if name.is_empty() {
         Some("a name is missing here")
@@ -302,7 +308,7 @@ fn name_fault(name: &[u8]) -> Option<&'static str> {
 }
 
 /// What is wrong with a number's form.
-fn number_fault(number: &[u8]) -> Option<&'static str> {
+pub(crate) fn number_fault(number: &[u8]) -> Option<&'static str> {
     if number.is_empty() {
         Some("a number is missing here")
     } else if !number.iter().all(u8::is_ascii_digit) {

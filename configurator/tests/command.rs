@@ -5,9 +5,8 @@
 mod common;
 
 use common::command::{
-    batch, desk, file, folder, names, on_a_terminal, program, spardimple, spardimple_fed, text,
+    desk, file, folder, on_a_terminal, spardimple, spardimple_fed, text,
 };
-use std::fs;
 use std::os::unix::fs::symlink;
 use std::process::Command;
 
@@ -211,93 +210,6 @@ fn progress_on_a_terminal() {
     assert!(
         batch.contains(&format!("\r[{}] 4 of 4\r\u{1b}[K", "=".repeat(40))),
         "{batch}"
-    );
-}
-
-/// All sheets are planned, whatever becomes of one; the worst status is the command's.
-#[test]
-fn batches() {
-    let (sheets, out) = (folder("batch"), folder("batch-out"));
-    for name in ["film-line", "film-line-mistyped", "labeller"] {
-        let file = format!("{name}.sheet");
-        fs::write(sheets.join(&file), self::file(&format!("examples/{file}"))).unwrap();
-    }
-    fs::write(sheets.join("notes.txt"), "no sheet").unwrap();
-    let done = batch(&sheets, &out);
-    assert_eq!(done.status.code(), Some(1));
-    assert_eq!(
-        text(&done.stdout),
-        "sheet                     answer                  tasks  pieces
-film-line-mistyped.sheet  refused (5) at line 14
-film-line.sheet           planned                    11      12
-labeller.sheet            planned                     9       9
-3 sheets: 2 planned, 1 refused, 0 not read or written
-"
-    );
-    assert!(text(&done.stderr).contains("film-line-mistyped.sheet:14: refused (5)"));
-    assert!(
-        !text(&done.stderr).contains('\r'),
-        "no bar where there is no terminal"
-    );
-    assert_eq!(names(&out), ["film-line.listing", "labeller.listing"]);
-    for name in names(&out) {
-        let listing = fs::read_to_string(out.join(&name)).unwrap();
-        assert_eq!(listing, file(&format!("examples/{name}")));
-    }
-    fs::create_dir(sheets.join("folder.sheet")).unwrap();
-    let done = batch(&sheets, &out);
-    assert_eq!(done.status.code(), Some(3));
-    assert!(text(&done.stdout).ends_with("4 sheets: 2 planned, 1 refused, 1 not read or written\n"));
-    let none = spardimple(&["batch".as_ref(), out.as_os_str()]);
-    assert_eq!(none.status.code(), Some(0));
-    assert!(
-        text(&none.stdout).ends_with("no sheets: 0 planned, 0 refused, 0 not read or written\n")
-    );
-    assert_eq!(
-        spardimple(&["batch", "examples/none"]).status.code(),
-        Some(3)
-    );
-}
-
-/// The proved desk program answers, where it has been built; its words pass through.
-#[test]
-fn desk_plays_edits() {
-    let desk = desk();
-    let edits = fs::File::open(format!(
-        "{}/../examples/film-line.edits",
-        env!("CARGO_MANIFEST_DIR")
-    ));
-    let play = |sheet: &str| {
-        let emulator = std::env::var_os("CARGO_TARGET_X86_64_UNKNOWN_LINUX_GNU_RUNNER");
-        program()
-            .args(["desk", sheet])
-            .env("SPARDIMPLE_EMULATOR", emulator.unwrap_or_default())
-            .stdin(edits.as_ref().unwrap().try_clone().unwrap())
-            .output()
-            .unwrap()
-    };
-    let sheet = "examples/film-line.sheet";
-    if !desk.is_file() {
-        println!("no desk program here (`rt check desk` builds it); only its absence is tested");
-        let played = play(sheet);
-        assert_eq!(played.status.code(), Some(3));
-        assert!(text(&played.stderr).contains("`rt check desk`"));
-        return;
-    }
-    let refused = play("examples/film-line-mistyped.sheet");
-    assert_eq!(refused.status.code(), Some(1));
-    assert_eq!(text(&refused.stdout), "refusal\t5\t14\n");
-    assert!(text(&refused.stderr).contains("film-line-mistyped.sheet:14: refused (5)"));
-    let played = play(sheet);
-    assert_eq!(played.status.code(), Some(0));
-    let answers = text(&played.stdout);
-    assert!(
-        answers.starts_with("refusal\t7\t12\nok\nok\nrefusal\t5\t0\nplan\t12\t13\n"),
-        "{answers}"
-    );
-    assert!(
-        answers.ends_with("piece\t3\tcheckweigher\twhole\t250\t5000\t0\t315\n"),
-        "{answers}"
     );
 }
 

@@ -6,22 +6,15 @@
 mod common;
 
 use common::command::{
-    batch, file, folder, names, program, root, spardimple, spardimple_fed, text,
+    bound, closed, file, folder, names, program, root, spardimple, spardimple_fed, text,
 };
 use inputs::sheets::{LISTING, SHEET};
 use std::ffi::OsStr;
 use std::fs::{self, File, Permissions};
-use std::io::{BufRead, BufReader, Write};
-use std::net::Shutdown;
 use std::os::unix::ffi::OsStrExt;
 use std::os::unix::fs::{symlink, MetadataExt, PermissionsExt};
-use std::os::unix::io::OwnedFd;
-use std::os::unix::net::UnixStream;
-use std::os::unix::process::CommandExt;
 use std::path::Path;
 use std::process::{Command, Output, Stdio};
-use std::thread::sleep;
-use std::time::Duration;
 
 #[test]
 fn standard_input() {
@@ -210,57 +203,6 @@ fn lost_output() {
     assert_eq!(quiet.status.code(), Some(1));
 }
 
-/// The desk answers an edit before the next one comes. When its answers are lost it ends, though edits
-/// may still come.
-#[test]
-fn the_desk_answers_at_once() {
-    let desk = |output: Stdio| {
-        let mut desk = program()
-            .args(["desk", "examples/film-line.sheet"])
-            .stdin(Stdio::piped())
-            .stdout(output)
-            .stderr(Stdio::piped())
-            .spawn()
-            .unwrap();
-        let mut edits = desk.stdin.take().unwrap();
-        edits.write_all(b"list\n").unwrap();
-        (desk, edits)
-    };
-    let (mut played, mut edits) = desk(Stdio::piped());
-    let mut answers = BufReader::new(played.stdout.take().unwrap()).lines();
-    for line in file("examples/film-line.listing").lines() {
-        assert_eq!(answers.next().unwrap().unwrap(), line);
-    }
-    edits.write_all(b"withdraw\tpanel\n").unwrap();
-    assert_eq!(answers.next().unwrap().unwrap(), "ok");
-    drop(edits);
-    assert!(answers.next().is_none());
-    assert_eq!(played.wait().unwrap().code(), Some(0));
-
-    let full = File::options().write(true).open("/dev/full").unwrap();
-    for (output, said) in [(full.into(), "standard output: No space"), (closed(), "")] {
-        let (mut lost, edits) = desk(output);
-        let ended = (0..6_000).any(|_| {
-            sleep(Duration::from_millis(10));
-            lost.try_wait().unwrap().is_some()
-        });
-        drop(edits);
-        assert!(ended, "the desk waits for edits");
-        let lost = lost.wait_with_output().unwrap();
-        assert_eq!(lost.status.code(), Some(3));
-        assert!(text(&lost.stderr).starts_with(said));
-        assert_eq!(lost.stderr.is_empty(), said.is_empty());
-    }
-}
-
-/// A stream whose reader is gone. It is shut down and not only dropped: a process that another test
-/// starts at that moment may still hold a copy of the reader's end.
-fn closed() -> Stdio {
-    let (reader, writer) = UnixStream::pair().unwrap();
-    reader.shutdown(Shutdown::Both).unwrap();
-    Stdio::from(OwnedFd::from(writer))
-}
-
 /// Plans a sheet into a file.
 fn plan_into(path: &Path, sheet: &str) -> Output {
     let words = [
@@ -426,109 +368,6 @@ fn the_sheet_is_never_the_output() {
     // a device is no file that is overwritten
     let both = spardimple(&["plan", "/dev/null", "-o", "/dev/null"]);
     assert_eq!(both.status.code(), Some(1));
-}
-
-/// A batch that would write a listing over one of its sheets is wrong use as a whole: no other listing
-/// is written, and no folder is made.
-#[test]
-fn a_batch_overwrites_none_of_its_sheets() {
-    let (sheets, out) = (folder("batch-sheets"), folder("batch-listings"));
-    let sheet = |name: &str| sheets.join(name);
-    for name in ["a.sheet", "b.sheet"] {
-        fs::write(sheet(name), SHEET).unwrap();
-    }
-    let refused = |out: &Path, written: &Path, input: &str| {
-        let before = names(&sheets);
-        let wrong = batch(&sheets, out);
-        assert_eq!(wrong.status.code(), Some(2), "{written:?}");
-        assert!(wrong.stdout.is_empty());
-        let (written, input) = (written.display(), sheet(input));
-        assert_eq!(
-            text(&wrong.stderr),
-            format!(
-                "{written}: this would overwrite the input {}; \
-                 choose another place for the output\n",
-                input.display()
-            )
-        );
-        assert_eq!(names(&sheets), before);
-        for name in ["a.sheet", "b.sheet"] {
-            assert_eq!(fs::read_to_string(sheet(name)).unwrap(), SHEET);
-        }
-    };
-    refused(&sheet("b.sheet"), &sheet("b.sheet"), "b.sheet");
-    let listing = out.join("b.listing");
-    fs::hard_link(sheet("a.sheet"), &listing).unwrap();
-    refused(&out, &listing, "a.sheet");
-    fs::remove_file(&listing).unwrap();
-    symlink(sheet("b.sheet"), &listing).unwrap();
-    refused(&out, &listing, "b.sheet");
-    assert_eq!(names(&out), ["b.listing"]);
-    // a sheet that is a link to where a listing goes
-    fs::write(sheet("a.listing"), SHEET).unwrap();
-    symlink("a.listing", sheet("c.sheet")).unwrap();
-    refused(&sheets, &sheet("a.listing"), "c.sheet");
-    fs::remove_file(sheet("c.sheet")).unwrap();
-    // beside the sheets there is room
-    assert_eq!(batch(&sheets, &sheets).status.code(), Some(0));
-    let listings = ["a.listing", "a.sheet", "b.listing", "b.sheet"];
-    assert_eq!(names(&sheets), listings);
-}
-
-/// The summary names each older listing of a sheet that is not planned now; it is left as it was.
-#[test]
-fn a_batch_names_older_listings() {
-    let (sheets, out) = (folder("batch-now"), folder("batch-older"));
-    for name in ["a.sheet", "b.sheet", "c.sheet"] {
-        fs::write(sheets.join(name), SHEET).unwrap();
-    }
-    assert_eq!(batch(&sheets, &out).status.code(), Some(0));
-    fs::write(sheets.join("b.sheet"), "no sheet\n").unwrap();
-    fs::write(sheets.join("d.sheet"), "no sheet\n").unwrap();
-    let done = batch(&sheets, &out);
-    assert_eq!(done.status.code(), Some(1));
-    let rows = "sheet    answer                 tasks  pieces
-a.sheet  planned                    3       4
-b.sheet  refused (8) at line 1
-c.sheet  planned                    3       4
-d.sheet  refused (8) at line 1
-";
-    let older = |name: &str| {
-        let listing = out.join(format!("{name}.listing"));
-        let listing = listing.display();
-        format!("{name}.sheet: an older listing of it is still there, unchanged: {listing}\n")
-    };
-    let sum = "4 sheets: 2 planned, 2 refused, 0 not read or written\n";
-    assert_eq!(text(&done.stdout), [rows, &older("b"), sum].concat());
-    assert_eq!(names(&out), ["a.listing", "b.listing", "c.listing"]);
-    assert_eq!(fs::read_to_string(out.join("b.listing")).unwrap(), LISTING);
-    // a listing that may not be written is an older one too
-    let kept = out.join("c.listing");
-    fs::write(&kept, "kept\n").unwrap();
-    fs::set_permissions(&kept, Permissions::from_mode(0o444)).unwrap();
-    let done = batch(&sheets, &out);
-    assert_eq!(done.status.code(), Some(3));
-    let said = text(&done.stdout);
-    assert!(said.contains(&[older("b"), older("c")].concat()), "{said}");
-    assert!(said.ends_with("1 planned, 2 refused, 1 not read or written\n"));
-    let why = format!("{}: the file is read-only\n", kept.display());
-    assert!(text(&done.stderr).contains(&why));
-    assert_eq!(fs::read_to_string(&kept).unwrap(), "kept\n");
-}
-
-/// The program, run by somebody whom permissions bind: root is made nobody. None where nobody cannot
-/// run it.
-fn bound() -> Option<Command> {
-    let root = fs::metadata(folder("owner")).unwrap().uid() == 0;
-    let bind = |mut program: Command| {
-        if root {
-            program.uid(65_534).gid(65_534);
-        }
-        program
-    };
-    let runs = bind(program()).arg("--version").output();
-    runs.map_or(false, |runs| runs.status.success())
-        .then(|| bind(program()))
 }
 
 /// A read-only file is not replaced, and a folder that cannot be written is named.

@@ -1,25 +1,100 @@
 //! `batch`: the plans of all sheets of a folder, several at a time, and a summary. A sheet that is
 //! refused or cannot be read stops no other.
 
-use super::show::counted;
-use super::{cli, columns, files, parsed, planned, Failure, Planned, Status, Streams};
+mod found;
+mod outputs;
+mod summary;
+
+use super::{cli, files, parsed, planned, Failure, Planned, Status, Streams};
+use crate::explain::Explained;
 use clap::ArgMatches;
-use std::collections::HashMap;
-use std::fmt::Write as _;
+use found::Found;
 use std::fs;
-use std::iter;
 use std::path::{Path, PathBuf};
 use std::sync::atomic::{AtomicUsize, Ordering};
 use std::sync::mpsc;
 use std::thread;
 
+/// What became of a folder. All names are below the folder, in their order.
+pub struct Batch {
+    /// The sheets, each with what became of it.
+    pub sheets: Vec<Outcome>,
+    /// What was not opened, since it is no file, with what it is.
+    pub skipped: Vec<(PathBuf, &'static str)>,
+    /// Files that are no sheets by the case of their names alone.
+    pub mentioned: Vec<PathBuf>,
+    /// Folders that could not be read, with the cause.
+    pub unread: Vec<(PathBuf, String)>,
+}
+
 /// What became of one sheet.
-struct Outcome {
-    status: Status,
-    /// The fields of the summary behind the file's name.
-    fields: [String; 3],
-    /// What is said on standard error.
-    said: Option<String>,
+pub struct Outcome {
+    /// Its name below the folder.
+    pub name: PathBuf,
+    /// What came of it.
+    pub answer: Answer,
+    /// A listing that was there before and is not of the sheet as it is now.
+    pub older: Option<PathBuf>,
+}
+
+/// What came of a sheet.
+pub enum Answer {
+    /// It is planned.
+    Planned {
+        /// How many tasks it has.
+        tasks: usize,
+        /// How many pieces its plan has.
+        pieces: usize,
+    },
+    /// It is refused.
+    Refused(Explained),
+    /// It was not read, or its listing not written.
+    Failed {
+        /// The cause.
+        reason: String,
+        /// The sentence that tells it, with the file's name.
+        message: String,
+    },
+}
+
+impl Outcome {
+    /// The exit status that one sheet would have.
+    #[must_use]
+    pub fn status(&self) -> Status {
+        match self.answer {
+            Answer::Planned { .. } => Status::Accepted,
+            Answer::Refused(_) => Status::Refused,
+            Answer::Failed { .. } => Status::Failed,
+        }
+    }
+}
+
+impl Batch {
+    /// The worst status of all.
+    #[must_use]
+    pub fn status(&self) -> Status {
+        let unread = self.unread.iter().map(|_| Status::Failed);
+        let statuses = self.sheets.iter().map(Outcome::status).chain(unread);
+        statuses.max().unwrap_or(Status::Accepted)
+    }
+
+    /// Says what is wrong with each sheet and each folder, by its name from where the command runs.
+    fn say(&self, folder: &Path, streams: &mut Streams) {
+        for outcome in &self.sheets {
+            match &outcome.answer {
+                Answer::Planned { .. } => {}
+                Answer::Refused(why) => {
+                    let name = files::shown(&folder.join(&outcome.name));
+                    streams.say(&why.message(&name));
+                }
+                Answer::Failed { message, .. } => streams.say(message),
+            }
+        }
+        for (name, cause) in &self.unread {
+            let name = files::shown(&folder.join(name));
+            streams.say(&format!("{name}: {cause}"));
+        }
+    }
 }
 
 /// Plans every sheet of a folder; with `out`, each listing goes into that folder.
@@ -30,119 +105,72 @@ struct Outcome {
 /// sheet. Then nothing is written.
 pub fn run(given: &ArgMatches, streams: &mut Streams) -> Result<Status, Failure> {
     let (folder, out) = (cli::needed(given, "DIR"), cli::path(given, "out"));
-    plan_all(&folder, out.as_deref(), streams)
+    let quiet = given.get_flag("quiet");
+    streams.progress &= !quiet;
+    let found = found::find(&folder, given.get_flag("recursive"))?;
+    let batch = plan(&folder, found, out.as_deref(), streams)?;
+    if !quiet {
+        batch.say(&folder, streams);
+    }
+    streams.print(summary::text(&batch, quiet).as_bytes())?;
+    Ok(batch.status())
 }
 
-fn plan_all(folder: &Path, out: Option<&Path>, streams: &mut Streams) -> Result<Status, Failure> {
-    let sheets = sheets(folder)?;
+/// What becomes of all that was found.
+fn plan(
+    folder: &Path,
+    found: Found,
+    out: Option<&Path>,
+    streams: &mut Streams,
+) -> Result<Batch, Failure> {
     if let Some(out) = out {
-        kept(&sheets, out)?;
-        fs::create_dir_all(out).map_err(|error| {
-            Failure::new(format!(
-                "the folder {} cannot be made: {error}",
-                files::shown(out)
-            ))
-        })?;
+        outputs::look(folder, &found.sheets, out)?;
+        make(out)?;
     }
-    let outcomes = all(&sheets, out, streams);
-    let (mut rows, mut older) = (Vec::new(), Vec::new());
-    for (sheet, outcome) in sheets.iter().zip(&outcomes) {
-        let listing = out.map(|out| listing_in(out, sheet));
-        let unplanned = outcome.status != Status::Accepted;
-        if let Some(left) = listing.filter(|listing| unplanned && listing.is_file()) {
-            older.push(format!(
-                "{}: an older listing of it is still there, unchanged: {}",
-                short(sheet),
-                files::shown(&left)
-            ));
+    let one = |name: &PathBuf| {
+        let listing = out.map(|out| outputs::listing(out, name));
+        let answer = one(&folder.join(name), listing.as_deref());
+        let planned = matches!(answer, Answer::Planned { .. });
+        Outcome {
+            name: name.clone(),
+            answer,
+            older: listing.filter(|listing| !planned && listing.is_file()),
         }
-        let mut row = vec![short(sheet)];
-        row.extend(outcome.fields.iter().cloned());
-        rows.push(row);
-        if let Some(said) = &outcome.said {
-            streams.say(said);
-        }
-    }
-    let mut lines = columns::lines(&["<sheet", "<answer", "tasks", "pieces"], &rows);
-    lines.append(&mut older);
-    let mut text = lines.join("\n");
-    let with = |status| {
-        outcomes
-            .iter()
-            .filter(|outcome| outcome.status == status)
-            .count()
     };
-    let _ = writeln!(
-        text,
-        "\n{}: {} planned, {} refused, {} not read or written",
-        counted(sheets.len(), "sheet"),
-        with(Status::Accepted),
-        with(Status::Refused),
-        with(Status::Failed)
-    );
-    streams.print(text.as_bytes())?;
-    let statuses = outcomes.iter().map(|outcome| outcome.status);
-    Ok(statuses.max().unwrap_or(Status::Accepted))
-}
-
-/// The folder's files with names that end in `.sheet`, in the names' order.
-fn sheets(folder: &Path) -> Result<Vec<PathBuf>, Failure> {
-    let failed = |error| Failure::of(folder, &error);
-    let mut sheets = Vec::new();
-    for entry in fs::read_dir(folder).map_err(failed)? {
-        let path = entry.map_err(failed)?.path();
-        if path.extension().map_or(false, |end| end == "sheet") {
-            sheets.push(path);
-        }
-    }
-    sheets.sort();
-    Ok(sheets)
-}
-
-/// Looks that no listing would overwrite a sheet, by whichever name.
-fn kept(sheets: &[PathBuf], out: &Path) -> Result<(), Failure> {
-    let identity = |path: &Path| files::identity(fs::metadata(path));
-    let known: HashMap<_, _> = (sheets.iter())
-        .filter_map(|sheet| Some((identity(sheet)?, sheet)))
-        .collect();
-    let listings = sheets.iter().map(|sheet| listing_in(out, sheet));
-    for written in iter::once(out.to_owned()).chain(listings) {
-        if let Some(sheet) = identity(&written).and_then(|there| known.get(&there)) {
-            return Err(files::overwrites(&written, sheet));
-        }
-    }
-    Ok(())
-}
-
-/// Where a sheet's listing goes.
-fn listing_in(out: &Path, sheet: &Path) -> PathBuf {
-    let mut name = sheet.file_stem().unwrap_or_default().to_owned();
-    name.push(".listing");
-    out.join(name)
+    Ok(Batch {
+        sheets: each(&found.sheets, one, streams),
+        skipped: found.skipped,
+        mentioned: found.mentioned,
+        unread: found.unread,
+    })
 }
 
 /// What becomes of the sheets, in their order. As many threads as the machine has cores take one
 /// after the other.
-fn all(sheets: &[PathBuf], out: Option<&Path>, streams: &mut Streams) -> Vec<Outcome> {
+fn each(
+    names: &[PathBuf],
+    one: impl Fn(&PathBuf) -> Outcome + Sync,
+    streams: &mut Streams,
+) -> Vec<Outcome> {
     let next = AtomicUsize::new(0);
     let (sender, receiver) = mpsc::channel();
     let threads = thread::available_parallelism().map_or(1, usize::from);
     let mut outcomes: Vec<(usize, Outcome)> = thread::scope(|scope| {
-        for _ in 0..threads.min(sheets.len()) {
-            let (sender, next) = (sender.clone(), &next);
+        for _ in 0..threads.min(names.len()) {
+            let (sender, next, one) = (sender.clone(), &next, &one);
             scope.spawn(move || {
-                while let Some((at, sheet)) = {
+                while let Some((at, name)) = {
                     let at = next.fetch_add(1, Ordering::Relaxed);
-                    sheets.get(at).map(|sheet| (at, sheet))
+                    names.get(at).map(|name| (at, name))
                 } {
-                    let _ = sender.send((at, one(sheet, out)));
+                    let _ = sender.send((at, one(name)));
                 }
             });
         }
         drop(sender);
         let counted = receiver.iter().enumerate();
         let outcomes = counted.map(|(done, outcome)| {
-            progress(done + 1, sheets.len(), streams);
+            progress(done + 1, names.len(), streams);
             outcome
         });
         outcomes.collect()
@@ -151,50 +179,43 @@ fn all(sheets: &[PathBuf], out: Option<&Path>, streams: &mut Streams) -> Vec<Out
     outcomes.into_iter().map(|(_, outcome)| outcome).collect()
 }
 
-/// What becomes of one sheet.
-fn one(path: &Path, out: Option<&Path>) -> Outcome {
-    attempt(path, out).unwrap_or_else(|failure| Outcome {
-        status: Status::Failed,
-        fields: [
-            "not read or written".to_owned(),
-            String::new(),
-            String::new(),
-        ],
-        said: failure.why,
+/// What becomes of one sheet, whose listing may be wanted.
+fn one(sheet: &Path, listing: Option<&Path>) -> Answer {
+    attempt(sheet, listing).unwrap_or_else(|failure| {
+        let gone = || "the reader of its listing has gone".to_owned();
+        let message = failure.why.unwrap_or_else(gone);
+        let behind = |path: &Path| message.strip_prefix(&format!("{}: ", files::shown(path)));
+        let reason = match (behind(sheet), listing.and_then(behind)) {
+            (Some(cause), _) => cause.to_owned(),
+            (None, Some(cause)) => format!("its listing: {cause}"),
+            (None, None) => message.clone(),
+        };
+        Answer::Failed { reason, message }
     })
 }
 
-fn attempt(path: &Path, out: Option<&Path>) -> Result<Outcome, Failure> {
-    let sheet = files::sheet(path)?;
-    Ok(match planned(&sheet)? {
+fn attempt(sheet: &Path, listing: Option<&Path>) -> Result<Answer, Failure> {
+    Ok(match planned(&files::sheet(sheet)?)? {
         Planned::Listing(bytes) => {
-            let listing = parsed(&bytes)?;
-            if let Some(out) = out {
-                files::write(&listing_in(out, path), &bytes)?;
+            let rows = parsed(&bytes)?;
+            if let Some(listing) = listing {
+                listing.parent().map_or(Ok(()), make)?;
+                files::write(listing, &bytes)?;
             }
-            let (tasks, pieces) = (listing.tasks, listing.pieces.len());
-            Outcome {
-                status: Status::Accepted,
-                fields: ["planned".to_owned(), tasks.to_string(), pieces.to_string()],
-                said: None,
-            }
-        }
-        Planned::Refused(why) => {
-            let line = why
-                .line
-                .as_ref()
-                .map(|line| format!(" at line {}", line.number));
-            let answer = format!(
-                "refused ({}){}",
-                why.refusal.number(),
-                line.unwrap_or_default()
-            );
-            Outcome {
-                status: Status::Refused,
-                fields: [answer, String::new(), String::new()],
-                said: Some(why.message(&files::shown(path))),
+            Answer::Planned {
+                tasks: rows.tasks,
+                pieces: rows.pieces.len(),
             }
         }
+        Planned::Refused(why) => Answer::Refused(why),
+    })
+}
+
+/// Makes a folder for listings, unless it is there.
+fn make(folder: &Path) -> Result<(), Failure> {
+    fs::create_dir_all(folder).map_err(|error| {
+        let folder = files::shown(folder);
+        Failure::new(format!("the folder {folder} cannot be made: {error}"))
     })
 }
 
@@ -210,9 +231,4 @@ fn progress(done: usize, all: usize, streams: &mut Streams) {
         }
         let _ = streams.err.flush();
     }
-}
-
-/// A file's name without its folder.
-fn short(path: &Path) -> String {
-    files::shown(path.file_name().map_or(path, Path::new))
 }

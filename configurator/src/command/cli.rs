@@ -126,12 +126,23 @@ fn desk() -> Command {
     Command::new("desk")
         .about("Plays edits on a sheet's plan, by the proved desk program")
         .after_help(
-            "Example: spardimple desk examples/film-line.sheet < examples/film-line.edits\n\n\
-             Edits are typed or piped, one a line, fields parted by one tab:\n  \
+            "Examples: spardimple desk examples/film-line.sheet\n          \
+             spardimple desk --exit-status examples/film-line.sheet < examples/film-line.edits\n\n\
+             On a terminal there is a prompt with a history, where `help` has the forms of edits and\n\
+             spaces part fields too. From a file or a pipe edits come one a line, fields parted by one tab:\n  \
              add NAME C D T J P M, withdraw NAME, retime NAME C D T J P M, list\n\
-             The answer is ok, the listing, or refusal with its number and what it carries.",
+             The answer is ok, the listing, or refusal with its number and what it carries; standard error\n\
+             has the reason of each refusal. A refused edit changes nothing, and the exit status is 0\n\
+             without --exit-status; a refused sheet is 1.\n\n\
+             SPARDIMPLE_DESK names the desk program; without it, it is lib/spardimple/desk beside bin.",
         )
         .arg(file("SHEET", "A timing sheet"))
+        .arg(
+            Arg::new("exit-status")
+                .long("exit-status")
+                .action(ArgAction::SetTrue)
+                .help("Ends with exit status 1 if an edit was refused"),
+        )
 }
 
 fn batch() -> Command {
@@ -140,10 +151,27 @@ fn batch() -> Command {
         .after_help(
             "Example: spardimple batch examples -o listings\n\n\
              A refused sheet stops nothing. The exit status is that of the worst sheet. If OUT has an\n\
-             older listing of a sheet that is not planned now, the summary names it, and it stays.",
+             older listing of a sheet that is not planned now, the summary names it, and it stays.\n\
+             Hidden files are left out. FIFOs, devices and folders that are named like sheets are not\n\
+             opened, and the summary names them. With -r links to folders are not followed, and the\n\
+             listings stand in folders below OUT as their sheets do below DIR.",
         )
         .arg(file("DIR", "The folder"))
         .arg(out("OUT", "Writes each listing into the folder OUT"))
+        .arg(
+            Arg::new("recursive")
+                .short('r')
+                .long("recursive")
+                .action(ArgAction::SetTrue)
+                .help("Goes into the folders below DIR too"),
+        )
+        .arg(
+            Arg::new("quiet")
+                .short('q')
+                .long("quiet")
+                .action(ArgAction::SetTrue)
+                .help("Prints what is not planned and the sum, and no messages"),
+        )
 }
 
 fn completions() -> Command {

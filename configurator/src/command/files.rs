@@ -129,11 +129,20 @@ fn beginning(file: File, path: &Path, most: usize) -> Result<Vec<u8>, Failure> {
 
 fn open(path: &Path) -> Result<File, Failure> {
     let opened = if is_standard(path) {
-        io::stdin().as_fd().try_clone_to_owned().map(File::from)
+        input()
     } else {
         File::open(path)
     };
     opened.map_err(|error| Failure::of(path, &error))
+}
+
+/// Standard input, as a file. (Rust's own takes one that cannot be read for an empty one.)
+///
+/// # Errors
+///
+/// The process may open no more files.
+pub fn input() -> io::Result<File> {
+    io::stdin().as_fd().try_clone_to_owned().map(File::from)
 }
 
 /// Standard output, as a file. (Rust's own standard output is silent about one that cannot be

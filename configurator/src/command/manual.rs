@@ -65,7 +65,8 @@ fn called(argument: &Arg) -> String {
     match (argument.get_short(), argument.get_long(), value) {
         (Some(short), _, Some(value)) => format!("-{short} {value}"),
         (None, Some(long), Some(value)) => format!("--{long} {value}"),
-        (_, Some(long), None) => format!("--{long}"),
+        (Some(short), Some(long), None) => format!("-{short}, --{long}"),
+        (None, Some(long), None) => format!("--{long}"),
         _ => argument.get_id().to_string(),
     }
 }
