@@ -36,7 +36,7 @@ pub fn refused(file: &str, explained: &Explained) -> String {
             "line": explained.line.as_ref().map(|line| line.number),
             "meaning": explained.meaning,
             "why": explained.why,
-            "remedy": explained.remedy,
+            "remedy": explained.remedy(file),
         }
     }))
 }
