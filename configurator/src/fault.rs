@@ -43,8 +43,10 @@ const NEAREST: usize = 3;
 /// ```
 #[must_use]
 pub fn find(number: u8, text: Text, bytes: &[u8], above: usize, numbers: Numbers) -> Option<Fault> {
-    let lines: Vec<&[u8]> = bytes.split(|&byte| byte == b'\n').collect();
-    let line = lines.get(above)?;
+    let lines = bytes.splitn(above.saturating_add(2), |&byte| byte == b'\n');
+    let mut lines: Vec<&[u8]> = lines.collect();
+    let line = *lines.get(above)?;
+    let below = (lines.len() > above + 1).then(|| lines.pop()).flatten();
     let fields = fields(line);
     match number {
         1 => machine(&fields),
@@ -52,7 +54,7 @@ pub fn find(number: u8, text: Text, bytes: &[u8], above: usize, numbers: Numbers
         3 => times(text.times(), fields.get(text.names_before_times() + 1..)?),
         4 => taken(&lines[..above], fields.first()?, fields.get(1)?, numbers),
         5 => Some(missing(&lines[..above], fields.get(2)?)),
-        8 => misformed::find(text, bytes, &lines, above),
+        8 => misformed::find(text, bytes, &lines, below),
         _ => None,
     }
 }

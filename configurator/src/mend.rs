@@ -52,7 +52,8 @@ impl Flaw {
     #[must_use]
     pub const fn mending(self) -> &'static str {
         match self {
-            Mark | Returns | Ends => "takes that off",
+            Mark | Ends => "takes it off",
+            Returns => "ends lines by newlines alone",
             Wide => "writes one byte a letter",
             Parting => "puts one tab between fields",
             Case => "writes the word so",
@@ -117,7 +118,7 @@ pub fn mended(file: &[u8]) -> Mended {
     }
     let all = |flaw| (flaw, (if flaw == Mark { 1 } else { lines.len().max(1) }, 1));
     let mut flaws: BTreeMap<_, _> = of_file.into_iter().map(all).collect();
-    if is_wide(&decoded) {
+    if !is_text(&decoded) {
         let bytes = decoded.into_owned();
         return Mended { bytes, flaws };
     }
@@ -170,7 +171,7 @@ pub fn decoded(file: &[u8]) -> (Cow<'_, [u8]>, Vec<Flaw>) {
         decoded = Cow::Owned(letters);
         flaws.push(Wide);
     }
-    if decoded.contains(&b'\r') && !decoded.contains(&b'\n') {
+    if is_text(&decoded) && decoded.contains(&b'\r') && !decoded.contains(&b'\n') {
         for byte in decoded.to_mut() {
             if *byte == b'\r' {
                 *byte = b'\n';
@@ -186,6 +187,11 @@ pub fn decoded(file: &[u8]) -> (Cow<'_, [u8]>, Vec<Flaw>) {
 pub fn is_wide(bytes: &[u8]) -> bool {
     let marked = bytes.starts_with(b"\xff\xfe") || bytes.starts_with(b"\xfe\xff");
     marked || narrow(bytes).is_some()
+}
+
+/// Whether bytes may be a text of one byte a letter. What else there is may mean anything, and stays.
+fn is_text(bytes: &[u8]) -> bool {
+    !bytes.contains(&0) && !is_wide(bytes)
 }
 
 /// The letters of UTF-16, if all of them are ASCII.
@@ -208,8 +214,8 @@ fn narrow(bytes: &[u8]) -> Option<Vec<u8>> {
 }
 
 /// A line's fields. Where tabs part as many as the line's word asks for, they are what parts them, and
-/// a blank inside a field belongs to it; else runs of blanks are, if these part so many. Else the line
-/// stays as it is.
+/// a blank inside a field belongs to it; else runs of blanks are, if these part so many. An empty field
+/// counts only if runs do not. Else the line stays as it is.
 fn parted(text: Text, line: &[u8]) -> Vec<&[u8]> {
     let fits = |fields: &[&[u8]]| {
         let form = fields.first().and_then(|word| text.form_of(word));
@@ -217,16 +223,14 @@ fn parted(text: Text, line: &[u8]) -> Vec<&[u8]> {
     };
     let tabs = line.split(|&byte| byte == b'\t');
     let by_tabs: Vec<&[u8]> = tabs.clone().map(trimmed).collect();
-    let runs = line
-        .split(|&byte| blank(byte))
-        .filter(|run| !run.is_empty());
-    let by_runs: Vec<&[u8]> = runs.collect();
-    if fits(&by_tabs) {
-        by_tabs
-    } else if fits(&by_runs) {
-        by_runs
-    } else {
-        tabs.collect()
+    let runs = line.split(|&byte| blank(byte));
+    let by_runs: Vec<&[u8]> = runs.filter(|run| !run.is_empty()).collect();
+    let full = by_tabs.iter().all(|field| !field.is_empty());
+    match (fits(&by_tabs), fits(&by_runs)) {
+        (true, true) if full => by_tabs,
+        (_, true) => by_runs,
+        (true, false) => by_tabs,
+        (false, false) => tabs.collect(),
     }
 }
 

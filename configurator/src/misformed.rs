@@ -6,32 +6,38 @@ use crate::forms::{name_fault, number_fault, Form, Text};
 use crate::mend::{self, Flaw};
 use std::ops::Range;
 
-/// The fault of a line that is refused for its form.
-pub(crate) fn find(text: Text, bytes: &[u8], lines: &[&[u8]], above: usize) -> Option<Fault> {
-    let words = lines[above];
-    if above == 0 {
+/// The fault of a line that is refused for its form, the last of these. Below it stands what is behind
+/// its newline, if it has one.
+pub(crate) fn find(
+    text: Text,
+    bytes: &[u8],
+    lines: &[&[u8]],
+    below: Option<&[u8]>,
+) -> Option<Fault> {
+    let (&words, above) = lines.split_last()?;
+    if above.is_empty() {
         if let Some(fault) = of_file(bytes, words) {
             return Some(fault);
         }
     }
     let (mended, flaws) = mend::line(text, words);
-    let forms = text.forms(above);
+    let forms = text.forms(above.len());
     if mended.is_empty() {
-        return Some(empty(forms, lines, above));
+        return Some(empty(forms, words, below.unwrap_or_default()));
     }
     let fields = located(words, &mended);
-    if let Some(fault) = unmended(forms, lines, above, &fields) {
+    if let Some(fault) = unmended(forms, above, words, &fields) {
         return Some(fault);
     }
     match flaws.first() {
         Some(&flaw) => {
             let mut fault = flawed(flaw, words, &fields);
-            if everywhere(flaw, text, &lines[above..]) {
+            if everywhere(flaw, text, below.unwrap_or_default()) {
                 fault.why.push_str(", as in every line below");
             }
             Some(fault)
         }
-        None if above + 1 == lines.len() => Some(Fault {
+        None if below.is_none() => Some(Fault {
             part: words.len()..words.len(),
             why: "the file ends here without a newline".to_owned(),
             flaw: Some(Flaw::Newline),
@@ -40,12 +46,17 @@ pub(crate) fn find(text: Text, bytes: &[u8], lines: &[&[u8]], above: usize) -> O
     }
 }
 
-/// Whether a line has a flaw and so have all below it that are not empty, one at least.
-pub(crate) fn everywhere(flaw: Flaw, text: Text, lines: &[&[u8]]) -> bool {
-    let mut worded = (lines.iter()).filter(|line| mend::words_end(line) > 0);
-    let has = |line: &&[u8]| mend::line(text, line).1.contains(&flaw);
-    let two = worded.clone().nth(1).is_some();
-    two && worded.all(has)
+/// Whether all lines below that are not empty have a flaw, one at least.
+pub(crate) fn everywhere(flaw: Flaw, text: Text, below: &[u8]) -> bool {
+    let mut worded = worded(below).peekable();
+    let has = |line: &[u8]| mend::line(text, line).1.contains(&flaw);
+    worded.peek().is_some() && worded.all(has)
+}
+
+/// The lines that are not empty.
+fn worded(lines: &[u8]) -> impl Iterator<Item = &[u8]> {
+    let lines = lines.split(|&byte| byte == b'\n');
+    lines.filter(|line| mend::words_end(line) > 0)
 }
 
 /// What is wrong with a whole file, told at its first line.
@@ -61,7 +72,7 @@ fn of_file(bytes: &[u8], line: &[u8]) -> Option<Fault> {
             told(0..3, why, Some(Flaw::Mark))
         }
         Some(&Flaw::Wide) => {
-            let why = "the file is UTF-16, two bytes a letter; only one may be";
+            let why = "the file is UTF-16, two bytes a letter where one should be";
             told(0..line.len(), why, Some(Flaw::Wide))
         }
         Some(&flaw) => {
@@ -78,12 +89,10 @@ fn of_file(bytes: &[u8], line: &[u8]) -> Option<Fault> {
 }
 
 /// A line without words.
-fn empty(forms: &[Form], lines: &[&[u8]], above: usize) -> Fault {
-    let words = |line: &&[u8]| mend::words_end(line) > 0;
-    let more = lines[above..].iter().any(words);
-    let part = 0..lines[above].len();
+fn empty(forms: &[Form], line: &[u8], below: &[u8]) -> Fault {
+    let part = 0..line.len();
     match forms {
-        [form] if !more => {
+        [form] if worded(below).next().is_none() => {
             let why = format!("the `{}` line is missing here", form.word);
             Fault::new(part, why)
         }
@@ -114,8 +123,7 @@ fn located<'a>(line: &[u8], mended: &'a [u8]) -> Vec<Field<'a>> {
 }
 
 /// What is wrong with a line's form that `fmt` does not mend.
-fn unmended(forms: &[Form], lines: &[&[u8]], above: usize, fields: &[Field]) -> Option<Fault> {
-    let line = lines[above];
+fn unmended(forms: &[Form], above: &[&[u8]], line: &[u8], fields: &[Field]) -> Option<Fault> {
     let word = fields.first()?;
     let known = forms.iter().find(|form| form.word.as_bytes() == word.bytes);
     let form = if let Some(form) = known {
@@ -129,7 +137,7 @@ fn unmended(forms: &[Form], lines: &[&[u8]], above: usize, fields: &[Field]) -> 
         return Some(word.fault(format!("the line should begin with {wanted} and a tab")));
     };
     let fit = |line: &&[u8]| line.starts_with(b"fit\t");
-    if form.word == "part" && lines[..above].iter().any(fit) {
+    if form.word == "part" && above.iter().any(fit) {
         return Some(word.fault("`part` lines stand above all `fit` lines".to_owned()));
     }
     if fields.len() != form.fields() {

@@ -249,7 +249,7 @@ fn verdicts_of_tables() {
         ),
         (
             costs.to_owned() + &"whole\t1\t1\t1\t0\t0\t0\n".repeat(80),
-            ": refused (6)",
+            ":81: refused (6)",
             "79 records",
         ),
         (
@@ -459,6 +459,8 @@ fn help() {
     }
     for sub in [
         "plan",
+        "check",
+        "fmt",
         "verdict",
         "show",
         "report",

@@ -8,9 +8,9 @@ use crate::mend::mended;
 use crate::Refusal;
 use clap::ArgMatches;
 
-/// How many times as long as a sheet a file may be before it is mended: UTF-16 takes twice the bytes,
-/// and blanks some more.
-const LONGER: usize = 4;
+/// The longest file that is mended, four times as long as a sheet: UTF-16 takes twice the bytes, and
+/// blanks some more.
+const MOST: usize = 4 * SHEET_MOST;
 
 /// Prints or writes the mended text, and tells what was mended.
 ///
@@ -19,16 +19,16 @@ const LONGER: usize = 4;
 /// The file cannot be read or the text not be written.
 pub fn run(given: &ArgMatches, streams: &mut Streams) -> Result<Status, Failure> {
     let (sheet, out) = (cli::needed(given, "SHEET"), cli::path(given, "out"));
-    let (out, most) = (out.as_deref(), LONGER * SHEET_MOST);
+    let out = out.as_deref();
     let (name, bytes) = (
         files::shown(&sheet),
-        files::beginning_for(out, &sheet, most + 1)?,
+        files::beginning_for(out, &sheet, MOST + 1)?,
     );
     let mended = mended(&bytes);
-    if bytes.len() > most || mended.bytes.len() > SHEET_MOST {
-        let mut why = explain::refused(Refusal::new(9, 0), &mended.bytes);
-        if bytes.len() > most {
-            why.why = Some(format!("fmt reads {most} bytes, and the file goes on"));
+    if bytes.len() > MOST || mended.bytes.len() > SHEET_MOST {
+        let mut why = explain::refused(Refusal::new(9, 0), &[]);
+        if bytes.len() > MOST {
+            why.why = Some("fmt reads 65,536 bytes, and the file goes on".to_owned());
         }
         streams.say(&why.message(&name));
         return Ok(Status::Refused);

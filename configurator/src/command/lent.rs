@@ -76,7 +76,9 @@ fn lengths(records: &Lent, costs: &Lent) -> Result<Vec<Wrong>, UnknownNumber> {
         let answer = verdict(records, costs)?;
         Ok(matches!(answer, Answer::Refused(refusal) if refusal.number() == 8))
     };
-    let swapped = !refused(&costs.bytes, &records.bytes)?;
+    let behind = costs.length.unwrap_or(1) % RECORD as u64;
+    let behind = usize::try_from(behind).unwrap_or(1);
+    let swapped = !refused(&vec![0; behind], &records.bytes)?;
     let remedy = |remedy: &'static str| {
         let change = "RECORDS stands first, then COSTS; the two files seem to have changed places";
         if swapped { change } else { remedy }.to_owned()
