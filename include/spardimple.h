@@ -47,7 +47,7 @@ static inline uint32_t spardimple_which(uint64_t answer) { return (uint32_t)(ans
 static inline uint32_t spardimple_carries(uint64_t answer) { return (uint32_t)answer; }
 
 /* Whether one core meets its deadlines. `records` has 28 bytes a piece, at most 79 of them: kind (0 whole, 1 first, 2 last), budget, window, period,
- * jitter, preemption and migration charge; `costs` has 36 bytes: RelO, SchedO, TsetO, IpB, BetO, MigrO, IpiO, IpiJ, pi. A number has four bytes,
+ * jitter, preemption and migration charge; `costs` has 36 bytes: RelO, SchedO, TsetO, IpB, BetO, MigrO, IpiO, IpiJ, π. A number has four bytes,
  * lowest first. */
 uint64_t verdict(const uint8_t *records, size_t records_len, const uint8_t *costs, size_t costs_len);
 

@@ -24,7 +24,8 @@ pub enum Answer {
     Passes,
     /// The greatest length of the judged span at which the demand is above the length. It can be 0.
     Overloaded(u64),
-    /// No busy length up to the limit.
+    /// No busy length up to the limit: within each length from 1 to 100,000,000 ticks more work comes than
+    /// the length has ticks. It is no "maybe": such a core does not pass.
     Undecided,
     /// The records or the costs break a rule.
     Refused(Refusal),
@@ -68,7 +69,8 @@ impl fmt::Display for Answer {
             ),
             Answer::Undecided => write!(
                 f,
-                "undecided: the work on this core has no end within 100,000,000 ticks"
+                "undecided: more work than time in every length up to 100,000,000 ticks; \
+                 such a core does not pass, and no plan has one"
             ),
             Answer::Refused(refusal) => refusal.write(f, "record"),
         }

@@ -4,9 +4,12 @@
 //! text, so that nobody has to count lines, and gives no figure of its own.
 
 use crate::answer::Refusal;
-use crate::fault::{self, Fault, Text};
-use crate::text::shown;
+use crate::fault::{self, Fault, Numbers};
+use crate::forms::Text;
+use crate::mend::{self, Flaw};
+use crate::text::{shell_word, shown};
 use std::fmt::Write;
+use unicode_width::UnicodeWidthStr;
 
 /// The most characters that are shown of a line's fault, and of what stands on each side of it.
 const SHOWN: usize = 60;
@@ -22,8 +25,8 @@ pub struct Explained {
     pub line: Option<Line>,
     /// What is wrong with the line's words, and the hint where there is one.
     pub why: Option<String>,
-    /// What to do.
-    pub remedy: &'static str,
+    /// What `fmt` mends, where that is all that is wrong.
+    pub flaw: Option<Flaw>,
 }
 
 /// A line of a sheet, cut where the fault in it begins and ends. Tabs are `⇥`, so that a wrong
@@ -62,23 +65,25 @@ pub struct Line {
 /// ```
 #[must_use]
 pub fn refused(refusal: Refusal, sheet: &[u8]) -> Explained {
-    refused_in(Text::Sheet, refusal, sheet)
+    refused_in(Text::Sheet, refusal, sheet, &|above| above + 1)
 }
 
-/// The refusal of a sheet or a table, with its words.
+/// The refusal of a sheet or a table, with its words, where the lines may have other numbers in the
+/// file that they come from.
 #[must_use]
-pub fn refused_in(text: Text, refusal: Refusal, sheet: &[u8]) -> Explained {
+pub fn refused_in(text: Text, refusal: Refusal, sheet: &[u8], numbers: Numbers) -> Explained {
     let mut meaning = refusal.meaning();
     let place = usize::try_from(refusal.carries()).unwrap_or(usize::MAX);
-    let (mut line, mut why) = (None, None);
+    let (mut line, mut why, mut flaw) = (None, None, None);
     match (refusal.number(), place.checked_sub(1)) {
         (1..=6 | 8, Some(above)) => {
-            let fault = fault::find(refusal.number(), text, sheet, above);
+            let fault = fault::find(refusal.number(), text, sheet, above, numbers);
+            flaw = fault.as_ref().and_then(|fault| fault.flaw);
             line = lines(sheet).nth(above).map(|bytes| {
                 let part = fault
                     .as_ref()
                     .map_or(0..0, |fault: &Fault| fault.part.clone());
-                Line::cut(above + 1, bytes, part.start, part.end)
+                Line::cut(numbers(above), bytes, part.start, part.end)
             });
             why = fault.map(|fault| fault.why);
         }
@@ -86,8 +91,12 @@ pub fn refused_in(text: Text, refusal: Refusal, sheet: &[u8]) -> Explained {
             let mut fits = lines(sheet).enumerate().filter_map(fitted_task);
             if let Some((at, bytes, name)) = fits.nth(above) {
                 let _ = write!(meaning, ", `{}`", shown(name));
-                line = Some(Line::cut(at + 1, bytes, 4, 4 + name.len()));
+                line = Some(Line::cut(numbers(at), bytes, 4, 4 + name.len()));
             }
+        }
+        (9, _) if mend::is_wide(sheet) => {
+            why = Some("the file is UTF-16, two bytes a letter".to_owned());
+            flaw = Some(Flaw::Wide);
         }
         _ => {}
     }
@@ -96,11 +105,23 @@ pub fn refused_in(text: Text, refusal: Refusal, sheet: &[u8]) -> Explained {
         meaning,
         line,
         why,
-        remedy: refusal.remedy(),
+        flaw,
     }
 }
 
 impl Explained {
+    /// What to do about it in a file that is called so in messages.
+    #[must_use]
+    pub fn remedy(&self, file: &str) -> String {
+        match self.flaw {
+            Some(flaw) => {
+                let file = shell_word(file);
+                format!("`spardimple fmt {file} -o NEW` {}", flaw.mending())
+            }
+            None => self.refusal.remedy().to_owned(),
+        }
+    }
+
     /// The message for a terminal: the file and the line, the refusal, the line's words with the
     /// fault underlined, and what to do.
     #[must_use]
@@ -118,15 +139,16 @@ impl Explained {
         if let Some(line) = &self.line {
             let _ = write!(text, "\n  {}{}{}", line.before, line.fault, line.behind);
             if !line.fault.is_empty() {
-                let (indent, length) = (line.before.chars().count(), line.fault.chars().count());
+                let (indent, length) = (line.before.width(), line.fault.width().max(1));
                 let _ = write!(text, "\n  {:indent$}{:^<length$}", "", "");
             }
         }
         if let Some(why) = &self.why {
             let _ = write!(text, "\n  {why}");
         }
-        if !self.remedy.is_empty() {
-            let _ = write!(text, "\n  to do: {}", self.remedy);
+        let remedy = self.remedy(file);
+        if !remedy.is_empty() {
+            let _ = write!(text, "\n  to do: {remedy}");
         }
         text
     }
@@ -178,7 +200,7 @@ mod tests {
     fn what_is_wrong_can_be_seen() {
         let message = refused(Refusal::new(8, 1), b"machine\t2\t1\r\n").message("s");
         assert!(
-            message.contains("\n  machine⇥2⇥1\\r\n             ^^\n  a carriage return;"),
+            message.contains("\n  machine⇥2⇥1\\r\n             ^^\n  a carriage return ends"),
             "{message}"
         );
         let message = refused(Refusal::new(8, 2), b"machine\t2\t1\ncost 0 0\n").message("s");

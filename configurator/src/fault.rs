@@ -4,7 +4,10 @@
 //! breaks the rule, so that it can be pointed at; where it finds nothing, the refusal stands as it
 //! is.
 
-use crate::quoted::{COSTS, TIMES};
+use crate::forms::Text;
+use crate::mend::Flaw;
+use crate::misformed;
+use crate::quoted::COSTS;
 use crate::text::shown;
 use std::ops::Range;
 use std::str;
@@ -16,48 +19,12 @@ pub struct Fault {
     pub part: Range<usize>,
     /// What is wrong, or what stands elsewhere.
     pub why: String,
+    /// What `fmt` mends, where nothing else is wrong.
+    pub flaw: Option<Flaw>,
 }
 
-/// What kind of text a line stands in.
-#[derive(Clone, Copy, Debug, PartialEq, Eq)]
-pub enum Text {
-    /// A timing sheet.
-    Sheet,
-    /// A table of costs and pieces, for a verdict.
-    Table,
-}
-
-/// The form of a line: its word, then so many names, then so many numbers.
-struct Form(&'static str, usize, usize);
-
-impl Text {
-    /// The forms that a line with so many lines above it may have.
-    fn forms(self, above: usize) -> &'static [Form] {
-        match (self, above) {
-            (Text::Sheet, 0) => &[Form("machine", 0, 2)],
-            (Text::Sheet, 1) | (Text::Table, 0) => &[Form("cost", 0, 9)],
-            (Text::Sheet, _) => &[Form("part", 1, 6), Form("fit", 2, 0)],
-            (Text::Table, _) => &[Form("whole", 0, 6), Form("first", 0, 6), Form("last", 0, 6)],
-        }
-    }
-
-    /// What the times of a line are called.
-    fn times(self) -> [&'static str; 6] {
-        let mut names = TIMES;
-        if self == Text::Table {
-            names[0] = "x";
-        }
-        names
-    }
-
-    /// The names between a line's word and its times.
-    fn names_before_times(self) -> usize {
-        match self {
-            Text::Sheet => 1,
-            Text::Table => 0,
-        }
-    }
-}
+/// The number in the file of the line with so many lines above it.
+pub type Numbers<'a> = &'a dyn Fn(usize) -> usize;
 
 /// The most names that are given as a hint.
 const NEAREST: usize = 3;
@@ -65,41 +32,43 @@ const NEAREST: usize = 3;
 /// The fault in the line with so many lines above it, for a refusal of that number.
 ///
 /// ```
-/// use configurator::fault;
+/// use configurator::{fault, forms::Text};
 ///
 /// let sheet = b"machine\t2\t1\ncost\t0\t0\t0\t0\t0\t0\t0\t0\t0\npart\tdrv-a\t6\t10\t10\t0\t0\t1
 /// fit\tweld\tdrv-a2
 /// ";
-/// let fault = fault::find(5, fault::Text::Sheet, sheet, 3).unwrap();
+/// let fault = fault::find(5, Text::Sheet, sheet, 3, &|above| above + 1).unwrap();
 /// assert_eq!(fault.part, 9..15);
 /// assert_eq!(fault.why, "no part `drv-a2` above; `drv-a` is a different part");
 /// ```
 #[must_use]
-pub fn find(number: u8, text: Text, bytes: &[u8], above: usize) -> Option<Fault> {
-    let lines: Vec<&[u8]> = bytes.split(|&byte| byte == b'\n').collect();
-    let line = lines.get(above)?;
+pub fn find(number: u8, text: Text, bytes: &[u8], above: usize, numbers: Numbers) -> Option<Fault> {
+    let lines = bytes.splitn(above.saturating_add(2), |&byte| byte == b'\n');
+    let mut lines: Vec<&[u8]> = lines.collect();
+    let line = *lines.get(above)?;
+    let below = (lines.len() > above + 1).then(|| lines.pop()).flatten();
     let fields = fields(line);
     match number {
         1 => machine(&fields),
         2 => costs(&fields),
         3 => times(text.times(), fields.get(text.names_before_times() + 1..)?),
-        4 => taken(&lines[..above], fields.first()?, fields.get(1)?),
+        4 => taken(&lines[..above], fields.first()?, fields.get(1)?, numbers),
         5 => Some(missing(&lines[..above], fields.get(2)?)),
-        8 => form(text.forms(above), &lines, above, &fields),
+        8 => misformed::find(text, bytes, &lines, below),
         _ => None,
     }
 }
 
 /// One field of a line: its bytes, and where they stand.
 #[derive(Clone)]
-struct Field<'a> {
-    bytes: &'a [u8],
-    at: Range<usize>,
+pub(crate) struct Field<'a> {
+    pub bytes: &'a [u8],
+    pub at: Range<usize>,
 }
 
 impl Field<'_> {
     /// The field as text; bytes that are none are shown as such.
-    fn text(&self) -> String {
+    pub fn text(&self) -> String {
         shown(self.bytes)
     }
 
@@ -108,9 +77,19 @@ impl Field<'_> {
         str::from_utf8(self.bytes).ok()?.parse().ok()
     }
 
-    fn fault(&self, why: String) -> Fault {
-        let part = self.at.clone();
-        Fault { part, why }
+    pub fn fault(&self, why: String) -> Fault {
+        Fault::new(self.at.clone(), why)
+    }
+}
+
+impl Fault {
+    /// A fault that only a person can mend.
+    pub(crate) fn new(part: Range<usize>, why: String) -> Self {
+        Fault {
+            part,
+            why,
+            flaw: None,
+        }
     }
 }
 
@@ -144,9 +123,17 @@ fn machine(fields: &[Field]) -> Option<Fault> {
 
 /// 2: the first cost that is too great.
 fn costs(fields: &[Field]) -> Option<Fault> {
-    let mut named = COSTS.iter().zip(fields.get(1..)?);
-    let (name, cost) = named.find(|(_, cost)| cost.number() > Some(100_000))?;
-    Some(cost.fault(format!("{name} is {} here", cost.text())))
+    let fields = fields.get(1..)?;
+    let numbers: Vec<u32> = fields.iter().filter_map(Field::number).collect();
+    let (at, why) = broken_cost(&numbers)?;
+    Some(fields.get(at)?.fault(why))
+}
+
+/// Which of nine costs is wrong, and how.
+pub(crate) fn broken_cost(numbers: &[u32]) -> Option<(usize, String)> {
+    let mut named = COSTS.iter().zip(numbers).enumerate();
+    let (at, (name, cost)) = named.find(|(_, (_, &cost))| cost > 100_000)?;
+    Some((at, format!("{name} is {cost} here")))
 }
 
 /// 3: the first time that is too great or too small beside the one after it.
@@ -154,7 +141,7 @@ fn times(names: [&str; 6], fields: &[Field]) -> Option<Fault> {
     let numbers: Vec<u32> = fields.iter().filter_map(Field::number).collect();
     let (at, why) = broken_times(names, &numbers)?;
     let part = fields.get(at.start)?.at.start..fields.get(at.end - 1)?.at.end;
-    Some(Fault { part, why })
+    Some(Fault::new(part, why))
 }
 
 /// Which of six times are wrong, and how.
@@ -180,7 +167,7 @@ pub(crate) fn broken_times(names: [&str; 6], numbers: &[u32]) -> Option<(Range<u
 }
 
 /// 4: where the name was taken.
-fn taken(above: &[&[u8]], word: &Field, name: &Field) -> Option<Fault> {
+fn taken(above: &[&[u8]], word: &Field, name: &Field, numbers: Numbers) -> Option<Fault> {
     let first = above.iter().position(|line| {
         let fields = fields(line);
         fields.len() > 1 && fields[0].bytes == word.bytes && fields[1].bytes == name.bytes
@@ -190,7 +177,7 @@ fn taken(above: &[&[u8]], word: &Field, name: &Field) -> Option<Fault> {
     } else {
         "task"
     };
-    let (name_text, line) = (name.text(), first + 1);
+    let (name_text, line) = (name.text(), numbers(first));
     Some(name.fault(format!("line {line} has a {thing} `{name_text}` already")))
 }
 
@@ -231,97 +218,6 @@ fn distance(one: &str, other: &str) -> usize {
     strsim::levenshtein(&one.to_ascii_lowercase(), &other.to_ascii_lowercase())
 }
 
-/// 8: what is wrong with the line's form.
-fn form(forms: &[Form], lines: &[&[u8]], above: usize, fields: &[Field]) -> Option<Fault> {
-    let line = lines[above];
-    let whole = |why: String| {
-        let part = 0..line.len();
-        Some(Fault { part, why })
-    };
-    let words: Vec<String> = forms.iter().map(|form| format!("`{}`", form.0)).collect();
-    let wanted = words.join(" or ");
-    if line.is_empty() {
-        return whole(match forms {
-            [_] => format!("the {wanted} line is missing here"),
-            _ => "the line is empty".to_owned(),
-        });
-    }
-    if let Some(at) = line.iter().position(|&byte| byte == b'\r') {
-        let part = at..at + 1;
-        let why = "a carriage return; the file has another system's line ends".to_owned();
-        return Some(Fault { part, why });
-    }
-    let word = &fields[0];
-    let known = forms.iter().find(|form| form.0.as_bytes() == word.bytes);
-    let (names, count) = if let Some(&Form(_, names, numbers)) = known {
-        (names, names + numbers)
-    } else {
-        let why = format!("the line should begin with {wanted} and a tab");
-        return Some(word.fault(why));
-    };
-    let fit = |line: &&[u8]| line.starts_with(b"fit\t");
-    if word.bytes == b"part" && lines[..above].iter().any(fit) {
-        return Some(word.fault("`part` lines stand above all `fit` lines".to_owned()));
-    }
-    let has = fields.len() - 1;
-    if has != count {
-        let spaces = if line.contains(&b' ') {
-            "; there are spaces, and only tabs part fields"
-        } else {
-            ""
-        };
-        let word = word.text();
-        return whole(format!(
-            "fields behind `{word}`: {has}, where {count} should stand{spaces}"
-        ));
-    }
-    let misformed = fields[1..].iter().enumerate().find_map(|(at, field)| {
-        let why = if at < names {
-            name_fault(field.bytes)
-        } else {
-            number_fault(field.bytes)
-        };
-        Some((field, why?))
-    });
-    match misformed {
-        Some((field, why)) => Some(field.fault(why.to_owned())),
-        None if above + 1 == lines.len() => Some(Fault {
-            part: line.len()..line.len(),
-            why: "the file ends here without a newline".to_owned(),
-        }),
-        None => None,
-    }
-}
-
-/// What is wrong with a name's form.
-pub(crate) fn name_fault(name: &[u8]) -> Option<&'static str> {
-    let letter = |byte: &u8| byte.is_ascii_alphanumeric() || matches!(byte, b'-' | b'.');
-    if name.is_empty() {
-        Some("a name is missing here")
-    } else if name.len() > 24 {
-        Some("a name has at most 24 letters")
-    } else if !name.iter().all(letter) {
-        Some("a name has ASCII letters, digits, hyphens and full stops only")
-    } else {
-        None
-    }
-}
-
-/// What is wrong with a number's form.
-pub(crate) fn number_fault(number: &[u8]) -> Option<&'static str> {
-    if number.is_empty() {
-        Some("a number is missing here")
-    } else if !number.iter().all(u8::is_ascii_digit) {
-        Some("a number has the digits 0 to 9 only")
-    } else if number.len() > 7 {
-        Some("a number has at most 7 digits")
-    } else if number.len() > 1 && number[0] == b'0' {
-        Some("a number has no leading 0")
-    } else {
-        None
-    }
-}
-
 #[cfg(test)]
 mod tests {
     use super::*;
@@ -332,7 +228,7 @@ mod tests {
     fn fault(number: u8, sheet: &str) -> Option<(String, String)> {
         let bytes = sheet.as_bytes();
         let above = sheet.trim_end_matches('\n').matches('\n').count();
-        let found = find(number, Text::Sheet, bytes, above)?;
+        let found = find(number, Text::Sheet, bytes, above, &|above| above + 1)?;
         let line = bytes.split(|&byte| byte == b'\n').nth(above).unwrap();
         let part = String::from_utf8(line[found.part].to_vec()).unwrap();
         Some((part, found.why))
@@ -393,37 +289,6 @@ mod tests {
         );
     }
 
-    #[test]
-    fn forms() {
-        for (lines, part, why) in [
-            ("prat\tp\n", "prat", "the line should begin with `part` or `fit` and a tab"),
-            ("fit\tpress\n", "fit\tpress", "fields behind `fit`: 1, where 2 should stand"),
-            (
-                "fit\tpress drv\n",
-                "fit\tpress drv",
-                "fields behind `fit`: 1, where 2 should stand; there are spaces, and only tabs part fields",
-            ),
-            ("fit\tpress\tdrv a\n", "drv a", "a name has ASCII letters, digits, hyphens and full stops only"),
-            ("fit\t\tdrv\n", "", "a name is missing here"),
-            ("fit\tabcdefghijklmnopqrstuvwxy\td\n", "abcdefghijklmnopqrstuvwxy", "a name has at most 24 letters"),
-            ("part\tp\t1\t1\t1\t0\t0\t01\n", "01", "a number has no leading 0"),
-            ("part\tp\t1\t1\t1\t0\t0\t\n", "", "a number is missing here"),
-            ("part\tp\t1\t1\t1\t0\t-1\t0\n", "-1", "a number has the digits 0 to 9 only"),
-            ("part\tp\t1\t1\t12345678\t0\t1\t0\n", "12345678", "a number has at most 7 digits"),
-            ("fit\ta\tb\npart\tp\t1\t1\t1\t0\t0\t0\n", "part", "`part` lines stand above all `fit` lines"),
-            ("fit\ta\tb\r\n", "\r", "a carriage return; the file has another system's line ends"),
-            ("fit\ta\tb", "", "the file ends here without a newline"),
-        ] {
-            assert_eq!(below_head(8, lines), words(part, why));
-        }
-        let missing = find(8, Text::Sheet, b"", 0).unwrap();
-        assert_eq!(missing.why, "the `machine` line is missing here");
-        let missing = find(8, Text::Sheet, b"machine\t1\t1\n", 1).unwrap();
-        assert_eq!(missing.why, "the `cost` line is missing here");
-        let empty = find(8, Text::Sheet, format!("{HEAD}\n").as_bytes(), 2).unwrap();
-        assert_eq!(empty.why, "the line is empty");
-    }
-
     /// No number, line or bytes are too odd.
     #[test]
     fn nothing_is_too_odd() {
@@ -438,8 +303,8 @@ mod tests {
         ] {
             for number in 0..=11 {
                 for above in [0, 1, 2, usize::MAX] {
-                    let _ = find(number, Text::Sheet, sheet, above);
-                    let _ = find(number, Text::Table, sheet, above);
+                    let _ = find(number, Text::Sheet, sheet, above, &|above| above + 1);
+                    let _ = find(number, Text::Table, sheet, above, &|above| above + 1);
                 }
             }
         }

@@ -9,7 +9,8 @@
 //! - [`answer`]: what the library's numbers mean, and the sentences for them.
 //! - [`refusals`]: the table of refusals, each with what it means and what to do.
 //! - [`explain`]: a refused sheet's sentences, with the words of the sheet that they are about, which
-//!   [`fault`] finds.
+//!   [`fault`] finds; [`check`]: all that is refused in a sheet.
+//! - [`forms`]: the forms of lines; [`mend`]: what can be mended in a text without touching a word.
 //! - [`text`]: bytes as text for people.
 //! - [`listing`], [`quoted`]: the lines of a listing and of an accepted sheet, for tables and drawings.
 //! - [`origin`]: what a paper came from.
@@ -51,11 +52,15 @@
 #![warn(clippy::all, clippy::pedantic)]
 
 pub mod answer;
+pub mod check;
 pub mod command;
 pub mod explain;
 pub mod fault;
 pub mod ffi;
+pub mod forms;
 pub mod listing;
+pub mod mend;
+mod misformed;
 pub mod origin;
 pub mod quoted;
 pub mod refusals;

@@ -36,3 +36,36 @@ pub fn shown(mut bytes: &[u8]) -> String {
     }
     text
 }
+
+/// A file that is called so in messages, as a word for a shell: `-` is standard input. Where its name
+/// cannot be seen as it is, `FILE` stands for it.
+///
+/// ```
+/// use configurator::text::shell_word;
+///
+/// assert_eq!(shell_word("examples/film-line.sheet"), "examples/film-line.sheet");
+/// assert_eq!(shell_word("Jo's line.sheet"), "'Jo'\\''s line.sheet'");
+/// assert_eq!(shell_word("-x"), "./-x");
+/// assert_eq!(shell_word("standard input"), "-");
+/// assert_eq!(shell_word("line-\\xff.sheet"), "FILE");
+/// ```
+#[must_use]
+pub fn shell_word(file: &str) -> String {
+    let plain = |c: char| c.is_ascii_alphanumeric() || "-_./,:=@%+".contains(c);
+    let unseen = |c: char| matches!(c, '\\' | '⇥' | '`');
+    if file == STANDARD {
+        "-".to_owned()
+    } else if file.contains(unseen) {
+        "FILE".to_owned()
+    } else {
+        let here = if file.starts_with('-') { "./" } else { "" };
+        if file.chars().all(plain) {
+            format!("{here}{file}")
+        } else {
+            format!("'{here}{}'", file.replace('\'', "'\\''"))
+        }
+    }
+}
+
+/// How standard input is called in messages.
+pub const STANDARD: &str = "standard input";

@@ -4,9 +4,7 @@
 
 mod common;
 
-use common::command::{
-    desk, file, folder, on_a_terminal, spardimple, spardimple_fed, text,
-};
+use common::command::{desk, file, folder, on_a_terminal, spardimple, spardimple_fed, text};
 use std::os::unix::fs::symlink;
 use std::process::Command;
 
@@ -175,7 +173,7 @@ fn verdicts_of_tables() {
         ),
         (
             costs.to_owned() + &"whole\t1\t1\t1\t0\t0\t0\n".repeat(80),
-            ": refused (6)",
+            ":81: refused (6)",
             "79 records",
         ),
         (
@@ -249,6 +247,8 @@ fn help() {
     }
     for sub in [
         "plan",
+        "check",
+        "fmt",
         "verdict",
         "show",
         "report",

@@ -14,6 +14,8 @@ const TICKS: &str = "ticks";
 const BELOW: &str = "\
 Examples:
   spardimple plan examples/film-line.sheet
+  spardimple check examples/film-line-mistyped.sheet
+  spardimple fmt line.sheet -o mended.sheet
   spardimple verdict --table examples/film-core.table
   spardimple show examples/film-line.sheet
   spardimple report examples/film-line.sheet -o film-line.html
@@ -24,7 +26,7 @@ Examples:
 
 A sheet has lines of fields parted by one tab, in this order:
   machine  cores, grain
-  cost     RelO, SchedO, TsetO, IpB, BetO, MigrO, IpiO, IpiJ, precision
+  cost     RelO, SchedO, TsetO, IpB, BetO, MigrO, IpiO, IpiJ, π
   part     name, C, D, T, J, P, M      up to 64 of them
   fit      task name, part name        up to 64 of them
 
@@ -38,7 +40,8 @@ Exit status:
   1  refused: the message has the number, the line and what to do
   2  wrong use
   3  a file could not be read or written, or standard output could not; the message has the cause.
-     There is no message if the reader of a pipe has gone, as in `spardimple man | head -1`";
+     There is no message if the reader of a pipe has gone, as in `spardimple man | head -1`
+  4  overloaded, and 5  undecided: only by `verdict --exit-status`";
 
 /// The description of the arguments.
 #[must_use]
@@ -49,7 +52,7 @@ pub fn command() -> Command {
         .after_help(BELOW)
         .subcommand_required(true)
         .arg_required_else_help(true)
-        .subcommands([plan(), verdict(), show(), report(), desk(), batch(), completions(), man()])
+        .subcommands([plan(), check(), fmt(), verdict(), show(), report(), desk(), batch(), completions(), man()])
 }
 
 fn plan() -> Command {
@@ -71,6 +74,34 @@ fn plan() -> Command {
         )
 }
 
+fn check() -> Command {
+    Command::new("check")
+        .about("Tells all that is refused in a sheet, and not only the first")
+        .after_help(
+            "Example: spardimple check examples/film-line-mistyped.sheet\n\n\
+             The first message is the library's answer to the sheet, the one that plan has. Each other\n\
+             is its answer to the sheet with all above mended: a bad part or fit line keeps its name,\n\
+             another bad line is left out. That no core has room (7) is told only if nothing else is\n\
+             refused. The sheet itself is not touched.",
+        )
+        .arg(sheet())
+}
+
+fn fmt() -> Command {
+    Command::new("fmt")
+        .about("Mends the form of a sheet or a table, and touches no name and no number")
+        .after_help(
+            "Example: spardimple fmt line.sheet -o mended.sheet\n\n\
+             It takes off a byte-order mark, carriage returns and blanks at the ends of lines, leaves\n\
+             out empty lines, makes UTF-16 bytes of one letter each, puts one tab between fields, writes\n\
+             the first word of a line in lower case and adds the last newline. A line that has another\n\
+             number of fields than its word asks for keeps what stands between its ends; check tells\n\
+             what is wrong with it. What was mended is told on standard error.",
+        )
+        .arg(file("SHEET", "A timing sheet or a table; - reads standard input"))
+        .arg(out("NEW", "Writes the mended text to NEW, whole or not at all"))
+}
+
 fn verdict() -> Command {
     let bytes = |name, help| file(name, help).required_unless_present("table");
     Command::new("verdict")
@@ -81,9 +112,16 @@ fn verdict() -> Command {
              A table has a line `cost` with the nine constants, then a line for each piece: whole,\n\
              first or last, then x, D, T, J, P, M; fields parted by one tab.\n\
              RECORDS has 28 bytes for each piece: seven numbers of four bytes, lowest first (kind 0\n\
-             whole, 1 first, 2 last; then x, D, T, J, P, M). COSTS has the nine constants, 36 bytes.",
+             whole, 1 first, 2 last; then x, D, T, J, P, M). COSTS has the nine constants, 36 bytes.\n\n\
+             passes: every job is done in time. overloaded at N: within N ticks more work is due than\n\
+             fits. undecided: in every length up to 100,000,000 ticks more work comes than it has ticks;\n\
+             that is no maybe, such a core does not pass. The exit status is 0 for all three; with\n\
+             --exit-status it is 0 passes, 4 overloaded, 5 undecided.",
         )
-        .override_usage("spardimple verdict RECORDS COSTS\n       spardimple verdict --table FILE")
+        .override_usage(
+            "spardimple verdict [--exit-status] RECORDS COSTS\n       \
+             spardimple verdict [--exit-status] --table FILE",
+        )
         .arg(bytes("RECORDS", "Piece records as bytes"))
         .arg(bytes("COSTS", "The nine cost constants as bytes"))
         .arg(
@@ -93,6 +131,12 @@ fn verdict() -> Command {
                 .value_parser(value_parser!(PathBuf))
                 .conflicts_with_all(["RECORDS", "COSTS"])
                 .help("Reads costs and pieces as a table of text"),
+        )
+        .arg(
+            Arg::new("exit-status")
+                .long("exit-status")
+                .action(ArgAction::SetTrue)
+                .help("Tells the verdict by the exit status: 0 passes, 4 overloaded, 5 undecided"),
         )
 }
 

@@ -5,28 +5,30 @@ use super::Failure;
 use crate::ffi::close;
 use crate::text;
 use std::fs::{self, File, Metadata};
-use std::io::{self, Read, Write};
+use std::io::{self, Read, Seek, Write};
 use std::os::unix::ffi::OsStrExt;
 use std::os::unix::fs::MetadataExt;
 use std::os::unix::io::AsFd;
 use std::path::Path;
 use tempfile::Builder;
 
-/// The longest sheet that is accepted: document 01, "Sizes".
-pub const SHEET_MOST: usize = 16_384;
+pub use crate::forms::SHEET_MOST;
 
-/// The bytes of a piece record, and of the costs.
-const RECORD: usize = 28;
-const COSTS: usize = 36;
+/// The bytes of a piece record.
+pub const RECORD: usize = 28;
+/// The bytes of the costs.
+pub const COSTS: usize = 36;
 
 /// The most records that are judged.
-const RECORDS_MOST: usize = 79;
+pub const RECORDS_MOST: usize = 79;
 
 /// How a file is called in messages; what cannot be seen of its name is written out.
 #[must_use]
 pub fn shown(path: &Path) -> String {
     if is_standard(path) {
-        "standard input".to_owned()
+        text::STANDARD.to_owned()
+    } else if path == Path::new(text::STANDARD) {
+        format!("./{}", text::STANDARD)
     } else {
         text::shown(path.as_os_str().as_bytes())
     }
@@ -51,6 +53,19 @@ pub fn sheet_for<'a>(
     outs: impl IntoIterator<Item = &'a Path>,
     path: &Path,
 ) -> Result<Vec<u8>, Failure> {
+    beginning_for(outs, path, SHEET_MOST + 1)
+}
+
+/// At most so many bytes of a file, where the answer goes into files.
+///
+/// # Errors
+///
+/// The file cannot be read, or is one that the answer would overwrite.
+pub fn beginning_for<'a>(
+    outs: impl IntoIterator<Item = &'a Path>,
+    path: &Path,
+    most: usize,
+) -> Result<Vec<u8>, Failure> {
     let file = open(path)?;
     for out in outs.into_iter().filter(|out| !is_standard(out)) {
         let there = identity(fs::metadata(out));
@@ -58,7 +73,7 @@ pub fn sheet_for<'a>(
             return Err(overwrites(out, path));
         }
     }
-    beginning(file, path, SHEET_MOST + 1)
+    beginning(file, path, most)
 }
 
 /// What an ordinary file is known by, whichever of its names led to it: its device and its number
@@ -79,47 +94,64 @@ pub fn overwrites(out: &Path, input: &Path) -> Failure {
     ))
 }
 
+/// Bytes for a verdict, and how many the file has.
+#[derive(Clone, Debug, PartialEq, Eq)]
+pub struct Lent {
+    /// What the library is lent.
+    pub bytes: Vec<u8>,
+    /// The length of the file. Of what is no ordinary file it is not known if it goes on behind what
+    /// is ever judged.
+    pub length: Option<u64>,
+}
+
 /// The bytes of nine costs, or one byte more, which is refused however many follow.
 ///
 /// # Errors
 ///
 /// The file cannot be read.
-pub fn costs(path: &Path) -> Result<Vec<u8>, Failure> {
-    beginning(open(path)?, path, COSTS + 1)
+pub fn costs(path: &Path) -> Result<Lent, Failure> {
+    lent(path, COSTS)
 }
 
-/// The bytes of piece records. Of a file of more than 79 records whole records are left out behind
-/// the 80th: what is lent then has too many records still, or as before a length that is no
-/// multiple of 28, and the library's answer depends on nothing else.
+/// The bytes of piece records. Of a file of more than 80 records whole records are left out behind the
+/// 80th: what is lent then has too many records still, or as before a length that is no multiple of 28,
+/// and the library's answer depends on nothing else. Where the length is not known, 80 records are lent.
 ///
 /// # Errors
 ///
 /// The file cannot be read.
-pub fn records(path: &Path) -> Result<Vec<u8>, Failure> {
+pub fn records(path: &Path) -> Result<Lent, Failure> {
+    let most = (RECORDS_MOST + 1) * RECORD;
+    let mut lent = lent(path, most)?;
+    if lent.bytes.len() > most {
+        let over = lent.length.map_or(0, |length| length - most as u64);
+        let over = usize::try_from(over % RECORD as u64).unwrap_or(0);
+        lent.bytes.resize(most + over, 0);
+    }
+    Ok(lent)
+}
+
+/// So many bytes of a file and where there are more, one of these. No more is read: an ordinary file
+/// tells its length.
+fn lent(path: &Path, most: usize) -> Result<Lent, Failure> {
     let failed = |error| Failure::of(path, &error);
     let mut file = open(path)?;
-    let most = (RECORDS_MOST + 1) * RECORD;
-    let mut bytes = Vec::new();
-    Read::by_ref(&mut file)
-        .take(most as u64)
-        .read_to_end(&mut bytes)
-        .map_err(failed)?;
-    let mut more = 0;
-    let mut buffer = [0; 8_192];
-    loop {
-        match file.read(&mut buffer) {
-            Ok(0) => break,
-            Ok(read) => more = (more + read) % RECORD,
-            Err(error) if error.kind() == io::ErrorKind::Interrupted => {}
-            Err(error) => return Err(failed(error)),
+    let bytes = beginning(&mut file, path, most + 1)?;
+    let mut length = Some(bytes.len() as u64);
+    if bytes.len() > most {
+        let there = file.metadata().map_err(failed)?;
+        length = None;
+        if there.is_file() {
+            let behind = file.stream_position().map_err(failed)?;
+            let more = there.len().saturating_sub(behind);
+            length = Some(bytes.len() as u64 + more);
         }
     }
-    bytes.resize(bytes.len() + more, 0);
-    Ok(bytes)
+    Ok(Lent { bytes, length })
 }
 
 /// At most so many bytes of a file.
-fn beginning(file: File, path: &Path, most: usize) -> Result<Vec<u8>, Failure> {
+fn beginning(file: impl Read, path: &Path, most: usize) -> Result<Vec<u8>, Failure> {
     let mut bytes = Vec::new();
     file.take(most as u64)
         .read_to_end(&mut bytes)

@@ -115,9 +115,9 @@ fn numbers(names: &[&str], texts: &[&str]) -> Fields {
         .collect()
 }
 
-/// A refusal's fields: its number, what it carries, the line, and the sentences.
+/// The fields of the refusal of a file: its number, what it carries, the line, and the sentences.
 #[must_use]
-pub fn refused(explained: &Explained) -> Fields {
+pub fn refused(name: &str, explained: &Explained) -> Fields {
     fields(json!({
         "answer": "refused",
         "refused": {
@@ -126,7 +126,7 @@ pub fn refused(explained: &Explained) -> Fields {
             "line": explained.line.as_ref().map(|line| line.number),
             "meaning": explained.meaning,
             "why": explained.why,
-            "remedy": explained.remedy,
+            "remedy": explained.remedy(name),
         }
     }))
 }

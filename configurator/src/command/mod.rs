@@ -4,14 +4,17 @@
 //! Every figure that is printed stands in an answer of the proved library or in the sheet itself.
 
 pub mod batch;
+pub mod check;
 pub mod cli;
 pub mod columns;
 pub mod desk;
 pub mod drawing;
 pub mod files;
+pub mod fmt;
 pub mod html;
 pub mod json;
 pub mod layout;
+pub mod lent;
 pub mod plan;
 pub mod report;
 pub mod show;
@@ -33,7 +36,8 @@ use std::path::Path;
 /// The manual page, as the build has written it.
 pub const MANUAL: &str = include_str!(concat!(env!("OUT_DIR"), "/spardimple.1"));
 
-/// How a run ended, with its exit status. The greater is the worse.
+/// How a run ended, with its exit status. Of those that a sheet can end with the greater is the worse; the
+/// last two are told by `verdict` alone, and only where it is asked to.
 #[derive(Clone, Copy, Debug, PartialEq, Eq, PartialOrd, Ord)]
 pub enum Status {
     /// Planned or judged.
@@ -44,6 +48,10 @@ pub enum Status {
     WrongUse = 2,
     /// A file could not be read or written.
     Failed = 3,
+    /// The core is overloaded.
+    Overloaded = 4,
+    /// The core is undecided.
+    Undecided = 5,
 }
 
 /// Why a run ended without an answer.
@@ -180,6 +188,8 @@ fn answer_words(error: &clap::Error, streams: &mut Streams) -> Result<Status, Fa
 fn attempt(given: &ArgMatches, streams: &mut Streams) -> Result<Status, Failure> {
     match given.subcommand() {
         Some(("plan", given)) => plan::run(given, streams),
+        Some(("check", given)) => check::run(given, streams),
+        Some(("fmt", given)) => fmt::run(given, streams),
         Some(("verdict", given)) => verdict::run(given, streams),
         Some(("show", given)) => show::run(given, streams),
         Some(("report", given)) => report::run(given, streams),

@@ -48,7 +48,7 @@ fn plan(given: &ArgMatches, sheet: &Path, streams: &mut Streams) -> Result<Statu
         Planned::Refused(why) => {
             streams.say(&why.message(&name));
             if given.get_flag("json") {
-                streams.print(&in_json(json::refused(&why)))?;
+                streams.print(&in_json(json::refused(&name, &why)))?;
             }
             Ok(Status::Refused)
         }

@@ -86,7 +86,10 @@ pub fn refused(name: &str, sheet: &[u8], why: &Explained) -> String {
     if let Some(why) = &why.why {
         body.push_str(&sentence("", why));
     }
-    body.push_str(&sentence("<strong>What to do.</strong> ", why.remedy));
+    body.push_str(&sentence(
+        "<strong>What to do.</strong> ",
+        &why.remedy(name),
+    ));
     body.push_str("</section>\n");
     if why.refusal.number() != 9 {
         sheet_lines(&mut body, sheet, why);

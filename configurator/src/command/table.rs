@@ -1,7 +1,7 @@
 //! A core as a table of text: a line `cost` with the nine constants, then a line for each piece,
 //! its kind and x, D, T, J, P, M. It becomes the bytes that the library judges.
 
-use super::files::SHEET_MOST;
+use super::files::{RECORDS_MOST, SHEET_MOST};
 use crate::quoted;
 use crate::{Answer, Refusal, UnknownNumber};
 use std::str;
@@ -46,7 +46,8 @@ pub fn read(table: &[u8]) -> Result<(Vec<u8>, Vec<u8>), Refusal> {
     }
 }
 
-/// The library's verdict on a table. A refusal carries the table's line: 2 the first, 3 the record's.
+/// The library's verdict on a table. A refusal carries the table's line: 2 the first, 3 the record's, 6
+/// that of the first record that is one too many.
 ///
 /// # Errors
 ///
@@ -64,6 +65,7 @@ pub fn verdict(table: &[u8]) -> Result<Answer, UnknownNumber> {
             let line = match (refusal.number(), refusal.carries()) {
                 (2, _) => 1,
                 (3, record) => record + 1,
+                (6, _) => u32::try_from(RECORDS_MOST + 2).unwrap_or(0),
                 _ => 0,
             };
             Answer::Refused(Refusal::new(refusal.number(), line))

@@ -2,7 +2,8 @@
 //! the edit; what stands here finds what can be pointed at.
 
 use super::script::{Line, LINE_MOST};
-use crate::fault::{broken_times, name_fault, number_fault};
+use crate::fault::broken_times;
+use crate::forms::{name_fault, number_fault};
 use crate::quoted::TIMES;
 use crate::text::shown;
 use std::ops::Range;
