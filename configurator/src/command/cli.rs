@@ -60,18 +60,14 @@ fn plan() -> Command {
         .about("Prints the listing of a sheet: which core runs which task, whole or in two pieces")
         .after_help(
             "Example: spardimple plan examples/film-line.sheet -o film-line.listing --origin\n\n\
-             A refused sheet has no listing, and FILE is left as it was. With --json the refusal is\n\
-             printed as JSON too.",
+             A refused sheet has no listing, and FILE is left as it was. With --json a refusal, or a\n\
+             file that is missing, is told as JSON on standard output too. FILE.origin names the\n\
+             program's commit and the SHA-256 of the library, of the sheet and of the listing.",
         )
         .arg(sheet())
         .arg(out("FILE", "Writes the listing to FILE, whole or not at all"))
         .arg(origin())
-        .arg(
-            Arg::new("json")
-                .long("json")
-                .action(ArgAction::SetTrue)
-                .help("Writes the listing as JSON"),
-        )
+        .arg(json())
 }
 
 fn check() -> Command {
@@ -138,6 +134,7 @@ fn verdict() -> Command {
                 .action(ArgAction::SetTrue)
                 .help("Tells the verdict by the exit status: 0 passes, 4 overloaded, 5 undecided"),
         )
+        .arg(json())
 }
 
 fn show() -> Command {
@@ -150,6 +147,7 @@ fn show() -> Command {
         )
         .arg(sheet())
         .arg(unit_of_ticks())
+        .arg(json())
 }
 
 fn report() -> Command {
@@ -216,6 +214,8 @@ fn batch() -> Command {
                 .action(ArgAction::SetTrue)
                 .help("Prints what is not planned and the sum, and no messages"),
         )
+        .arg(origin())
+        .arg(json())
 }
 
 fn completions() -> Command {
@@ -273,13 +273,21 @@ fn out(value: &'static str, help: &'static str) -> Arg {
         .help(help)
 }
 
+/// Whether the answer is JSON.
+fn json() -> Arg {
+    Arg::new("json")
+        .long("json")
+        .action(ArgAction::SetTrue)
+        .help("Answers as JSON, in the form of docs/json.schema.json")
+}
+
 /// Whether a file beside the listing says what it came from.
 fn origin() -> Arg {
     Arg::new("origin")
         .long("origin")
         .action(ArgAction::SetTrue)
         .requires("out")
-        .help("Writes a file beside it, its name with .origin behind, that says what it came from: the program's commit, and the SHA-256 of the library, the sheet and the listing")
+        .help("Says beside each listing, in a file of its name with .origin behind, what it came from")
 }
 
 /// A file or folder that stands by its place.

@@ -70,6 +70,7 @@ fn file(asked: &Asked) -> Value {
 }
 
 /// A file's name for people, and its name to open it by.
+#[must_use]
 pub fn named(path: &Path) -> Fields {
     let opened = (!files::is_standard(path)).then(|| encoded(path));
     fields(json!({ "name": files::shown(path), "path": opened }))

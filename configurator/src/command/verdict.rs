@@ -24,7 +24,7 @@ pub fn run(given: &ArgMatches, streams: &mut Streams) -> Result<Status, Failure>
         (done, vec![("records", records), ("costs", costs)])
     };
     let told = given.get_flag("exit-status");
-    let done = done.and_then(|judged| tell(judged, json, told, streams));
+    let done = done.and_then(|judged| tell(&judged, json, told, streams));
     if json {
         let unread = |(what, path)| Asked::new(what, path, None);
         let asked: Vec<Asked> = asked
@@ -57,7 +57,7 @@ impl Judged {
 }
 
 /// Prints an answer. With `told` the exit status tells the verdict.
-fn tell(judged: Judged, json: bool, told: bool, streams: &mut Streams) -> Result<Status, Failure> {
+fn tell(judged: &Judged, json: bool, told: bool, streams: &mut Streams) -> Result<Status, Failure> {
     for said in &judged.said {
         streams.say(said);
     }
