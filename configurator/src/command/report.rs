@@ -263,16 +263,16 @@ fn page(asked: &Asked, title: &str, body: &str, source: &str) -> String {
         String::new()
     } else {
         let (name, digest) = (escaped(asked.name), origin::digest(asked.sheet));
-        format!("<br>\n{name}: SHA-256 <span class=\"digest\">{digest}</span>")
+        format!("<p>{name}: SHA-256 <span class=\"digest\">{digest}</span></p>\n")
     };
     format!(
         "<!DOCTYPE html>\n<html lang=\"en\">\n<head>\n<meta charset=\"utf-8\">\n\
          <meta http-equiv=\"Content-Security-Policy\" content=\"default-src 'none'; style-src 'unsafe-inline'\">\n\
          <meta name=\"viewport\" content=\"width=device-width, initial-scale=1\">\n\
          <title>{}</title>\n<style>\n{}</style>\n</head>\n<body>\n{body}\
-         <footer>{source} from a proved library. What this page came from:{sheet}<br>\n\
-         {}: commit <span class=\"digest\">{}</span><br>\n\
-         libspardimple.a: SHA-256 <span class=\"digest\">{}</span></footer>\n\
+         <footer>\n<p>{source} from a proved library. What this page came from:</p>\n{sheet}\
+         <p>{}: commit <span class=\"digest\">{}</span></p>\n\
+         <p>libspardimple.a: SHA-256 <span class=\"digest\">{}</span></p>\n</footer>\n\
          </body>\n</html>\n",
         escaped(title),
         include_str!("report.css"),
