@@ -287,7 +287,7 @@ fn origin() -> Arg {
         .long("origin")
         .action(ArgAction::SetTrue)
         .requires("out")
-        .help("Says beside each listing, in a file of its name with .origin behind, what it came from")
+        .help("Says beside each listing, in FILE.origin, what it came from")
 }
 
 /// A file or folder that stands by its place.
