@@ -101,7 +101,7 @@ fn fmt() -> Command {
 fn verdict() -> Command {
     let bytes = |name, help| file(name, help).required_unless_present("table");
     Command::new("verdict")
-        .about("Says whether one core keeps every deadline")
+        .about("Judges one core by the demand rule: whether more work is ever due than fits")
         .after_help(
             "Examples: spardimple verdict --table examples/film-core.table\n          \
              spardimple verdict examples/film-core.rec examples/film-core.cost\n\n\
@@ -109,14 +109,14 @@ fn verdict() -> Command {
              first or last, then x, D, T, J, P, M; fields parted by one tab.\n\
              RECORDS has 28 bytes for each piece: seven numbers of four bytes, lowest first (kind 0\n\
              whole, 1 first, 2 last; then x, D, T, J, P, M). COSTS has the nine constants, 36 bytes.\n\n\
-             passes: every job is done in time. overloaded at N: within N ticks more work is due than\n\
-             fits. undecided: in every length up to 100,000,000 ticks more work comes than it has ticks;\n\
-             that is no maybe, such a core does not pass. The exit status is 0 for all three; with\n\
-             --exit-status it is 0 passes, 4 overloaded, 5 undecided.",
+             passes: in no length of time is more work due than fits. overloaded at N: within N ticks\n\
+             more work is due than fits. undecided: in every length up to 100,000,000 ticks more work\n\
+             comes than it has ticks; that is no maybe, such a core does not pass. The exit status is 0\n\
+             for all three; with --exit-status it is 0 passes, 4 overloaded, 5 undecided.",
         )
         .override_usage(
-            "spardimple verdict [--exit-status] RECORDS COSTS\n       \
-             spardimple verdict [--exit-status] --table FILE",
+            "spardimple verdict [OPTIONS] RECORDS COSTS\n       \
+             spardimple verdict [OPTIONS] --table FILE",
         )
         .arg(bytes("RECORDS", "Piece records as bytes"))
         .arg(bytes("COSTS", "The nine cost constants as bytes"))

@@ -1,4 +1,4 @@
-//! `verdict`: whether one core keeps every deadline, asked with bytes or with a table of text.
+//! `verdict`: one core judged by the demand rule, asked with bytes or with a table of text.
 
 use super::files::Lent;
 use super::json::{self, Asked, Fields};
