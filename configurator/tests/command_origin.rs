@@ -111,10 +111,7 @@ fn batches_and_reports() {
     let sheet = root("examples/film-line.sheet");
     for words in [commit, &digest(&archive), &digest(&sheet)] {
         let foot = page.split("<footer>").nth(1).unwrap();
-        assert!(
-            foot.contains(&format!("<span class=\"digest\">{words}</span>")),
-            "{foot}"
-        );
+        assert!(foot.contains(&format!("<code>{words}</code>")), "{foot}");
     }
 }
 

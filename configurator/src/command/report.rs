@@ -263,7 +263,7 @@ fn page(asked: &Asked, title: &str, body: &str, source: &str) -> String {
         String::new()
     } else {
         let (name, digest) = (escaped(asked.name), origin::digest(asked.sheet));
-        format!("<p>{name}: SHA-256 <span class=\"digest\">{digest}</span></p>\n")
+        format!("<p>{name}: SHA-256 <code>{digest}</code></p>\n")
     };
     format!(
         "<!DOCTYPE html>\n<html lang=\"en\">\n<head>\n<meta charset=\"utf-8\">\n\
@@ -271,8 +271,8 @@ fn page(asked: &Asked, title: &str, body: &str, source: &str) -> String {
          <meta name=\"viewport\" content=\"width=device-width, initial-scale=1\">\n\
          <title>{}</title>\n<style>\n{}</style>\n</head>\n<body>\n{body}\
          <footer>\n<p>{source} from a proved library. What this page came from:</p>\n{sheet}\
-         <p>{}: commit <span class=\"digest\">{}</span></p>\n\
-         <p>libspardimple.a: SHA-256 <span class=\"digest\">{}</span></p>\n</footer>\n\
+         <p>{}: commit <code>{}</code></p>\n\
+         <p>libspardimple.a: SHA-256 <code>{}</code></p>\n</footer>\n\
          </body>\n</html>\n",
         escaped(title),
         include_str!("report.css"),
