@@ -9,6 +9,7 @@ use common::command::{desk, emulator, file, folder, root, spardimple, text, type
 use configurator::command::fields::{LINES, SHEET};
 use configurator::command::new::EXAMPLE;
 use configurator::quoted::Sheet;
+use configurator::Refusal;
 use std::os::unix::fs::symlink;
 use std::process::Command;
 
@@ -128,7 +129,7 @@ fn room_is_as_said() {
     for (grain, number) in [("10", None), ("150", None), ("100", Some(7))] {
         let other = bytes.replacen("machine\t3\t10\n", &format!("machine\t3\t{grain}\n"), 1);
         let refusal = configurator::plan(other.as_bytes()).unwrap().err();
-        assert_eq!(refusal.map(|refusal| refusal.number()), number, "{grain}");
+        assert_eq!(refusal.map(Refusal::number), number, "{grain}");
     }
 }
 
