@@ -3,7 +3,7 @@
  * An answer is one number, 2^32 * which + carries; no two answers share a number. `spardimple_which` and `spardimple_carries` take it apart:
  *
  *   which     verdict                        plan_listing                            carries
- *   0         every deadline is met          the listing is written                  0; the listing's length in bytes
+ *   0         passes                         the listing is written                  0; the listing's length in bytes
  *   1         overloaded                     -                                       a length of time in which more is asked for than it has
  *   2         undecided                      -                                       0
  *   100 + N   refusal N                      refusal N                               see below
@@ -46,9 +46,9 @@ static inline uint32_t spardimple_which(uint64_t answer) { return (uint32_t)(ans
 
 static inline uint32_t spardimple_carries(uint64_t answer) { return (uint32_t)answer; }
 
-/* Whether one core meets its deadlines. `records` has 28 bytes a piece, at most 79 of them: kind (0 whole, 1 first, 2 last), budget, window, period,
- * jitter, preemption and migration charge; `costs` has 36 bytes: RelO, SchedO, TsetO, IpB, BetO, MigrO, IpiO, IpiJ, π. A number has four bytes,
- * lowest first. */
+/* Judges one core by the demand rule: it passes if in no length of time more work is due than fits. `records` has 28 bytes a piece, at most 79 of
+ * them: kind (0 whole, 1 first, 2 last), budget, window, period, jitter, preemption and migration charge; `costs` has 36 bytes: RelO, SchedO, TsetO,
+ * IpB, BetO, MigrO, IpiO, IpiJ, π. A number has four bytes, lowest first. */
 uint64_t verdict(const uint8_t *records, size_t records_len, const uint8_t *costs, size_t costs_len);
 
 /* Plans a timing sheet and writes its listing to the front of `listing`; the bytes beyond it stay. A refusal writes no byte. */

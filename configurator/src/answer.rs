@@ -62,7 +62,7 @@ impl fmt::Display for Answer {
     /// A sentence for people; a refusal's place is a record's.
     fn fmt(&self, f: &mut fmt::Formatter<'_>) -> fmt::Result {
         match self {
-            Answer::Passes => write!(f, "passes: every job on this core is done in time"),
+            Answer::Passes => write!(f, "passes: in no length of time is more work due than fits"),
             Answer::Overloaded(length) => write!(
                 f,
                 "overloaded at {length}: within {length} ticks more work is due than fits"

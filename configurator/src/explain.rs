@@ -94,7 +94,7 @@ pub fn refused_in(text: Text, refusal: Refusal, sheet: &[u8], numbers: Numbers) 
                 line = Some(Line::cut(numbers(at), bytes, 4, 4 + name.len()));
             }
         }
-        (9, _) if mend::is_wide(sheet) => {
+        (9, _) if is_wide(sheet) => {
             why = Some("the file is UTF-16, two bytes a letter".to_owned());
             flaw = Some(Flaw::Wide);
         }
@@ -178,6 +178,12 @@ fn begun(text: String) -> String {
         Some((end, _)) => format!("{}…", &text[..end]),
         None => text,
     }
+}
+
+/// Whether a sheet that is too long is UTF-16 that can be mended. Only its beginning is there.
+fn is_wide(sheet: &[u8]) -> bool {
+    let pairs = &sheet[..sheet.len() / 2 * 2];
+    mend::decoded(pairs).1.contains(&Flaw::Wide)
 }
 
 /// A sheet's lines; behind the last newline there is one more, empty in a good sheet.

@@ -3,6 +3,7 @@
 
 use sha2::{Digest, Sha256};
 use std::fmt::Write;
+use std::path::{Path, PathBuf};
 
 /// The program's name and version.
 pub const PROGRAM: &str = concat!("spardimple ", env!("CARGO_PKG_VERSION"));
@@ -39,7 +40,22 @@ pub fn digest(bytes: &[u8]) -> String {
     hex
 }
 
-/// The file that goes beside a listing: lines of fields parted by one tab. The sheet's name is as it
+/// Where it is said what a listing came from: beside it.
+///
+/// ```
+/// use configurator::origin::place;
+/// use std::path::Path;
+///
+/// assert_eq!(place(Path::new("a/b.listing")), Path::new("a/b.listing.origin"));
+/// ```
+#[must_use]
+pub fn place(listing: &Path) -> PathBuf {
+    let mut name = listing.as_os_str().to_owned();
+    name.push(".origin");
+    PathBuf::from(name)
+}
+
+/// What is said there: lines of fields parted by one tab. The sheet's name is as it
 /// was given.
 #[must_use]
 pub fn beside(name: &str, sheet: &[u8], listing: &[u8]) -> String {

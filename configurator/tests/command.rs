@@ -67,7 +67,7 @@ fn readme_has_what_is_printed() {
 
 /// The tour of README, as a new user types it: every command runs, and none ends in wrong use or in a
 /// file that is missing. `bash .ci/run` is left out, and the desk where it has not been built; what the
-/// launcher alone takes, `--setup`, is tried by `.ci/launcher`.
+/// launcher alone takes, `--setup` and `package`, is tried by `.ci/launcher` and `.ci/installed`.
 #[test]
 fn the_tour_can_be_gone() {
     let folder = folder("tour");
@@ -85,7 +85,8 @@ fn the_tour_can_be_gone() {
             .iter()
             .any(|word| line.starts_with(word))
     };
-    let lines: Vec<&str> = tour.lines().filter(typed).collect();
+    let lines = tour.lines().filter(typed);
+    let lines: Vec<&str> = lines.filter(|line| !line.contains(" package ")).collect();
     assert!(lines.len() >= 10, "{lines:?}");
     for line in lines {
         if line.contains(" desk ") && !desk().is_file() {

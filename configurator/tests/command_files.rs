@@ -154,6 +154,8 @@ fn lost_output() {
             "examples/film-core.cost",
         ],
         &["verdict", "--table", "examples/film-core.table"],
+        &["check", sheet],
+        &["fmt", sheet],
         &["show", sheet],
         &["report", sheet],
         &["desk", sheet],

@@ -34,15 +34,21 @@ fn wide(text: &str, low_first: bool) -> Vec<u8> {
     units.flatten().collect()
 }
 
-/// Each cause by itself: `plan` names it with its one remedy, `fmt` mends it and tells it, and the
-/// mended sheet is the good one.
-#[test]
-fn each_cause_is_told_and_mended() {
-    let folder = folder("causes");
+/// A sheet with one cause, the line, the cause as it is told, what `fmt` does about it, and what it
+/// tells.
+type Cause = (
+    Vec<u8>,
+    &'static str,
+    &'static str,
+    &'static str,
+    &'static str,
+);
+
+fn causes() -> Vec<Cause> {
     let marked = |mark: &[u8], bytes: Vec<u8>| [mark, &bytes].concat();
     let bytes = |text: String| text.into_bytes();
     let every = "fields not parted by one tab: 6 lines, first line 1";
-    for (sheet, place, why, mending, told) in [
+    vec![
         (
             marked(b"\xef\xbb\xbf", bytes(SHEET.to_owned())),
             "1",
@@ -120,7 +126,15 @@ fn each_cause_is_told_and_mended() {
             "adds it",
             "no newline at the end: line 6",
         ),
-    ] {
+    ]
+}
+
+/// Each cause by itself: `plan` names it with its one remedy, `fmt` mends it and tells it, and the
+/// mended sheet is the good one.
+#[test]
+fn each_cause_is_told_and_mended() {
+    let folder = folder("causes");
+    for (sheet, place, why, mending, told) in causes() {
         fs::write(folder.join("s.sheet"), &sheet).unwrap();
         let (status, out, said) = within(&folder, &["plan", "s.sheet"]);
         assert_eq!((status, out.as_str()), (Some(1), ""), "{why}");
@@ -325,12 +339,9 @@ fn ruined(sheet: &str, random: &mut Random) -> Vec<u8> {
             } else if at > 0 {
                 text.push('\t');
             }
-            let upper = |c: char, random: &mut Random| match random.once_in(2) {
-                true => c.to_ascii_uppercase(),
-                false => c,
-            };
             if at == 0 && random.once_in(often) {
-                text.extend(field.chars().map(|c| upper(c, random)));
+                let cased = |c: char| random.pick(&[c, c.to_ascii_uppercase()]);
+                text.extend(field.chars().map(cased));
             } else {
                 text.push_str(field);
             }

@@ -9,6 +9,7 @@ use serde_json::Value;
 use std::ffi::OsStr;
 use std::fs;
 use std::os::unix::ffi::{OsStrExt, OsStringExt};
+use std::os::unix::fs::symlink;
 use std::process::{Command, Output};
 use std::str;
 use tempfile::NamedTempFile;
@@ -139,11 +140,155 @@ fn refusals() {
 /// A file that is not there is told as JSON too, and in words on standard error.
 #[test]
 fn failures() {
-    let missing = spardimple(&["plan", "--json", "examples/none.sheet"]);
-    assert_eq!(missing.status.code(), Some(3));
-    let parsed = json(&missing);
+    for words in [
+        &["plan", "--json", "examples/none.sheet"][..],
+        &["show", "--json", "examples/none.sheet"],
+        &["verdict", "--json", "--table", "examples/none.table"],
+        &[
+            "verdict",
+            "--json",
+            "examples/none.rec",
+            "examples/film-core.cost",
+        ],
+        &["batch", "--json", "examples/none"],
+    ] {
+        let missing = spardimple(words);
+        assert_eq!(missing.status.code(), Some(3), "{words:?}");
+        let parsed = json(&missing);
+        assert_eq!(parsed["command"], words[0]);
+        assert_eq!(parsed["answer"], "failed");
+        assert_eq!(parsed["failed"]["status"], 3);
+        let why = parsed["failed"]["why"].as_str().unwrap();
+        assert_eq!(text(&missing.stderr), format!("{why}\n"));
+    }
+}
+
+/// What `show` tells has the plan's pieces, and the sheet's own lines.
+#[test]
+fn shown() {
+    let sheet = "examples/film-line.sheet";
+    let plan = json(&spardimple(&["plan", "--json", sheet]));
+    let parsed = json(&spardimple(&["show", "--json", "--unit", "us", sheet]));
+    assert_eq!(parsed["pieces"], plan["pieces"]);
+    assert_eq!(parsed["unit"], "us");
+    let mut lines = vec![
+        fields("machine", &parsed["machine"]),
+        fields("cost", &parsed["costs"]),
+    ];
+    for (word, list) in [("part", &parsed["parts"]), ("fit", &parsed["fits"])] {
+        lines.extend(
+            list.as_array()
+                .unwrap()
+                .iter()
+                .map(|line| fields(word, line)),
+        );
+    }
+    assert_eq!(lines.concat(), file(sheet));
+    let refused = json(&spardimple(&[
+        "show",
+        "--json",
+        "examples/film-line-mistyped.sheet",
+    ]));
+    assert_eq!(refused["refused"]["number"], 5);
+}
+
+/// A line of a sheet, from its fields.
+fn fields(word: &str, line: &Value) -> String {
+    let fields = line.as_object().unwrap().values();
+    let text = |field: &Value| match field {
+        Value::String(name) => format!("\t{name}"),
+        number => format!("\t{number}"),
+    };
+    format!("{word}{}\n", fields.map(text).collect::<String>())
+}
+
+/// Verdicts, and refusals of what is judged.
+#[test]
+fn verdicts() {
+    let judged = |words: &[&str], status: i32| {
+        let judged = spardimple(&[&["verdict", "--json"], words].concat());
+        assert_eq!(judged.status.code(), Some(status), "{words:?}");
+        json(&judged)
+    };
+    let (records, costs) = ("examples/film-core.rec", "examples/film-core.cost");
+    let passes = judged(&[records, costs], 0);
+    assert_eq!(passes["answer"], "passes");
+    for (at, (what, name)) in [("records", records), ("costs", costs)]
+        .into_iter()
+        .enumerate()
+    {
+        assert_eq!(passes["files"][at]["what"], what);
+        assert_eq!(
+            reopened(&passes["files"][at]),
+            fs::read(root(name)).unwrap()
+        );
+    }
+    let late = ["examples/film-core-late.rec", costs];
+    let plain = text(&spardimple(&[&["verdict"], &late[..]].concat()).stdout);
+    let late = judged(&late, 0);
+    assert_eq!(late["answer"], "overloaded");
+    assert!(
+        plain.starts_with(&format!("overloaded at {}:", late["length"])),
+        "{plain}"
+    );
+    let table = folder("json-table").join("k4.table");
+    let piece = "whole\t6\t10\t10\t0\t0\t0\n";
+    let zeros = "cost\t0\t0\t0\t0\t0\t0\t0\t0\t0\n";
+    fs::write(&table, format!("{zeros}{piece}{piece}")).unwrap();
+    let words = ["--table", table.to_str().unwrap()];
+    let undecided = judged(&[&words[..], &["--exit-status"]].concat(), 5);
+    assert_eq!(undecided["answer"], "undecided");
+    fs::write(&table, format!("{zeros}{piece}whole\t6\t5\t10\t0\t0\t0\n")).unwrap();
+    let refused = judged(&words, 1);
+    assert_eq!(refused["refused"]["number"], 3);
+    assert_eq!(refused["refused"]["line"], 3);
+    let refused = judged(&[costs, records], 1);
+    assert_eq!(refused["refused"]["number"], 8);
+    let why = refused["refused"]["why"].as_str().unwrap();
+    for cause in ["36 bytes is no multiple of 28", "140 bytes, 36 needed"] {
+        assert!(why.contains(cause), "{why}");
+    }
+}
+
+/// A batch has an answer for each sheet, and names what it left out.
+#[test]
+fn batches() {
+    let sheets = folder("json-batch");
+    for name in ["film-line", "film-line-mistyped"] {
+        let name = format!("{name}.sheet");
+        fs::copy(root("examples").join(&name), sheets.join(&name)).unwrap();
+    }
+    symlink("nowhere", sheets.join("lost.sheet")).unwrap();
+    fs::write(sheets.join("other.SHEET"), "").unwrap();
+    fs::create_dir(sheets.join("folder.sheet")).unwrap();
+    let out = folder("json-batch-out");
+    fs::write(out.join("film-line-mistyped.listing"), "older").unwrap();
+    let words = [
+        "batch",
+        "--json",
+        sheets.to_str().unwrap(),
+        "-o",
+        out.to_str().unwrap(),
+    ];
+    let done = spardimple(&words);
+    assert_eq!(done.status.code(), Some(3));
+    let parsed = json(&done);
     assert_eq!(parsed["answer"], "failed");
-    assert_eq!(parsed["failed"]["status"], 3);
-    let why = parsed["failed"]["why"].as_str().unwrap();
-    assert_eq!(text(&missing.stderr), format!("{why}\n"));
+    let answers = parsed["sheets"].as_array().unwrap();
+    let answer = |at: usize| answers[at]["answer"].as_str().unwrap();
+    assert_eq!([0, 1, 2].map(answer), ["refused", "planned", "failed"]);
+    assert_eq!(answers[0]["refused"]["number"], 5);
+    assert_eq!(answers[1]["pieces"], 12);
+    assert_eq!(reopened(&answers[0]["older_listing"]), b"older");
+    assert_eq!(
+        reopened(&answers[1]),
+        fs::read(root("examples/film-line.sheet")).unwrap()
+    );
+    assert_eq!(answers[2]["sha256"], Value::Null);
+    assert_eq!(parsed["skipped"][0]["is"], "a folder");
+    assert!(parsed["other_case"][0]["path"]
+        .as_str()
+        .unwrap()
+        .ends_with("/other.SHEET"));
+    assert_eq!(parsed["unread"], Value::Array(Vec::new()));
 }

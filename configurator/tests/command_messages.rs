@@ -167,7 +167,7 @@ fn the_line_of_the_80th_record() {
 fn verdicts_and_their_status() {
     let folder = folder("verdicts");
     fs::write(folder.join("c"), [0; 36]).unwrap();
-    let passes = "passes: every job on this core is done in time\n";
+    let passes = "passes: in no length of time is more work due than fits\n";
     let overloaded = "overloaded at 9: within 9 ticks more work is due than fits\n";
     let undecided = "undecided: more work than time in every length up to 100,000,000 ticks; \
                      such a core does not pass, and no plan has one\n";

@@ -80,6 +80,41 @@ fn beside_a_listing() {
     assert_eq!(after, expected);
 }
 
+/// So has one beside each listing of a batch, and the foot of a report.
+#[test]
+fn batches_and_reports() {
+    let (sheets, out) = (folder("origin-batch"), folder("origin-listings"));
+    fs::copy(root("examples/film-line.sheet"), sheets.join("a.sheet")).unwrap();
+    fs::write(sheets.join("b.sheet"), "no sheet").unwrap();
+    let words = [
+        "batch",
+        sheets.to_str().unwrap(),
+        "-o",
+        out.to_str().unwrap(),
+        "--origin",
+    ];
+    assert_eq!(spardimple(&words).status.code(), Some(1));
+    assert_eq!(names(&out), ["a.listing", "a.listing.origin"]);
+    let origin = fs::read_to_string(out.join("a.listing.origin")).unwrap();
+    for path in [sheets.join("a.sheet"), out.join("a.listing")] {
+        assert!(origin.contains(&digest(&path)), "{origin}");
+    }
+    let page = text(&spardimple(&["report", "examples/film-line.sheet"]).stdout);
+    let version = text(&spardimple(&["--version"]).stdout);
+    let commit = version
+        .lines()
+        .nth(1)
+        .unwrap()
+        .strip_prefix("commit ")
+        .unwrap();
+    let archive = root("target/staticlib/libspardimple.a");
+    let sheet = root("examples/film-line.sheet");
+    for words in [commit, &digest(&archive), &digest(&sheet)] {
+        let foot = page.split("<footer>").nth(1).unwrap();
+        assert!(foot.contains(&format!("<code>{words}</code>")), "{foot}");
+    }
+}
+
 /// There is no file beside standard output, and the sheet is never overwritten.
 #[test]
 fn nowhere_to_put_it() {

@@ -211,7 +211,7 @@ fn names_of_every_script_line_up() {
     assert_eq!(done.status.code(), Some(0));
     assert_eq!(
         text(&done.stdout),
-        "sheet         answer   tasks  pieces
+        "sheet         answer   tasks  pieces  reason
 jaw.sheet     planned      9       9
 пленка.sheet  planned      9       9
 封口.sheet    planned      9       9

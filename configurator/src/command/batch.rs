@@ -1,12 +1,15 @@
 //! `batch`: the plans of all sheets of a folder, several at a time, and a summary. A sheet that is
 //! refused or cannot be read stops no other.
 
+mod as_json;
 mod found;
 mod outputs;
 mod summary;
 
+use super::json::{self, Asked};
 use super::{cli, files, parsed, planned, Failure, Planned, Status, Streams};
 use crate::explain::Explained;
+use crate::origin;
 use clap::ArgMatches;
 use found::Found;
 use std::fs;
@@ -33,6 +36,8 @@ pub struct Outcome {
     pub name: PathBuf,
     /// What came of it.
     pub answer: Answer,
+    /// Its SHA-256, if it was read whole.
+    pub digest: Option<String>,
     /// A listing that was there before and is not of the sheet as it is now.
     pub older: Option<PathBuf>,
 }
@@ -104,36 +109,87 @@ impl Batch {
 /// The folder cannot be read, or the one for the listings not be made, or a listing would overwrite a
 /// sheet. Then nothing is written.
 pub fn run(given: &ArgMatches, streams: &mut Streams) -> Result<Status, Failure> {
-    let (folder, out) = (cli::needed(given, "DIR"), cli::path(given, "out"));
+    let folder = cli::needed(given, "DIR");
+    let done = plan_all(given, &folder, streams);
+    if given.get_flag("json") {
+        let asked = [Asked::new("folder", &folder, None)];
+        return json::told("batch", &asked, done, streams);
+    }
+    done
+}
+
+fn plan_all(given: &ArgMatches, folder: &Path, streams: &mut Streams) -> Result<Status, Failure> {
     let quiet = given.get_flag("quiet");
     streams.progress &= !quiet;
-    let found = found::find(&folder, given.get_flag("recursive"))?;
-    let batch = plan(&folder, found, out.as_deref(), streams)?;
+    let found = found::find(folder, given.get_flag("recursive"))?;
+    let out = cli::path(given, "out");
+    let wanted = out.as_deref().map(|out| Wanted {
+        out,
+        origins: given.get_flag("origin"),
+    });
+    let batch = plan(folder, found, wanted.as_ref(), streams)?;
     if !quiet {
-        batch.say(&folder, streams);
+        batch.say(folder, streams);
     }
-    streams.print(summary::text(&batch, quiet).as_bytes())?;
+    let text = if given.get_flag("json") {
+        as_json::text(folder, &batch)
+    } else {
+        summary::text(&batch, quiet)
+    };
+    streams.print(text.as_bytes())?;
     Ok(batch.status())
+}
+
+/// Which files are wanted.
+struct Wanted<'a> {
+    /// The folder where listings go.
+    out: &'a Path,
+    /// Whether it is said beside each what it came from.
+    origins: bool,
+}
+
+impl Wanted<'_> {
+    /// Where the listing of a sheet goes, by its name below the folder of the sheets.
+    fn listing(&self, name: &Path) -> PathBuf {
+        outputs::listing(self.out, name)
+    }
+
+    /// Writes a listing.
+    fn write(&self, sheet: &Path, bytes: &[u8], listing: &[u8], to: &Path) -> Result<(), Failure> {
+        to.parent().map_or(Ok(()), make)?;
+        files::write(to, listing)?;
+        if self.origins {
+            let said = origin::beside(&files::shown(sheet), bytes, listing);
+            files::write(&origin::place(to), said.as_bytes())?;
+        }
+        Ok(())
+    }
 }
 
 /// What becomes of all that was found.
 fn plan(
     folder: &Path,
     found: Found,
-    out: Option<&Path>,
+    wanted: Option<&Wanted>,
     streams: &mut Streams,
 ) -> Result<Batch, Failure> {
-    if let Some(out) = out {
-        outputs::look(folder, &found.sheets, out)?;
-        make(out)?;
+    if let Some(wanted) = wanted {
+        outputs::look(folder, &found.sheets, wanted)?;
+        make(wanted.out)?;
     }
     let one = |name: &PathBuf| {
-        let listing = out.map(|out| outputs::listing(out, name));
-        let answer = one(&folder.join(name), listing.as_deref());
+        let sheet = folder.join(name);
+        let listing = wanted.map(|wanted| wanted.listing(name));
+        let read = files::sheet(&sheet);
+        let whole = (read.as_ref().ok()).filter(|bytes| bytes.len() <= files::SHEET_MOST);
+        let digest = whole.map(|bytes| origin::digest(bytes));
+        let answer = read.and_then(|bytes| attempt(&sheet, &bytes, wanted.zip(listing.as_deref())));
+        let answer = answer.unwrap_or_else(|failure| failed(failure, &sheet, listing.as_deref()));
         let planned = matches!(answer, Answer::Planned { .. });
         Outcome {
             name: name.clone(),
             answer,
+            digest,
             older: listing.filter(|listing| !planned && listing.is_file()),
         }
     };
@@ -179,28 +235,13 @@ fn each(
     outcomes.into_iter().map(|(_, outcome)| outcome).collect()
 }
 
-/// What becomes of one sheet, whose listing may be wanted.
-fn one(sheet: &Path, listing: Option<&Path>) -> Answer {
-    attempt(sheet, listing).unwrap_or_else(|failure| {
-        let gone = || "the reader of its listing has gone".to_owned();
-        let message = failure.why.unwrap_or_else(gone);
-        let behind = |path: &Path| message.strip_prefix(&format!("{}: ", files::shown(path)));
-        let reason = match (behind(sheet), listing.and_then(behind)) {
-            (Some(cause), _) => cause.to_owned(),
-            (None, Some(cause)) => format!("its listing: {cause}"),
-            (None, None) => message.clone(),
-        };
-        Answer::Failed { reason, message }
-    })
-}
-
-fn attempt(sheet: &Path, listing: Option<&Path>) -> Result<Answer, Failure> {
-    Ok(match planned(&files::sheet(sheet)?)? {
-        Planned::Listing(bytes) => {
-            let rows = parsed(&bytes)?;
-            if let Some(listing) = listing {
-                listing.parent().map_or(Ok(()), make)?;
-                files::write(listing, &bytes)?;
+/// What becomes of a sheet's bytes, whose listing may be wanted.
+fn attempt(sheet: &Path, bytes: &[u8], to: Option<(&Wanted, &Path)>) -> Result<Answer, Failure> {
+    Ok(match planned(bytes)? {
+        Planned::Listing(listing) => {
+            let rows = parsed(&listing)?;
+            if let Some((wanted, to)) = to {
+                wanted.write(sheet, bytes, &listing, to)?;
             }
             Answer::Planned {
                 tasks: rows.tasks,
@@ -209,6 +250,19 @@ fn attempt(sheet: &Path, listing: Option<&Path>) -> Result<Answer, Failure> {
         }
         Planned::Refused(why) => Answer::Refused(why),
     })
+}
+
+/// A sheet that was not read, or its listing not written.
+fn failed(failure: Failure, sheet: &Path, listing: Option<&Path>) -> Answer {
+    let gone = || "the reader of its listing has gone".to_owned();
+    let message = failure.why.unwrap_or_else(gone);
+    let behind = |path: &Path| message.strip_prefix(&format!("{}: ", files::shown(path)));
+    let reason = match (behind(sheet), listing.and_then(behind)) {
+        (Some(cause), _) => cause.to_owned(),
+        (None, Some(cause)) => format!("its listing: {cause}"),
+        (None, None) => message.clone(),
+    };
+    Answer::Failed { reason, message }
 }
 
 /// Makes a folder for listings, unless it is there.

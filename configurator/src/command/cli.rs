@@ -71,18 +71,14 @@ fn plan() -> Command {
         .about("Prints the listing of a sheet: which core runs which task, whole or in two pieces")
         .after_help(
             "Example: spardimple plan examples/film-line.sheet -o film-line.listing --origin\n\n\
-             A refused sheet has no listing, and FILE is left as it was. With --json the refusal is\n\
-             printed as JSON too.",
+             A refused sheet has no listing, and FILE is left as it was. With --json a refusal, or a\n\
+             file that is missing, is told as JSON on standard output too. FILE.origin names the\n\
+             program's commit and the SHA-256 of the library, of the sheet and of the listing.",
         )
         .arg(sheet())
         .arg(out("FILE", "Writes the listing to FILE, whole or not at all"))
         .arg(origin())
-        .arg(
-            Arg::new("json")
-                .long("json")
-                .action(ArgAction::SetTrue)
-                .help("Writes the listing as JSON"),
-        )
+        .arg(json())
 }
 
 fn check() -> Command {
@@ -116,7 +112,7 @@ fn fmt() -> Command {
 fn verdict() -> Command {
     let bytes = |name, help| file(name, help).required_unless_present("table");
     Command::new("verdict")
-        .about("Says whether one core keeps every deadline")
+        .about("Judges one core by the demand rule: whether more work is ever due than fits")
         .after_help(
             "Examples: spardimple verdict --table examples/film-core.table\n          \
              spardimple verdict examples/film-core.rec examples/film-core.cost\n\n\
@@ -124,14 +120,14 @@ fn verdict() -> Command {
              first or last, then x, D, T, J, P, M; fields parted by one tab.\n\
              RECORDS has 28 bytes for each piece: seven numbers of four bytes, lowest first (kind 0\n\
              whole, 1 first, 2 last; then x, D, T, J, P, M). COSTS has the nine constants, 36 bytes.\n\n\
-             passes: every job is done in time. overloaded at N: within N ticks more work is due than\n\
-             fits. undecided: in every length up to 100,000,000 ticks more work comes than it has ticks;\n\
-             that is no maybe, such a core does not pass. The exit status is 0 for all three; with\n\
-             --exit-status it is 0 passes, 4 overloaded, 5 undecided.",
+             passes: in no length of time is more work due than fits. overloaded at N: within N ticks\n\
+             more work is due than fits. undecided: in every length up to 100,000,000 ticks more work\n\
+             comes than it has ticks; that is no maybe, such a core does not pass. The exit status is 0\n\
+             for all three; with --exit-status it is 0 passes, 4 overloaded, 5 undecided.",
         )
         .override_usage(
-            "spardimple verdict [--exit-status] RECORDS COSTS\n       \
-             spardimple verdict [--exit-status] --table FILE",
+            "spardimple verdict [OPTIONS] RECORDS COSTS\n       \
+             spardimple verdict [OPTIONS] --table FILE",
         )
         .arg(bytes("RECORDS", "Piece records as bytes"))
         .arg(bytes("COSTS", "The nine cost constants as bytes"))
@@ -149,6 +145,7 @@ fn verdict() -> Command {
                 .action(ArgAction::SetTrue)
                 .help("Tells the verdict by the exit status: 0 passes, 4 overloaded, 5 undecided"),
         )
+        .arg(json())
 }
 
 fn show() -> Command {
@@ -161,6 +158,7 @@ fn show() -> Command {
         )
         .arg(sheet())
         .arg(unit_of_ticks())
+        .arg(json())
 }
 
 fn report() -> Command {
@@ -227,6 +225,8 @@ fn batch() -> Command {
                 .action(ArgAction::SetTrue)
                 .help("Prints what is not planned and the sum, and no messages"),
         )
+        .arg(origin())
+        .arg(json())
 }
 
 fn completions() -> Command {
@@ -284,13 +284,21 @@ fn out(value: &'static str, help: &'static str) -> Arg {
         .help(help)
 }
 
+/// Whether the answer is JSON.
+fn json() -> Arg {
+    Arg::new("json")
+        .long("json")
+        .action(ArgAction::SetTrue)
+        .help("Answers as JSON, in the form of docs/json.schema.json")
+}
+
 /// Whether a file beside the listing says what it came from.
 fn origin() -> Arg {
     Arg::new("origin")
         .long("origin")
         .action(ArgAction::SetTrue)
         .requires("out")
-        .help("Writes a file beside it, its name with .origin behind, that says what it came from: the program's commit, and the SHA-256 of the library, the sheet and the listing")
+        .help("Says beside each listing, in FILE.origin, what it came from")
 }
 
 /// A file or folder that stands by its place.

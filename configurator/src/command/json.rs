@@ -7,6 +7,7 @@ use crate::explain::Explained;
 use crate::listing::{Listing, Piece};
 use crate::origin;
 use crate::quoted::{number, Sheet, COSTS, TIMES};
+use crate::{Answer, Refusal};
 use serde_json::{json, Map, Value};
 use std::fmt::Write;
 use std::os::unix::ffi::OsStrExt;
@@ -24,6 +25,20 @@ pub struct Asked<'a> {
     pub path: &'a Path,
     /// What was read of it.
     pub bytes: Option<&'a [u8]>,
+}
+
+impl<'a> Asked<'a> {
+    /// A file of that kind.
+    #[must_use]
+    pub fn new(what: &'static str, path: &'a Path, bytes: Option<&'a [u8]>) -> Self {
+        Asked { what, path, bytes }
+    }
+
+    /// A sheet.
+    #[must_use]
+    pub fn sheet(path: &'a Path, bytes: Option<&'a [u8]>) -> Self {
+        Asked::new("sheet", path, bytes)
+    }
 }
 
 /// An answer: fields by their names, in order.
@@ -45,16 +60,20 @@ pub fn begun(command: &str, asked: &[Asked]) -> Fields {
     }))
 }
 
-/// A file: its name for people, its name to open it by, and its digest if it was read whole.
+/// A file: what it is, its names, and its digest if it was read whole.
 fn file(asked: &Asked) -> Value {
     let whole = asked.bytes.filter(|bytes| bytes.len() <= SHEET_MOST);
-    let path = (!files::is_standard(asked.path)).then(|| encoded(asked.path));
-    json!({
-        "what": asked.what,
-        "name": files::shown(asked.path),
-        "path": path,
-        "sha256": whole.map(origin::digest),
-    })
+    let mut file = fields(json!({ "what": asked.what }));
+    file.extend(named(asked.path));
+    file.insert("sha256".to_owned(), json!(whole.map(origin::digest)));
+    Value::Object(file)
+}
+
+/// A file's name for people, and its name to open it by.
+#[must_use]
+pub fn named(path: &Path) -> Fields {
+    let opened = (!files::is_standard(path)).then(|| encoded(path));
+    fields(json!({ "name": files::shown(path), "path": opened }))
 }
 
 /// A file's name by which it can be opened again, whatever bytes it has: as in a URL, what is no
@@ -118,26 +137,50 @@ fn numbers(names: &[&str], texts: &[&str]) -> Fields {
 /// The fields of the refusal of a file: its number, what it carries, the line, and the sentences.
 #[must_use]
 pub fn refused(name: &str, explained: &Explained) -> Fields {
+    let line = explained.line.as_ref().map(|line| line.number);
+    let sentences = [
+        Some(explained.meaning.clone()),
+        explained.why.clone(),
+        Some(explained.remedy(name)),
+    ];
+    refusal(explained.refusal, line, sentences)
+}
+
+/// The fields of a refusal, whose sentences are what it means, why it comes here, and what to do.
+#[must_use]
+pub fn refusal(refusal: Refusal, line: Option<usize>, sentences: [Option<String>; 3]) -> Fields {
+    let [meaning, why, remedy] = sentences;
     fields(json!({
         "answer": "refused",
         "refused": {
-            "number": explained.refusal.number(),
-            "carries": explained.refusal.carries(),
-            "line": explained.line.as_ref().map(|line| line.number),
-            "meaning": explained.meaning,
-            "why": explained.why,
-            "remedy": explained.remedy(name),
+            "number": refusal.number(),
+            "carries": refusal.carries(),
+            "line": line,
+            "meaning": meaning,
+            "why": why,
+            "remedy": remedy,
         }
     }))
 }
 
+/// A verdict's fields: which it is, and the length of an overloaded core.
+#[must_use]
+pub fn verdict(answer: Answer) -> Fields {
+    fields(match answer {
+        Answer::Passes => json!({ "answer": "passes" }),
+        Answer::Overloaded(length) => json!({ "answer": "overloaded", "length": length }),
+        Answer::Undecided => json!({ "answer": "undecided" }),
+        Answer::Refused(refused) => {
+            let remedy = Some(refused.remedy().to_owned());
+            return refusal(refused, None, [Some(refused.meaning()), None, remedy]);
+        }
+    })
+}
+
 /// A failure's fields: the exit status and the sentence.
 #[must_use]
-pub fn failed(failure: &Failure) -> Fields {
-    fields(json!({
-        "answer": "failed",
-        "failed": { "status": failure.status as u8, "why": failure.why },
-    }))
+pub fn failed(status: Status, why: Option<&str>) -> Fields {
+    fields(json!({ "answer": "failed", "failed": { "status": status as u8, "why": why } }))
 }
 
 /// An answer whole, as text.
@@ -159,14 +202,18 @@ pub fn told(
     streams: &mut Streams,
 ) -> Result<Status, Failure> {
     if let Err(failure) = &done {
-        let text = text(begun(command, asked), failed(failure));
+        let text = text(
+            begun(command, asked),
+            failed(failure.status, failure.why.as_deref()),
+        );
         let _ = streams.print(text.as_bytes());
     }
     done
 }
 
 /// The fields of an object.
-fn fields(object: Value) -> Fields {
+#[must_use]
+pub fn fields(object: Value) -> Fields {
     match object {
         Value::Object(fields) => fields,
         _ => Fields::new(),

@@ -4,7 +4,7 @@ use super::json::{self, Asked};
 use super::{cli, files, parsed, planned, Failure, Planned, Status, Streams};
 use crate::origin;
 use clap::ArgMatches;
-use std::path::{Path, PathBuf};
+use std::path::Path;
 
 /// Prints or writes the listing.
 ///
@@ -15,7 +15,7 @@ pub fn run(given: &ArgMatches, streams: &mut Streams) -> Result<Status, Failure>
     let sheet = cli::needed(given, "SHEET");
     let done = plan(given, &sheet, streams);
     if given.get_flag("json") {
-        return json::told("plan", &[asked(&sheet, None)], done, streams);
+        return json::told("plan", &[Asked::sheet(&sheet, None)], done, streams);
     }
     done
 }
@@ -23,15 +23,16 @@ pub fn run(given: &ArgMatches, streams: &mut Streams) -> Result<Status, Failure>
 fn plan(given: &ArgMatches, sheet: &Path, streams: &mut Streams) -> Result<Status, Failure> {
     let out = cli::path(given, "out");
     let out = out.as_deref();
-    let beside = match out {
-        Some(out) if given.get_flag("origin") => Some(origin_of(out)?),
-        _ => None,
-    };
+    let beside = out.filter(|_| given.get_flag("origin")).map(origin::place);
+    if beside.is_some() && out.map_or(false, files::is_standard) {
+        let why = "--origin: there is no file beside standard output; name one with -o";
+        return Err(Failure::wrong_use(why.to_owned()));
+    }
     let beside = beside.as_deref();
     let bytes = files::sheet_for(out.into_iter().chain(beside), sheet)?;
     let name = files::shown(sheet);
     let in_json = |answer| {
-        let begun = json::begun("plan", &[asked(sheet, Some(&bytes))]);
+        let begun = json::begun("plan", &[Asked::sheet(sheet, Some(&bytes))]);
         json::text(begun, answer).into_bytes()
     };
     match planned(&bytes)? {
@@ -53,21 +54,4 @@ fn plan(given: &ArgMatches, sheet: &Path, streams: &mut Streams) -> Result<Statu
             Ok(Status::Refused)
         }
     }
-}
-
-/// Where it is said what a listing came from.
-fn origin_of(listing: &Path) -> Result<PathBuf, Failure> {
-    if files::is_standard(listing) {
-        let why = "--origin: there is no file beside standard output; name one with -o";
-        return Err(Failure::wrong_use(why.to_owned()));
-    }
-    let mut name = listing.as_os_str().to_owned();
-    name.push(".origin");
-    Ok(PathBuf::from(name))
-}
-
-/// The sheet, as it was asked about.
-fn asked<'a>(path: &'a Path, bytes: Option<&'a [u8]>) -> Asked<'a> {
-    let what = "sheet";
-    Asked { what, path, bytes }
 }

@@ -6,6 +6,7 @@ use super::{cli, drawing, files, parsed, planned, quoted, show};
 use super::{Failure, Planned, Status, Streams};
 use crate::explain::Explained;
 use crate::listing::Listing;
+use crate::origin;
 use crate::quoted::{Fit, Part, Sheet, COSTS, TIMES};
 use crate::text::shown;
 use clap::ArgMatches;
@@ -20,24 +21,38 @@ pub fn run(given: &ArgMatches, streams: &mut Streams) -> Result<Status, Failure>
     let (sheet, out) = (cli::needed(given, "SHEET"), cli::path(given, "out"));
     let out = out.as_deref();
     let (name, bytes) = (files::shown(&sheet), files::sheet_for(out, &sheet)?);
+    let asked = Asked {
+        name: &name,
+        sheet: &bytes,
+        unit: cli::unit(given),
+    };
     match planned(&bytes)? {
         Planned::Listing(listing) => {
-            let (sheet, rows) = (quoted(&bytes)?, parsed(&listing)?);
-            let page = plan(&name, &sheet, &rows, cli::unit(given), &listing);
+            let page = plan(&asked, &quoted(&bytes)?, &parsed(&listing)?, &listing);
             streams.deliver(out, page.as_bytes())
         }
         Planned::Refused(why) => {
             streams.say(&why.message(&name));
-            let page = refused(&name, &bytes, &why);
-            streams.deliver(out, page.as_bytes())?;
+            streams.deliver(out, refused(&asked, &why).as_bytes())?;
             Ok(Status::Refused)
         }
     }
 }
 
+/// What a page is asked for.
+pub struct Asked<'a> {
+    /// What the sheet is called.
+    pub name: &'a str,
+    /// Its bytes.
+    pub sheet: &'a [u8],
+    /// What a tick is called.
+    pub unit: &'a str,
+}
+
 /// The page of a plan.
 #[must_use]
-pub fn plan(name: &str, sheet: &Sheet, listing: &Listing, unit: &str, bytes: &[u8]) -> String {
+pub fn plan(asked: &Asked, sheet: &Sheet, listing: &Listing, bytes: &[u8]) -> String {
+    let (name, unit) = (asked.name, asked.unit);
     let mut body = format!(
         "<h1>Plan of {}</h1>\n<p class=\"sum\">{}.</p>\n",
         escaped(name),
@@ -55,12 +70,13 @@ pub fn plan(name: &str, sheet: &Sheet, listing: &Listing, unit: &str, bytes: &[u
         "<h2>Listing</h2>\n<pre class=\"listing\">{listing}</pre>\n"
     );
     let source = "The plan and every figure in it come";
-    page(&format!("Plan of {name}"), &body, source)
+    page(asked, &format!("Plan of {name}"), &body, source)
 }
 
 /// The page of a refused sheet: what was refused, where, and what to do.
 #[must_use]
-pub fn refused(name: &str, sheet: &[u8], why: &Explained) -> String {
+pub fn refused(asked: &Asked, why: &Explained) -> String {
+    let name = asked.name;
     let mut body = format!("<h1>{} is refused</h1>\n", escaped(name));
     let place = match &why.line {
         Some(line) => format!(" at line {}", line.number),
@@ -92,9 +108,10 @@ pub fn refused(name: &str, sheet: &[u8], why: &Explained) -> String {
     ));
     body.push_str("</section>\n");
     if why.refusal.number() != 9 {
-        sheet_lines(&mut body, sheet, why);
+        sheet_lines(&mut body, asked.sheet, why);
     }
-    page(&format!("{name} is refused"), &body, "The refusal comes")
+    let title = format!("{name} is refused");
+    page(asked, &title, &body, "The refusal comes")
 }
 
 /// A paragraph: a sentence with its first letter great and what it quotes set as such.
@@ -241,16 +258,26 @@ fn machine(body: &mut String, sheet: &Sheet, unit: &str) {
 }
 
 /// The whole page around its body. The policy forbids the browser to fetch or run anything.
-fn page(title: &str, body: &str, source: &str) -> String {
+fn page(asked: &Asked, title: &str, body: &str, source: &str) -> String {
+    let sheet = if asked.sheet.len() > files::SHEET_MOST {
+        String::new()
+    } else {
+        let (name, digest) = (escaped(asked.name), origin::digest(asked.sheet));
+        format!("<p>{name}: SHA-256 <code>{digest}</code></p>\n")
+    };
     format!(
         "<!DOCTYPE html>\n<html lang=\"en\">\n<head>\n<meta charset=\"utf-8\">\n\
          <meta http-equiv=\"Content-Security-Policy\" content=\"default-src 'none'; style-src 'unsafe-inline'\">\n\
          <meta name=\"viewport\" content=\"width=device-width, initial-scale=1\">\n\
          <title>{}</title>\n<style>\n{}</style>\n</head>\n<body>\n{body}\
-         <footer>Written by spardimple {}. {source} from a proved library.</footer>\n\
+         <footer>\n<p>{source} from a proved library. What this page came from:</p>\n{sheet}\
+         <p>{}: commit <code>{}</code></p>\n\
+         <p>libspardimple.a: SHA-256 <code>{}</code></p>\n</footer>\n\
          </body>\n</html>\n",
         escaped(title),
         include_str!("report.css"),
-        env!("CARGO_PKG_VERSION")
+        origin::PROGRAM,
+        origin::COMMIT,
+        origin::ARCHIVE
     )
 }

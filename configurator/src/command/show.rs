@@ -1,11 +1,13 @@
 //! `show`: a plan as tables that a person reads, on a terminal of 80 columns. The figures are the
 //! listing's, the parts and periods the sheet's.
 
+use super::json::{self, Asked};
 use super::{cli, columns, files, parsed, planned, quoted, Failure, Planned, Status, Streams};
 use crate::listing::{Listing, Piece};
 use crate::quoted::{Fit, Sheet};
 use clap::ArgMatches;
 use std::fmt::Write;
+use std::path::Path;
 
 /// Prints the tables.
 ///
@@ -14,15 +16,35 @@ use std::fmt::Write;
 /// The sheet cannot be read.
 pub fn run(given: &ArgMatches, streams: &mut Streams) -> Result<Status, Failure> {
     let sheet = cli::needed(given, "SHEET");
-    let (name, bytes) = (files::shown(&sheet), files::sheet(&sheet)?);
-    match planned(&bytes)? {
-        Planned::Listing(listing) => {
-            let (paint, unit) = (Paint(streams.colour), cli::unit(given));
-            let text = plan(&name, &quoted(&bytes)?, &parsed(&listing)?, unit, paint);
-            streams.print(text.as_bytes())
+    let done = show(given, &sheet, streams);
+    if given.get_flag("json") {
+        return json::told("show", &[Asked::sheet(&sheet, None)], done, streams);
+    }
+    done
+}
+
+fn show(given: &ArgMatches, sheet: &Path, streams: &mut Streams) -> Result<Status, Failure> {
+    let (name, bytes, unit) = (files::shown(sheet), files::sheet(sheet)?, cli::unit(given));
+    let in_json = |answer| {
+        let mut begun = json::begun("show", &[Asked::sheet(sheet, Some(&bytes))]);
+        begun.insert("unit".to_owned(), unit.into());
+        json::text(begun, answer)
+    };
+    match (planned(&bytes)?, given.get_flag("json")) {
+        (Planned::Listing(listing), false) => {
+            let (rows, paint) = (parsed(&listing)?, Paint(streams.colour));
+            streams.print(plan(&name, &quoted(&bytes)?, &rows, unit, paint).as_bytes())
         }
-        Planned::Refused(why) => {
+        (Planned::Listing(listing), true) => {
+            let mut answer = json::listing(&parsed(&listing)?);
+            answer.extend(json::sheet(&quoted(&bytes)?));
+            streams.print(in_json(answer).as_bytes())
+        }
+        (Planned::Refused(why), json) => {
             streams.say(&why.message(&name));
+            if json {
+                streams.print(in_json(json::refused(&name, &why)).as_bytes())?;
+            }
             Ok(Status::Refused)
         }
     }

@@ -1,6 +1,8 @@
 //! Where listings go, and that none of them takes another file's place.
 
+use super::Wanted;
 use crate::command::{files, Failure};
+use crate::origin;
 use std::collections::HashMap;
 use std::fs;
 use std::iter;
@@ -12,20 +14,23 @@ pub fn listing(out: &Path, name: &Path) -> PathBuf {
     out.join(name.with_extension("listing"))
 }
 
-/// Looks that no listing would overwrite a sheet, by whichever name, nor another sheet's listing: links
+/// Looks that nothing that is written would overwrite a sheet, by whichever name, nor another sheet's listing: links
 /// in the folder of the listings can make two places one.
 ///
 /// # Errors
 ///
 /// One would.
-pub fn look(folder: &Path, names: &[PathBuf], out: &Path) -> Result<(), Failure> {
+pub(super) fn look(folder: &Path, names: &[PathBuf], wanted: &Wanted) -> Result<(), Failure> {
     let identity = |path: &Path| files::identity(fs::metadata(path));
     let sheets: Vec<PathBuf> = names.iter().map(|name| folder.join(name)).collect();
     let known: HashMap<_, _> = (sheets.iter())
         .filter_map(|sheet| Some((identity(sheet)?, sheet)))
         .collect();
-    let listings = || names.iter().map(|name| listing(out, name));
-    for written in iter::once(out.to_owned()).chain(listings()) {
+    let listings = || names.iter().map(|name| wanted.listing(name));
+    let origins = listings().filter(|_| wanted.origins);
+    let origins = origins.map(|listing| origin::place(&listing));
+    let out = iter::once(wanted.out.to_owned());
+    for written in out.chain(listings()).chain(origins) {
         if let Some(sheet) = identity(&written).and_then(|there| known.get(&there)) {
             return Err(files::overwrites(&written, sheet));
         }

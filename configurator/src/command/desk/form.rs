@@ -27,6 +27,10 @@ const FORMS: [Form; 4] = [
 pub fn fault(edit: &Line) -> Option<Fault> {
     let bytes = &edit.bytes;
     let (whole, end) = (0..bytes.len(), bytes.len()..bytes.len());
+    if bytes.starts_with(b"\xef\xbb\xbf") {
+        let why = "a byte-order mark, which some editors put before the first word";
+        return Some((0..3, why.to_owned()));
+    }
     if let Some(at) = bytes.iter().position(|&byte| byte == b'\r') {
         let why = "a carriage return; the script has another system's line ends";
         return Some((at..at + 1, why.to_owned()));
@@ -77,9 +81,7 @@ fn no_word(field: &[u8]) -> String {
     let word = word.unwrap_or_default();
     let lower = word.to_ascii_lowercase();
     let known = FORMS.iter().any(|form| form.0.as_bytes() == lower);
-    if field.starts_with(b"\xef\xbb\xbf") {
-        "a byte order mark stands here; save the script as plain text".to_owned()
-    } else if lower == b"help" {
+    if lower == b"help" {
         "`help` is for the prompt, where standard input is a terminal".to_owned()
     } else if known && lower != word {
         format!("the word is `{}`, in lower case", shown(&lower))
@@ -111,7 +113,7 @@ mod tests {
         let spaces = "there are spaces, and only tabs part fields";
         let returns = "a carriage return; the script has another system's line ends";
         let help = "`help` is for the prompt, where standard input is a terminal";
-        let mark = "a byte order mark stands here; save the script as plain text";
+        let mark = "a byte-order mark, which some editors put before the first word";
         let letters = "a name has ASCII letters, digits, hyphens and full stops only";
         for [edit, part, words] in [
             ["", "", "the line is empty"],
@@ -130,7 +132,7 @@ mod tests {
             [" list", " list", spaces],
             ["List", "List", "the word is `list`, in lower case"],
             ["HELP", "HELP", help],
-            ["\u{feff}list", "\\u{feff}list", mark],
+            ["\u{feff}list\r", "\\u{feff}", mark],
             ["ad\tx", "ad", words],
             ["\tlist", "", words],
             ["withdraw\ta_b", "a_b", letters],
