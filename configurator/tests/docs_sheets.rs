@@ -6,9 +6,10 @@
 mod common;
 
 use common::command::{desk, emulator, file, folder, root, spardimple, text, typed};
-use configurator::command::fields::{LINES, SHEET};
+use configurator::command::fields::{Field, LINES, SHEET};
 use configurator::command::new::EXAMPLE;
-use configurator::quoted::Sheet;
+use configurator::forms::Text;
+use configurator::quoted::{Sheet, COSTS, TIMES};
 use configurator::Refusal;
 use std::os::unix::fs::symlink;
 use std::process::Command;
@@ -177,5 +178,32 @@ fn one_sentence_a_line() {
             let line = line.strip_prefix(". ").unwrap_or(line);
             assert!(!line.contains(". ") && !line.contains("? "), "{line}");
         }
+    }
+}
+
+/// The table has the lines and the fields that a sheet has.
+#[test]
+fn the_table_has_every_field() {
+    for (above, line) in LINES.iter().enumerate() {
+        let mut forms = Text::Sheet.forms(above).iter();
+        let form = forms.find(|form| form.word == line.word).unwrap();
+        assert_eq!(line.fields.len() + 1, form.fields(), "{}", line.word);
+        assert_eq!(line.many, above > 1, "{}", line.word);
+    }
+    let names = |at: usize| LINES[at].fields.iter().map(|field| field.name);
+    assert!(names(1).eq(COSTS));
+    assert!(names(2).skip(1).eq(TIMES));
+}
+
+/// Each text of the table is one sentence.
+#[test]
+fn each_text_is_a_sentence() {
+    let about = LINES.iter().flat_map(|line| line.about).copied();
+    let fields = LINES.iter().flat_map(|line| line.fields);
+    let fields = fields.flat_map(Field::sentences);
+    for text in SHEET.into_iter().chain(about).chain(fields) {
+        assert!(text.ends_with('.') && !text.contains(". "), "{text}");
+        let first = text.chars().next().unwrap();
+        assert!(!first.is_lowercase(), "{text}");
     }
 }
