@@ -7,6 +7,8 @@
 #[allow(dead_code)] // the page needs the description, and not what reads the words by it
 #[path = "src/command/cli.rs"]
 mod cli;
+#[path = "src/command/fields.rs"]
+mod fields;
 #[path = "src/command/manual.rs"]
 mod manual;
 #[allow(dead_code)] // the page needs the whole table only
@@ -82,6 +84,7 @@ fn write_manual() {
     for source in [
         "build.rs",
         "src/command/cli.rs",
+        "src/command/fields.rs",
         "src/command/manual.rs",
         "src/refusals.rs",
     ] {

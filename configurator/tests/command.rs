@@ -247,6 +247,7 @@ fn help() {
         assert!(help.contains(status), "{status}");
     }
     for sub in [
+        "new",
         "plan",
         "check",
         "fmt",

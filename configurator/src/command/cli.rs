@@ -1,6 +1,7 @@
 //! The command's arguments, described once: `--help`, the completions and, at build, the manual page
 //! are made from this description.
 
+use super::fields;
 use clap::{value_parser, Arg, ArgAction, ArgMatches, Command};
 use std::path::PathBuf;
 
@@ -10,9 +11,10 @@ pub const SHELLS: [&str; 5] = ["bash", "elvish", "fish", "powershell", "zsh"];
 /// What times are in where nothing else is said.
 const TICKS: &str = "ticks";
 
-/// What stands below the command's own help.
+/// What stands below the command's own help; `{LINES}` stands for the lines of a sheet.
 const BELOW: &str = "\
 Examples:
+  spardimple new line.sheet
   spardimple plan examples/film-line.sheet
   spardimple check examples/film-line-mistyped.sheet
   spardimple fmt line.sheet -o mended.sheet
@@ -25,10 +27,7 @@ Examples:
   spardimple man | man -l -
 
 A sheet has lines of fields parted by one tab, in this order:
-  machine  cores, grain
-  cost     RelO, SchedO, TsetO, IpB, BetO, MigrO, IpiO, IpiJ, π
-  part     name, C, D, T, J, P, M      up to 64 of them
-  fit      task name, part name        up to 64 of them
+{LINES}
 
 Where a file is read, - stands for standard input.
 
@@ -49,10 +48,22 @@ pub fn command() -> Command {
     Command::new("spardimple")
         .version(env!("CARGO_PKG_VERSION"))
         .about("Plans the tasks of a multicore controller. Every plan and verdict is given by a proved library.")
-        .after_help(BELOW)
+        .after_help(BELOW.replace("{LINES}", &fields::short()))
         .subcommand_required(true)
         .arg_required_else_help(true)
-        .subcommands([plan(), check(), fmt(), verdict(), show(), report(), desk(), batch(), completions(), man()])
+        .subcommands([new(), plan(), check(), fmt(), verdict(), show(), report(), desk(), batch(), completions(), man()])
+}
+
+fn new() -> Command {
+    Command::new("new")
+        .about("Writes a small sheet that plans, and a text that explains it line by line")
+        .after_help(
+            "Example: spardimple new line.sheet\n\n\
+             The text stands beside the sheet, its name with .txt behind, since a sheet has no comments.\n\
+             Nothing is overwritten: if one of the two is there already, none is written, and the exit\n\
+             status is 3.",
+        )
+        .arg(file("FILE", "The new sheet, such as line.sheet"))
 }
 
 fn plan() -> Command {

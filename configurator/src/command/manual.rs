@@ -1,7 +1,7 @@
-//! The manual page, in the form that `man` reads, from the description of the arguments and the
-//! table of refusals. The build writes it.
+//! The manual page, in the form that `man` reads, from the description of the arguments, the
+//! table of a sheet's fields and the table of refusals. The build writes it.
 
-use super::{cli, refusals};
+use super::{cli, fields, refusals};
 use clap::{Arg, Command};
 use std::fmt::Write;
 
@@ -20,6 +20,7 @@ pub fn page() -> String {
     for sub in command.get_subcommands() {
         subcommand(&mut page, sub);
     }
+    sheets(&mut page);
     page.push_str(".SH REFUSALS\nThe numbers of refusals, what they mean and what to do.\n");
     for entry in refusals::TABLE {
         let meaning = escaped(&entry.meaning.replace("{}", "N"));
@@ -29,6 +30,19 @@ pub fn page() -> String {
     let below = plain(command.get_after_help().map(ToString::to_string));
     let _ = write!(page, ".SH NOTES\n.nf\n{below}\n.fi\n");
     page
+}
+
+/// The lines of a sheet, and each field.
+fn sheets(page: &mut String) {
+    let lines = |sentences: &[&str]| escaped(&sentences.join("\n"));
+    let _ = writeln!(page, ".SH SHEETS\n{}", lines(&fields::SHEET));
+    for line in &fields::LINES {
+        let _ = writeln!(page, ".SS {}\n{}", line.word, lines(line.about));
+        for field in line.fields {
+            let words = lines(&field.sentences());
+            let _ = writeln!(page, ".TP\n.B {}\n{words}", field.name);
+        }
+    }
 }
 
 /// A subcommand, its arguments and its example.

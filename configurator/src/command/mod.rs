@@ -9,12 +9,14 @@ pub mod cli;
 pub mod columns;
 pub mod desk;
 pub mod drawing;
+pub mod fields;
 pub mod files;
 pub mod fmt;
 pub mod html;
 pub mod json;
 pub mod layout;
 pub mod lent;
+pub mod new;
 pub mod plan;
 pub mod report;
 pub mod show;
@@ -187,6 +189,7 @@ fn answer_words(error: &clap::Error, streams: &mut Streams) -> Result<Status, Fa
 
 fn attempt(given: &ArgMatches, streams: &mut Streams) -> Result<Status, Failure> {
     match given.subcommand() {
+        Some(("new", given)) => new::run(given, streams),
         Some(("plan", given)) => plan::run(given, streams),
         Some(("check", given)) => check::run(given, streams),
         Some(("fmt", given)) => fmt::run(given, streams),

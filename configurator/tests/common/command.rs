@@ -33,6 +33,12 @@ pub fn program_at(program: &Path) -> Command {
     command
 }
 
+/// The program as a shell takes it.
+pub fn typed() -> String {
+    let program = env!("CARGO_BIN_EXE_spardimple");
+    format!("{} '{program}'", emulator().unwrap_or_default())
+}
+
 /// What runs programs here, on a machine that is not x86-64.
 pub fn emulator() -> Option<String> {
     std::env::var("CARGO_TARGET_X86_64_UNKNOWN_LINUX_GNU_RUNNER").ok()
