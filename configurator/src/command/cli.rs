@@ -122,8 +122,8 @@ fn verdict() -> Command {
              whole, 1 first, 2 last; then x, D, T, J, P, M). COSTS has the nine constants, 36 bytes.\n\n\
              passes: in no length of time is more work due than fits. overloaded at N: within N ticks\n\
              more work is due than fits. undecided: in every length up to 100,000,000 ticks more work\n\
-             comes than it has ticks; that is no maybe, such a core does not pass. The exit status is 0\n\
-             for all three; with --exit-status it is 0 passes, 4 overloaded, 5 undecided.",
+             comes than it has ticks; such a core does not pass, and no plan has one. The exit status is\n\
+             0 for all three; with --exit-status it is 0 passes, 4 overloaded, 5 undecided.",
         )
         .override_usage(
             "spardimple verdict [OPTIONS] RECORDS COSTS\n       \
