@@ -206,7 +206,7 @@ fn on_paper() {
 
 /// All words are inside the margins, and large enough.
 fn assert_legible(words: &[Word], width: f64, height: f64, place: &str) {
-    let margin = 72.0 / 25.4 * 14.0 - 0.5;
+    let margin = 72.0 / 25.4 * 14.0 - 3.0;
     for word in words {
         let beside = word.left < margin || word.right > width - margin;
         let above = word.top < margin || word.bottom > height - margin;
