@@ -1,4 +1,4 @@
-//! The C functions of the proved library, each behind a safe function, and two of the C library. The
+//! The C functions of the proved library, each behind a safe function, and three of the C library. The
 //! only `unsafe` of the package stands here.
 //!
 //! Nothing checks these declarations against the Rattle source, so each import has the signature
@@ -10,6 +10,7 @@
 use std::fs::File;
 use std::io;
 use std::os::unix::io::IntoRawFd;
+use std::sync::atomic::{AtomicBool, Ordering};
 
 mod imports {
     extern "C" {
@@ -34,6 +35,9 @@ mod imports {
 
         /// The C library's `int close(int fd)`
         pub fn close(fd: i32) -> i32;
+
+        /// The C library's `int fcntl(int fd, int cmd, ...)`, here with no third word
+        pub fn fcntl(fd: i32, cmd: i32, ...) -> i32;
     }
 }
 
@@ -98,4 +102,29 @@ pub fn close(file: File) -> io::Result<()> {
         0 => Ok(()),
         _ => Err(io::Error::last_os_error()),
     }
+}
+
+/// The system's number for an error about a folder.
+pub const EISDIR: i32 = 21;
+
+/// Whether standard output was open when the program began. Before `main`, Rust's runtime opens
+/// `/dev/null` where it was not, and then nothing tells.
+#[must_use]
+pub fn output_was_open() -> bool {
+    OUTPUT_WAS_OPEN.load(Ordering::Relaxed)
+}
+
+static OUTPUT_WAS_OPEN: AtomicBool = AtomicBool::new(true);
+
+/// What the system runs before Rust's runtime begins.
+#[used]
+#[link_section = ".init_array"]
+static BEFORE_MAIN: extern "C" fn() = look_at_output;
+
+extern "C" fn look_at_output() {
+    const F_GETFD: i32 = 1;
+    // SAFETY: with this command the function takes no third word, any number will do, and it touches
+    // no memory but `errno`.
+    let open = unsafe { imports::fcntl(1, F_GETFD) } != -1;
+    OUTPUT_WAS_OPEN.store(open, Ordering::Relaxed);
 }

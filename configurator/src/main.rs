@@ -1,8 +1,9 @@
 //! The command for people: `spardimple --help` says what it does. Everything is in the library's
 //! `command`; here it gets its words and its streams.
 
-use configurator::command::{files, run, Failure, Streams};
-use configurator::ffi::{close, is_terminal};
+use configurator::command::output::Standard;
+use configurator::command::{run, Streams};
+use configurator::ffi::is_terminal;
 use std::env;
 use std::io;
 use std::process::ExitCode;
@@ -10,7 +11,7 @@ use std::process::ExitCode;
 fn main() -> ExitCode {
     let no_colour = env::var_os("NO_COLOR").map_or(false, |set| !set.is_empty());
     let mut err = io::stderr();
-    let done = files::output().and_then(|mut out| {
+    let done = Standard::new().and_then(|mut out| {
         let mut streams = Streams {
             out: &mut out,
             err: &mut err,
@@ -18,8 +19,7 @@ fn main() -> ExitCode {
             progress: is_terminal(2),
         };
         let status = run(env::args_os().skip(1), &mut streams);
-        let closed = close(out).map_err(|error| Failure::of_output(&error));
-        closed.map(|()| status)
+        out.close().map(|()| status)
     });
     ExitCode::from(done.unwrap_or_else(|failure| failure.tell(&mut err)) as u8)
 }

@@ -425,3 +425,85 @@ fn what_may_not_be_written() {
     assert_eq!(names(&folder), ["out.listing"]);
     allow(&folder, 0o755);
 }
+
+/// Standard output that is the sheet itself is wrong use, whichever way the shell opened it. What was
+/// appended to keeps its bytes.
+#[test]
+fn standard_output_is_never_the_sheet() {
+    let path = folder("output-is-sheet").join("s.sheet");
+    for command in ["plan", "show", "report", "fmt", "check", "desk"] {
+        for (append, words) in [(true, SHEET), (false, "")] {
+            fs::write(&path, SHEET).unwrap();
+            let mut options = File::options();
+            options.write(true).append(append).truncate(!append);
+            let wrong = program()
+                .arg(command)
+                .arg(&path)
+                .stdout(options.open(&path).unwrap())
+                .output()
+                .unwrap();
+            assert_eq!(wrong.status.code(), Some(2), "{command}");
+            let said = format!("{}: standard output is this file itself", path.display());
+            assert!(text(&wrong.stderr).starts_with(&said), "{command}");
+            assert_eq!(fs::read_to_string(&path).unwrap(), words, "{command}");
+        }
+    }
+}
+
+/// Standard output that is closed loses the answer, and says so; what goes to a file is not lost.
+#[test]
+fn closed_output() {
+    let run = |words: &str| {
+        let runner = std::env::var("CARGO_TARGET_X86_64_UNKNOWN_LINUX_GNU_RUNNER");
+        let program = env!("CARGO_BIN_EXE_spardimple");
+        let line = format!("{} '{program}' {words}", runner.unwrap_or_default());
+        let mut shell = Command::new("sh");
+        shell.args(["-c", &line]).current_dir(root(""));
+        shell.output().unwrap()
+    };
+    for words in [
+        "plan examples/film-line.sheet",
+        "man",
+        "verdict --table examples/film-core.table",
+    ] {
+        let lost = run(&format!("{words} >&-"));
+        assert_eq!(lost.status.code(), Some(3), "{words}");
+        assert_eq!(
+            text(&lost.stderr),
+            "standard output: it is closed\n",
+            "{words}"
+        );
+        assert_eq!(
+            run(&format!("{words} >/dev/null")).status.code(),
+            Some(0),
+            "{words}"
+        );
+    }
+    let out = folder("closed").join("film.listing");
+    let kept = run(&format!(
+        "plan examples/film-line.sheet -o '{}' >&-",
+        out.display()
+    ));
+    assert_eq!(kept.status.code(), Some(0));
+    assert_eq!(
+        fs::read_to_string(out).unwrap(),
+        file("examples/film-line.listing")
+    );
+}
+
+/// A link that leads nowhere stays, and the answer is not written in its place.
+#[test]
+fn a_link_that_leads_nowhere() {
+    let folder = folder("nowhere");
+    let link = folder.join("link");
+    symlink("missing/plan.listing", &link).unwrap();
+    let failed = plan_into(&link, "examples/labeller.sheet");
+    assert_eq!(failed.status.code(), Some(3));
+    let said = format!("{}: this is a link that leads nowhere\n", link.display());
+    assert_eq!(text(&failed.stderr), said);
+    assert_eq!(
+        fs::read_link(&link).unwrap().to_str(),
+        Some("missing/plan.listing")
+    );
+    assert_eq!(names(&folder), ["link"]);
+}

@@ -279,7 +279,7 @@ fn batches() {
     assert_eq!([0, 1, 2].map(answer), ["refused", "planned", "failed"]);
     assert_eq!(answers[0]["refused"]["number"], 5);
     assert_eq!(answers[1]["pieces"], 12);
-    assert_eq!(reopened(&answers[0]["older_listing"]), b"older");
+    assert_eq!(reopened(&answers[0]["older"]), b"older");
     assert_eq!(
         reopened(&answers[1]),
         fs::read(root("examples/film-line.sheet")).unwrap()

@@ -122,6 +122,7 @@ fn nowhere_to_put_it() {
     for words in [
         &["plan", sheet, "--origin"][..],
         &["plan", sheet, "--origin", "-o", "-"],
+        &["plan", sheet, "--origin", "-o", "/dev/null"],
     ] {
         let refused = spardimple(words);
         assert_eq!(refused.status.code(), Some(2), "{words:?}");
@@ -135,4 +136,28 @@ fn nowhere_to_put_it() {
     assert_eq!(refused.status.code(), Some(2));
     assert_eq!(names(&folder), ["a.origin"]);
     assert_eq!(fs::read_to_string(path).unwrap(), file(sheet));
+}
+
+/// Listing and origin are written together or not at all; an origin of an older listing is named.
+#[test]
+fn listing_and_origin_fit() {
+    let folder = folder("origin-fits");
+    let listing = folder.join("a.listing");
+    let out = listing.to_str().unwrap();
+    let plan = |name: &str, more: &[&str]| {
+        let sheet = format!("examples/{name}.sheet");
+        spardimple(&[&["plan", &sheet, "-o", out], more].concat())
+    };
+    assert_eq!(plan("film-line", &["--origin"]).status.code(), Some(0));
+    let later = plan("labeller", &[]);
+    assert_eq!(later.status.code(), Some(0));
+    let said = format!("{out}.origin: this is of an older listing\n");
+    assert_eq!(text(&later.stderr), said);
+    fs::remove_file(format!("{out}.origin")).unwrap();
+    fs::create_dir(format!("{out}.origin")).unwrap();
+    let failed = plan("film-line", &["--origin"]);
+    assert_eq!(failed.status.code(), Some(3));
+    let written = fs::read_to_string(&listing).unwrap();
+    assert_eq!(written, file("examples/labeller.listing"));
+    assert_eq!(names(&folder), ["a.listing", "a.listing.origin"]);
 }

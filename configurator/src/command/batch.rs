@@ -7,7 +7,7 @@ mod outputs;
 mod summary;
 
 use super::json::{self, Asked};
-use super::{cli, files, parsed, planned, Failure, Planned, Status, Streams};
+use super::{cli, files, output, parsed, planned, Failure, Planned, Status, Streams};
 use crate::explain::Explained;
 use crate::origin;
 use clap::ArgMatches;
@@ -38,7 +38,8 @@ pub struct Outcome {
     pub answer: Answer,
     /// Its SHA-256, if it was read whole.
     pub digest: Option<String>,
-    /// A listing that was there before and is not of the sheet as it is now.
+    /// A listing that was there before and is not of the sheet as it is now, or what is said beside
+    /// the listing about an older one.
     pub older: Option<PathBuf>,
 }
 
@@ -157,12 +158,14 @@ impl Wanted<'_> {
     /// Writes a listing.
     fn write(&self, sheet: &Path, bytes: &[u8], listing: &[u8], to: &Path) -> Result<(), Failure> {
         to.parent().map_or(Ok(()), make)?;
-        files::write(to, listing)?;
-        if self.origins {
-            let said = origin::beside(&files::shown(sheet), bytes, listing);
-            files::write(&origin::place(to), said.as_bytes())?;
+        let prepared = output::prepare(to, listing)?;
+        if !self.origins {
+            return prepared.place();
         }
-        Ok(())
+        let said = origin::beside(&files::shown(sheet), bytes, listing);
+        let beside = origin::place(to);
+        let said = output::prepare(&beside, said.as_bytes())?;
+        prepared.place().and_then(|()| said.place())
     }
 }
 
@@ -190,7 +193,15 @@ fn plan(
             name: name.clone(),
             answer,
             digest,
-            older: listing.filter(|listing| !planned && listing.is_file()),
+            older: listing.and_then(|listing| {
+                let said = wanted.map_or(false, |wanted| wanted.origins);
+                let older = if planned {
+                    origin::place(&listing)
+                } else {
+                    listing
+                };
+                (older.is_file() && !(planned && said)).then_some(older)
+            }),
         }
     };
     Ok(Batch {

@@ -29,10 +29,14 @@ Examples:
 A sheet has lines of fields parted by one tab, in this order:
 {LINES}
 
-Where a file is read, - stands for standard input.
+`spardimple new FILE` explains each field. Where a file is read, - stands for standard input, but
+not for the sheet of desk; behind -o it stands for standard output.
 
 A file is written whole or not at all. A file that is read is never overwritten, whichever name -o
 has for it: that is wrong use. A read-only file is left as it is.
+
+In a checkout of the project, `./spardimple --setup` before a command installs the packages that
+are missing, and `./spardimple package -o DIR` writes packages for machines without the kit.
 
 Exit status:
   0  accepted: planned, or judged, whatever the verdict

@@ -1,16 +1,13 @@
-//! Reading and writing files: what is read is bounded, what is written is written whole or not at
-//! all. Names may be any bytes that the system allows.
+//! Reading files: what is read is bounded. Names may be any bytes that the system allows.
 
 use super::Failure;
-use crate::ffi::close;
 use crate::text;
 use std::fs::{self, File, Metadata};
-use std::io::{self, Read, Seek, Write};
+use std::io::{self, Read, Seek};
 use std::os::unix::ffi::OsStrExt;
 use std::os::unix::fs::MetadataExt;
 use std::os::unix::io::AsFd;
 use std::path::Path;
-use tempfile::Builder;
 
 pub use crate::forms::SHEET_MOST;
 
@@ -159,13 +156,24 @@ fn beginning(file: impl Read, path: &Path, most: usize) -> Result<Vec<u8>, Failu
     Ok(bytes)
 }
 
+/// Opens a file to read it. Standard output that is the same file, as in `fmt a > a`, is wrong use: the
+/// shell may have emptied it already, but nobody shall take that for an answer.
 fn open(path: &Path) -> Result<File, Failure> {
     let opened = if is_standard(path) {
         input()
     } else {
         File::open(path)
     };
-    opened.map_err(|error| Failure::of(path, &error))
+    let file = opened.map_err(|error| Failure::of(path, &error))?;
+    let output = io::stdout().as_fd().try_clone_to_owned().map(File::from);
+    let there = identity(output.and_then(|output| output.metadata()));
+    if there.is_some() && there == identity(file.metadata()) {
+        return Err(Failure::wrong_use(format!(
+            "{}: standard output is this file itself; choose another place for the output",
+            shown(path)
+        )));
+    }
+    Ok(file)
 }
 
 /// Standard input, as a file. (Rust's own takes one that cannot be read for an empty one.)
@@ -177,83 +185,8 @@ pub fn input() -> io::Result<File> {
     io::stdin().as_fd().try_clone_to_owned().map(File::from)
 }
 
-/// Standard output, as a file. (Rust's own standard output is silent about one that cannot be
-/// written to at all.)
-///
-/// # Errors
-///
-/// The process may open no more files.
-pub fn output() -> Result<File, Failure> {
-    let opened = io::stdout().as_fd().try_clone_to_owned();
-    opened
-        .map(File::from)
-        .map_err(|error| Failure::of_output(&error))
-}
-
 /// Whether standard input, or where something is written standard output, is meant.
 #[must_use]
 pub fn is_standard(path: &Path) -> bool {
     path == Path::new("-")
-}
-
-/// Writes a file whole or not at all: inside a new folder beside it, from which it is moved to its
-/// place. A link is followed; what is no ordinary file, as `/dev/null`, is written to as it is.
-///
-/// A file can be moved over one that may not be written, so the one that is there is opened first.
-/// Root may open every file, so its permissions are looked at too.
-///
-/// The folder is `tempfile`'s, so its name is new and it goes whatever happens. The file in it is
-/// ours: one that `tempfile` makes is for its owner's eyes alone, and stays so.
-///
-/// # Errors
-///
-/// The file cannot be written. Then it is as it was.
-pub fn write(path: &Path, bytes: &[u8]) -> Result<(), Failure> {
-    let failed = |error: io::Error| Failure::of(path, &error);
-    let target = fs::canonicalize(path).unwrap_or_else(|_| path.to_owned());
-    let there = fs::metadata(&target).ok();
-    let told = |why: &str| Failure::new(format!("{}: {why}", shown(path)));
-    match &there {
-        Some(there) if !there.is_file() => {
-            return File::create(&target)
-                .and_then(|mut file| {
-                    file.write_all(bytes)?;
-                    close(file)
-                })
-                .map_err(failed);
-        }
-        Some(there) if there.permissions().readonly() => {
-            return Err(told("the file is read-only"));
-        }
-        Some(_) => drop(File::options().write(true).open(&target).map_err(failed)?),
-        None => {}
-    }
-    let (folder, name) =
-        (target.parent().zip(target.file_name())).ok_or_else(|| told("this is no file's name"))?;
-    let here = folder.as_os_str().is_empty();
-    let folder = if here { Path::new(".") } else { folder };
-    let beside = Builder::new().prefix(".spardimple-").tempdir_in(folder);
-    let beside = beside.map_err(|error| {
-        let (folder, why) = (shown(folder), unplaced(&error));
-        told(&format!("the folder {folder} cannot be written: {why}"))
-    })?;
-    let part = beside.path().join(name);
-    File::create(&part)
-        .and_then(|mut file| {
-            file.write_all(bytes)?;
-            if let Some(there) = there {
-                file.set_permissions(there.permissions())?;
-            }
-            file.sync_all()?;
-            close(file)
-        })
-        .and_then(|()| fs::rename(&part, &target))
-        .map_err(failed)
-}
-
-/// The system's words for an error of `tempfile`, without the name of its folder behind them.
-fn unplaced(error: &io::Error) -> String {
-    let words = error.to_string();
-    let system = words.split_once(" at path ").map(|(system, _)| system);
-    system.unwrap_or(&words).to_owned()
 }

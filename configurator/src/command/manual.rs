@@ -28,7 +28,11 @@ pub fn page() -> String {
         let _ = writeln!(page, ".TP\n.B {}\n{meaning}.\n{remedy}.", entry.number);
     }
     let below = plain(command.get_after_help().map(ToString::to_string));
-    let _ = write!(page, ".SH NOTES\n.nf\n{below}\n.fi\n");
+    let (notes, statuses) = below
+        .split_once("\n\nExit status:\n")
+        .unwrap_or((&below, ""));
+    let _ = write!(page, ".SH EXIT STATUS\n.nf\n{statuses}\n.fi\n");
+    let _ = write!(page, ".SH NOTES\n.nf\n{notes}\n.fi\n");
     page
 }
 

@@ -17,6 +17,7 @@ pub mod json;
 pub mod layout;
 pub mod lent;
 pub mod new;
+pub mod output;
 pub mod plan;
 pub mod report;
 pub mod show;
@@ -156,7 +157,7 @@ impl Streams<'_> {
     fn deliver(&mut self, out: Option<&Path>, bytes: &[u8]) -> Result<Status, Failure> {
         match out {
             Some(path) if !files::is_standard(path) => {
-                files::write(path, bytes).map(|()| Status::Accepted)
+                output::write(path, bytes).map(|()| Status::Accepted)
             }
             _ => self.print(bytes),
         }

@@ -1,9 +1,10 @@
 //! `plan`: the listing of a sheet.
 
 use super::json::{self, Asked};
-use super::{cli, files, parsed, planned, Failure, Planned, Status, Streams};
+use super::{cli, files, output, parsed, planned, Failure, Planned, Status, Streams};
 use crate::origin;
 use clap::ArgMatches;
+use std::fs;
 use std::path::Path;
 
 /// Prints or writes the listing.
@@ -24,8 +25,8 @@ fn plan(given: &ArgMatches, sheet: &Path, streams: &mut Streams) -> Result<Statu
     let out = cli::path(given, "out");
     let out = out.as_deref();
     let beside = out.filter(|_| given.get_flag("origin")).map(origin::place);
-    if beside.is_some() && out.map_or(false, files::is_standard) {
-        let why = "--origin: there is no file beside standard output; name one with -o";
+    if beside.is_some() && !out.map_or(false, is_file) {
+        let why = "--origin: there is a file beside a file only; name one with -o";
         return Err(Failure::wrong_use(why.to_owned()));
     }
     let beside = beside.as_deref();
@@ -40,9 +41,18 @@ fn plan(given: &ArgMatches, sheet: &Path, streams: &mut Streams) -> Result<Statu
             if given.get_flag("json") {
                 listing = in_json(json::listing(&parsed(&listing)?));
             }
+            if let (Some(out), Some(beside)) = (out, beside) {
+                let said = origin::beside(&name, &bytes, &listing);
+                let listing = output::prepare(out, &listing)?;
+                let said = output::prepare(beside, said.as_bytes())?;
+                listing.place().and_then(|()| said.place())?;
+                return Ok(Status::Accepted);
+            }
             streams.deliver(out, &listing)?;
-            if let Some(beside) = beside {
-                files::write(beside, origin::beside(&name, &bytes, &listing).as_bytes())?;
+            let older = out.map(origin::place).filter(|older| older.is_file());
+            if let Some(older) = older {
+                let older = files::shown(&older);
+                streams.say(&format!("{older}: this is of an older listing"));
             }
             Ok(Status::Accepted)
         }
@@ -54,4 +64,10 @@ fn plan(given: &ArgMatches, sheet: &Path, streams: &mut Streams) -> Result<Statu
             Ok(Status::Refused)
         }
     }
+}
+
+/// Whether an output is an ordinary file, or will be.
+fn is_file(out: &Path) -> bool {
+    let there = fs::metadata(out);
+    !files::is_standard(out) && there.map_or(true, |there| there.is_file())
 }

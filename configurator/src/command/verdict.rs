@@ -20,7 +20,12 @@ pub fn run(given: &ArgMatches, streams: &mut Streams) -> Result<Status, Failure>
         (of_table(&table), vec![("table", table)])
     } else {
         let (records, costs) = (cli::needed(given, "RECORDS"), cli::needed(given, "COSTS"));
-        let done = of_bytes(&records, &costs);
+        let done = if files::is_standard(&records) && files::is_standard(&costs) {
+            let why = "- can stand for one of the two files only";
+            Err(Failure::wrong_use(why.to_owned()))
+        } else {
+            of_bytes(&records, &costs)
+        };
         (done, vec![("records", records), ("costs", costs)])
     };
     let told = given.get_flag("exit-status");

@@ -40,7 +40,7 @@ fn outcome(folder: &Path, outcome: &Outcome) -> Fields {
     let mut fields = json::named(&path);
     fields.insert("sha256".to_owned(), json!(outcome.digest));
     let older = outcome.older.as_deref().map(json::named);
-    fields.insert("older_listing".to_owned(), json!(older));
+    fields.insert("older".to_owned(), json!(older));
     fields.extend(match &outcome.answer {
         Answer::Planned { tasks, pieces } => {
             json::fields(json!({ "answer": "planned", "tasks": tasks, "pieces": pieces }))

@@ -63,10 +63,12 @@ fn below(batch: &Batch) -> Vec<String> {
     let mut lines = Vec::new();
     for outcome in &batch.sheets {
         if let Some(older) = &outcome.older {
+            let what = match outcome.status() {
+                Status::Accepted => "what an older listing of it came from",
+                _ => "an older listing of it",
+            };
             let (name, older) = (named(&outcome.name), files::shown(older));
-            lines.push(format!(
-                "{name}: an older listing of it is still there, unchanged: {older}"
-            ));
+            lines.push(format!("{name}: {what} is still there, unchanged: {older}"));
         }
     }
     for (name, what) in &batch.skipped {
