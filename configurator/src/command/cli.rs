@@ -274,7 +274,10 @@ fn short_word(word: &str) -> Result<String, String> {
     if formed && word.chars().any(char::is_alphabetic) {
         Ok(word.to_owned())
     } else {
-        Err("a unit is a word of at most 8 letters and digits, as us".to_owned())
+        Err(
+            "a unit is a word of at most 8 letters and digits, with a letter in it, as us"
+                .to_owned(),
+        )
     }
 }
 

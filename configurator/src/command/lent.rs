@@ -48,6 +48,7 @@ pub fn wrong(refusal: Refusal, records: &Lent, costs: &Lent) -> Result<Vec<Wrong
                 }
                 None => format!("more than {} records", RECORDS_MOST + 1),
             };
+            let remedy = "share the pieces out over two cores".to_owned();
             told(false, format!("{has}, {RECORDS_MOST} at most"), remedy)
         }
     }

@@ -154,7 +154,7 @@ fn drawings(body: &mut String, sheet: &Sheet, listing: &Listing, unit: &str) {
          <p class=\"note\"><strong>A bar is not when a piece runs.</strong> It is the window that the piece must be done \
          in, from its task's release on; a last piece's begins where the first one's ends. The filled part is the budget, \
          the time that the piece needs at most. The thin bar below is the charged time, which has the overheads too and \
-         is what the core is judged with. When in its window a piece runs is settled as the machine runs.</p>\n{}{}",
+         is what the core is judged with. When a piece runs inside its window, the machine decides as it runs.</p>\n{}{}",
         drawing::PATTERNS,
         drawing::key(listing),
         cores(drawing::longest(listing))
