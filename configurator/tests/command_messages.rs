@@ -110,7 +110,7 @@ fn the_file_that_is_wrong_is_named() {
             costs.clone(),
             "film.rec: refused (6): one too many; at most 64 parts, 64 tasks, 79 records\n  \
              81 records, 79 at most\n  \
-             to do: take away what is not used, or share the tasks out over two controllers\n"
+             to do: share the pieces out over two cores\n"
                 .to_owned(),
         ),
     ] {
