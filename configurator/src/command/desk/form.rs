@@ -33,7 +33,7 @@ impl Fault {
 
     /// The fault with what to do about it.
     #[must_use]
-    pub fn to_do(self, to_do: &'static str) -> Self {
+    pub fn with(self, to_do: &'static str) -> Self {
         Fault {
             to_do: Some(to_do),
             ..self
@@ -61,12 +61,12 @@ pub fn fault(edit: &Line) -> Option<Fault> {
     let (whole, end) = (0..bytes.len(), bytes.len()..bytes.len());
     if bytes.starts_with(b"\xef\xbb\xbf") {
         let why = "a byte-order mark, which some editors put before the first word";
-        return Some(Fault::new(0..3, why).to_do("save the script without it"));
+        return Some(Fault::new(0..3, why).with("save the script without it"));
     }
     if let Some(at) = bytes.iter().position(|&byte| byte == b'\r') {
         let why = "a carriage return; the script has another system's line ends";
         let to_do = "`tr -d '\\r' < EDITS > NEW` takes them off";
-        return Some(Fault::new(at..at + 1, why).to_do(to_do));
+        return Some(Fault::new(at..at + 1, why).with(to_do));
     }
     if edit.is_long() {
         let why = format!("the line is longer than {LINE_MOST} bytes, and no edit is");
@@ -74,7 +74,7 @@ pub fn fault(edit: &Line) -> Option<Fault> {
     }
     if !edit.ended {
         let why = "the script ends here without a newline";
-        return Some(Fault::new(end, why).to_do("end the last line too"));
+        return Some(Fault::new(end, why).with("end the last line too"));
     }
     if bytes.is_empty() {
         return Some(Fault::new(whole, "the line is empty"));
@@ -91,7 +91,7 @@ pub fn fault(edit: &Line) -> Option<Fault> {
     if has != wanted {
         let why = format!("fields behind `{name}`: {has}, where {wanted} should stand");
         return Some(if bytes.contains(&b' ') {
-            Fault::new(whole, format!("{why}; {SPACES}")).to_do(PART)
+            Fault::new(whole, format!("{why}; {SPACES}")).with(PART)
         } else {
             Fault::new(whole, why)
         });
@@ -120,9 +120,9 @@ fn no_word(field: &[u8]) -> Fault {
         Fault::new(whole, format!("`{lower_shown}` is for the prompt, {place}"))
     } else if known && lower != word {
         let why = format!("the word is `{lower_shown}`, in lower case");
-        Fault::new(whole, why).to_do("write the word in lower case")
+        Fault::new(whole, why).with("write the word in lower case")
     } else if known {
-        Fault::new(whole, SPACES).to_do(PART)
+        Fault::new(whole, SPACES).with(PART)
     } else {
         let why = "an edit begins with `add`, `withdraw`, `retime` or `list`";
         Fault::new(whole, why)

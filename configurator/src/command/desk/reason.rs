@@ -84,7 +84,7 @@ fn stuck(refusal: Refusal, edit: &Line, held: &Held) -> Fault {
     } else {
         Fault::new(0..0, why)
     };
-    fault.to_do(MAKE_ROOM)
+    fault.with(MAKE_ROOM)
 }
 
 /// A fault of the name behind the edit's word.
