@@ -599,8 +599,8 @@ fn words_that_end_the_prompt() {
     }
 }
 
-/// The prompt and what is typed go to the terminal, the answers to standard output. A terminal on which no
-/// line can be edited has no prompt.
+/// The prompt and what is typed go to the terminal, the answers to standard output. There is no
+/// prompt where messages go elsewhere, nor on a terminal on which no line can be edited.
 #[test]
 fn a_prompt_beside_the_answers() {
     let folder = folder("desk-prompt");
@@ -619,6 +619,19 @@ fn a_prompt_beside_the_answers() {
     terminal.types("\u{4}");
     assert_eq!(terminal.ends().1.code(), Some(0));
     assert_eq!(fs::read_to_string(&out).unwrap(), "ok\nrefusal\t5\t0\n");
+
+    let err = folder.join("messages");
+    let words = format!("desk {FILM} 2> '{}'", err.display());
+    let mut terminal = Terminal::start(&words, "xterm").unwrap();
+    terminal.types("help\n");
+    let shown = terminal.shows("refusal\t8\t0\r\n");
+    terminal.types("\u{4}");
+    assert!(!shown.contains("desk> "), "{shown}");
+    assert_eq!(terminal.ends().1.code(), Some(0));
+    let said = fs::read_to_string(&err).unwrap();
+    let why =
+        "\n  `help` is for the prompt, where standard input and standard error are terminals\n";
+    assert!(said.contains(why), "{said}");
 
     let mut terminal = Terminal::start(&format!("desk {FILM}"), "dumb").unwrap();
     terminal.types("withdraw\tpanel\n");
