@@ -10,8 +10,9 @@ use common::command::{
 };
 use inputs::sheets::{SHEET, SMALL};
 use inputs::Random;
-use std::fs::{self, File};
+use std::fs::{self, File, Permissions};
 use std::io::{BufRead, BufReader, Write};
+use std::os::unix::fs::PermissionsExt;
 use std::path::Path;
 use std::process::{Command, Output, Stdio};
 use std::thread::{self, sleep};
@@ -44,7 +45,7 @@ fn fed(command: &mut Command, bytes: &[u8]) -> Output {
 
 const FILM: &str = "examples/film-line.sheet";
 
-/// What to do where the form is wrong.
+/// What to do where the form is wrong and the cause is not known better.
 const FORM: &str = "fields are parted by one tab, lines ended by one newline, the last line too; numbers have 1 to 7 \
 digits, names 1 to 24 letters, digits, hyphens and full stops";
 
@@ -75,7 +76,7 @@ fn desk_plays_edits() {
   add⇥checkweigher⇥250⇥5000⇥5000⇥0⇥20⇥40
       ^^^^^^^^^^^^
   after this edit there would be 12 tasks; the plan stays as it was
-  to do: add a core, or give some task less work (C) or more time (D, T); a smaller grain can help too
+  to do: withdraw a task, or retime one to less work (C) or more time (D, T); cores and grain are changed in the sheet
 edit:4: refused (5): there is no part or task of that name
   withdraw⇥reject-arm
            ^^^^^^^^^^
@@ -103,7 +104,8 @@ fn a_refused_sheet() {
     assert_eq!(refused.stderr, planned.stderr);
 }
 
-/// What is wrong with a line that has the form of no edit.
+/// What is wrong with a line that has the form of no edit, and what to do where the cause is known. The
+/// prompt's own words are lines like any other here.
 #[test]
 fn forms_are_explained() {
     for (script, reasons) in [
@@ -112,28 +114,63 @@ fn forms_are_explained() {
             &[(
                 "list\\r\n      ^^",
                 "a carriage return; the script has another system's line ends",
+                "`tr -d '\\r' < EDITS > NEW` takes them off",
             )][..],
         ),
         (
-            "list",
-            &[("list", "the script ends here without a newline")],
+            "\u{feff}list\n",
+            &[(
+                "\\u{feff}list\n  ^^^^^^^^",
+                "a byte-order mark, which some editors put before the first word",
+                "save the script without it",
+            )],
         ),
         (
-            "withdraw panel\nList\n\nhelp\nwithdraw\tpanel\tpanel\n",
+            "list",
+            &[(
+                "list",
+                "the script ends here without a newline",
+                "end the last line too",
+            )],
+        ),
+        (
+            "withdraw panel\nadd\tx 1\nList\n\nhelp\nquit\nexit\nwithdraw\tpanel\tpanel\n",
             &[
                 (
                     "withdraw panel\n  ^^^^^^^^^^^^^^",
                     "there are spaces, and only tabs part fields",
+                    "put one tab between fields",
                 ),
-                ("List\n  ^^^^", "the word is `list`, in lower case"),
-                ("", "the line is empty"),
+                (
+                    "add⇥x 1\n  ^^^^^^^",
+                    "fields behind `add`: 1, where 7 should stand; there are spaces, and only tabs part fields",
+                    "put one tab between fields",
+                ),
+                (
+                    "List\n  ^^^^",
+                    "the word is `list`, in lower case",
+                    "write the word in lower case",
+                ),
+                ("", "the line is empty", FORM),
                 (
                     "help\n  ^^^^",
-                    "`help` is for the prompt, where standard input is a terminal",
+                    "`help` is for the prompt, where standard input and standard error are terminals",
+                    FORM,
+                ),
+                (
+                    "quit\n  ^^^^",
+                    "`quit` is for the prompt, where standard input and standard error are terminals",
+                    FORM,
+                ),
+                (
+                    "exit\n  ^^^^",
+                    "`exit` is for the prompt, where standard input and standard error are terminals",
+                    FORM,
                 ),
                 (
                     "withdraw⇥panel⇥panel\n  ^^^^^^^^^^^^^^^^^^^^",
                     "fields behind `withdraw`: 2, where 1 should stand",
+                    FORM,
                 ),
             ],
         ),
@@ -144,9 +181,9 @@ fn forms_are_explained() {
         assert_eq!(text(&played.stdout), answers);
         let reasons: Vec<String> = (1..)
             .zip(reasons)
-            .map(|(number, (line, why))| {
+            .map(|(number, (line, why, to_do))| {
                 format!(
-                    "edit:{number}: refused (8): not formed as it should be, or cut short\n  {line}\n  {why}\n  to do: {FORM}\n"
+                    "edit:{number}: refused (8): not formed as it should be, or cut short\n  {line}\n  {why}\n  to do: {to_do}\n"
                 )
             })
             .collect();
@@ -387,15 +424,24 @@ fn failures() {
             "/none/emulator: No such file or directory (os error 2)\n",
         );
     }
-    let ended = "the desk ended before its edits";
-    for (other, why) in [("/bin/false", "exit status: 1"), ("/bin/true", ended)] {
+    let named = "which SPARDIMPLE_DESK names, ended";
+    let folder = folder.join("bin");
+    fs::create_dir(&folder).unwrap();
+    let killed = folder.join("killed");
+    fs::write(&killed, "#!/bin/sh\nkill -9 $$\n").unwrap();
+    fs::set_permissions(&killed, Permissions::from_mode(0o755)).unwrap();
+    for (other, how) in [
+        ("/bin/false", "with exit status 1"),
+        ("/bin/true", "before its edits"),
+        (killed.to_str().unwrap(), "by signal 9"),
+    ] {
         for edits in ["/dev/zero", "examples/film-line.edits"] {
             let mut program = program();
             program
                 .env("SPARDIMPLE_DESK", other)
                 .env("SPARDIMPLE_EMULATOR", "")
                 .stdin(File::open(root("").join(edits)).unwrap());
-            failed(&mut program, &format!("{other}: {why}\n"));
+            failed(&mut program, &format!("{other}, {named} {how}\n"));
         }
     }
     // a refused sheet is answered too
@@ -406,7 +452,10 @@ fn failures() {
         .output()
         .unwrap();
     assert_eq!(unanswered.status.code(), Some(3));
-    assert_eq!(text(&unanswered.stderr), format!("/bin/true: {ended}\n"));
+    assert_eq!(
+        text(&unanswered.stderr),
+        format!("/bin/true, {named} before its edits\n")
+    );
 }
 
 /// Without `SPARDIMPLE_DESK` the program is the one that is installed beside the command. The command
@@ -429,6 +478,22 @@ fn the_installed_program() {
         assert_eq!(text(&played.stderr), "");
         assert_eq!(text(&played.stdout), file("examples/film-line.listing"));
     }
+    fs::remove_file(lib.join("desk")).unwrap();
+    fs::copy("/bin/false", lib.join("desk")).unwrap();
+    let mut program = program_at(&command);
+    let program = program
+        .env_remove("SPARDIMPLE_DESK")
+        .env("SPARDIMPLE_EMULATOR", "");
+    let failed = fed(program.args(["desk", FILM]), b"list\n");
+    assert_eq!(failed.status.code(), Some(3));
+    let place = fs::canonicalize(lib.join("desk")).unwrap();
+    assert_eq!(
+        text(&failed.stderr),
+        format!(
+            "{}, which is installed beside this command, ended with exit status 1\n",
+            place.display()
+        )
+    );
     let bytes = fs::read(&command).unwrap();
     let built_in = env!("CARGO_MANIFEST_DIR").as_bytes();
     assert!(!bytes.windows(built_in.len()).any(|part| part == built_in));
@@ -462,11 +527,18 @@ fn edits_at_a_prompt() {
         None => return,
     };
     let first = terminal.shows("desk> ");
-    let told = format!("edits on the plan of {FILM}; `help` has their forms, Ctrl-D ends\r\n");
+    let told = format!(
+        "edits on the plan of {FILM}\r\n\
+         the sheet itself is not changed, and nothing is kept when the desk ends\r\n\
+         `help` has the forms of edits; `quit`, `exit` or Ctrl-D ends\r\n"
+    );
     assert!(first.starts_with(&told), "{first}");
-    terminal.types("help\r");
-    let help = terminal.shows("desk> ");
-    assert!(help.contains("\r\n  withdraw  NAME "), "{help}");
+    for keys in ["help\r", "HELP\r", "?\r"] {
+        terminal.types(keys);
+        let help = terminal.shows("desk> ");
+        assert!(help.contains("\r\n  withdraw  NAME "), "{help}");
+        assert!(help.contains("`quit`, `exit` or Ctrl-D ends."), "{help}");
+    }
     let reason = |number: u8| {
         format!(
             "\r\nrefusal\t5\t0\r\nedit:{number}: refused (5): there is no part or task of that name\r\n  \
@@ -502,8 +574,33 @@ fn edits_at_a_prompt() {
     assert_eq!(status.code(), Some(1));
 }
 
-/// The prompt and what is typed go to the terminal, the answers to standard output. A terminal on which no
-/// line can be edited has no prompt.
+/// `quit` and `exit` end the run as Ctrl-D does, and are no refused edits. What comes behind them is not
+/// played. A line of no form has the prompt's own remedy.
+#[test]
+fn words_that_end_the_prompt() {
+    for (keys, status) in [
+        ("quit\r", 0),
+        (" Exit \r", 0),
+        ("\u{1b}[200~exit\nwithdraw none\n\u{1b}[201~\r", 0),
+        ("quit now\rquit\r", 1),
+    ] {
+        let mut terminal = match Terminal::start(&format!("desk --exit-status {FILM}"), "xterm") {
+            Some(terminal) => terminal,
+            None => return,
+        };
+        terminal.shows("desk> ");
+        terminal.types(keys);
+        let (rest, ended) = terminal.ends();
+        assert_eq!(ended.code(), Some(status), "{rest}");
+        let refusals = usize::from(status == 1);
+        assert_eq!(rest.matches("refusal\t").count(), refusals, "{rest}");
+        let to_do = "\r\n  to do: type help to see the forms of edits\r\n";
+        assert_eq!(rest.matches(to_do).count(), refusals, "{rest}");
+    }
+}
+
+/// The prompt and what is typed go to the terminal, the answers to standard output. There is no
+/// prompt where messages go elsewhere, nor on a terminal on which no line can be edited.
 #[test]
 fn a_prompt_beside_the_answers() {
     let folder = folder("desk-prompt");
@@ -522,6 +619,19 @@ fn a_prompt_beside_the_answers() {
     terminal.types("\u{4}");
     assert_eq!(terminal.ends().1.code(), Some(0));
     assert_eq!(fs::read_to_string(&out).unwrap(), "ok\nrefusal\t5\t0\n");
+
+    let err = folder.join("messages");
+    let words = format!("desk {FILM} 2> '{}'", err.display());
+    let mut terminal = Terminal::start(&words, "xterm").unwrap();
+    terminal.types("help\n");
+    let shown = terminal.shows("refusal\t8\t0\r\n");
+    terminal.types("\u{4}");
+    assert!(!shown.contains("desk> "), "{shown}");
+    assert_eq!(terminal.ends().1.code(), Some(0));
+    let said = fs::read_to_string(&err).unwrap();
+    let why =
+        "\n  `help` is for the prompt, where standard input and standard error are terminals\n";
+    assert!(said.contains(why), "{said}");
 
     let mut terminal = Terminal::start(&format!("desk {FILM}"), "dumb").unwrap();
     terminal.types("withdraw\tpanel\n");

@@ -49,14 +49,12 @@ pub fn run(given: &ArgMatches, streams: &mut Streams) -> Result<Status, Failure>
     let mut desk = Desk {
         program: Program::start(&bytes)?,
         held: Held::of(&quoted(&bytes)?),
+        typed: is_terminal(0) && streams.progress && prompt::is_possible(),
         played: 0,
         refused: false,
     };
-    if is_terminal(0) && streams.progress && prompt::is_possible() {
-        let name = files::shown(&sheet);
-        streams.say(&format!(
-            "edits on the plan of {name}; `help` has their forms, Ctrl-D ends"
-        ));
+    if desk.typed {
+        streams.say(&prompt::welcome(&files::shown(&sheet)));
         desk.converse(&mut prompt::keys(), streams)?;
     } else {
         desk.play(streams)?;
@@ -74,6 +72,8 @@ pub fn run(given: &ArgMatches, streams: &mut Streams) -> Result<Status, Failure>
 struct Desk {
     program: Program,
     held: Held,
+    /// Whether edits are typed at a prompt.
+    typed: bool,
     /// How many edits have been answered.
     played: usize,
     /// Whether one of them was refused.
@@ -129,9 +129,12 @@ impl Desk {
                     }
                     continue;
                 }
-                Typed::Ended => break,
+                Typed::Ended => return Ok(()),
             };
             for edit in text.lines().filter_map(prompt::edit) {
+                if prompt::asks_end(&edit) {
+                    return Ok(());
+                }
                 if prompt::asks_help(&edit) {
                     streams.say(prompt::HELP);
                     continue;
@@ -151,7 +154,6 @@ impl Desk {
                 }
             }
         }
-        Ok(())
     }
 
     /// Takes note of an answer, and says the reason of a refusal.
@@ -161,8 +163,11 @@ impl Desk {
             Answer::Accepted => self.held = self.held.after(edit),
             Answer::Refused(refusal) => {
                 self.refused = true;
-                let reason = reason::of(refusal, self.played, edit, &self.held);
-                streams.say(&reason.message("edit"));
+                let mut reason = reason::of(refusal, self.played, edit, &self.held);
+                if self.typed && refusal.number() == 8 {
+                    reason.to_do = prompt::TO_DO;
+                }
+                streams.say(&reason.message());
             }
             Answer::Listing | Answer::Other => {}
         }

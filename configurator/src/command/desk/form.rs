@@ -9,8 +9,40 @@ use crate::text::shown;
 use std::ops::Range;
 use std::str;
 
-/// Some bytes of an edit, and what is wrong with them.
-pub type Fault = (Range<usize>, String);
+/// What is wrong with an edit.
+#[derive(Clone, Debug, PartialEq, Eq)]
+pub struct Fault {
+    /// The bytes at fault; none where nothing can be pointed at.
+    pub part: Range<usize>,
+    /// What is wrong with them.
+    pub why: String,
+    /// What to do, where the cause is known better than the refusal tells it.
+    pub to_do: Option<&'static str>,
+}
+
+impl Fault {
+    /// A fault of these bytes.
+    #[must_use]
+    pub fn new(part: Range<usize>, why: impl Into<String>) -> Self {
+        Fault {
+            part,
+            why: why.into(),
+            to_do: None,
+        }
+    }
+
+    /// The fault with what to do about it.
+    #[must_use]
+    pub fn with(self, to_do: &'static str) -> Self {
+        Fault {
+            to_do: Some(to_do),
+            ..self
+        }
+    }
+}
+
+const SPACES: &str = "there are spaces, and only tabs part fields";
+const PART: &str = "put one tab between fields";
 
 /// An edit's word, then so many names, then so many numbers.
 struct Form(&'static str, usize, usize);
@@ -29,22 +61,23 @@ pub fn fault(edit: &Line) -> Option<Fault> {
     let (whole, end) = (0..bytes.len(), bytes.len()..bytes.len());
     if bytes.starts_with(b"\xef\xbb\xbf") {
         let why = "a byte-order mark, which some editors put before the first word";
-        return Some((0..3, why.to_owned()));
+        return Some(Fault::new(0..3, why).with("save the script without it"));
     }
     if let Some(at) = bytes.iter().position(|&byte| byte == b'\r') {
         let why = "a carriage return; the script has another system's line ends";
-        return Some((at..at + 1, why.to_owned()));
+        let to_do = "`tr -d '\\r' < EDITS > NEW` takes them off";
+        return Some(Fault::new(at..at + 1, why).with(to_do));
     }
     if edit.is_long() {
         let why = format!("the line is longer than {LINE_MOST} bytes, and no edit is");
-        return Some((whole, why));
+        return Some(Fault::new(whole, why));
     }
     if !edit.ended {
         let why = "the script ends here without a newline";
-        return Some((end, why.to_owned()));
+        return Some(Fault::new(end, why).with("end the last line too"));
     }
     if bytes.is_empty() {
-        return Some((whole, "the line is empty".to_owned()));
+        return Some(Fault::new(whole, "the line is empty"));
     }
     let fields = edit.fields();
     let word = *fields.first()?;
@@ -52,17 +85,16 @@ pub fn fault(edit: &Line) -> Option<Fault> {
     let &Form(name, names, numbers) = if let Some(form) = known {
         form
     } else {
-        return Some((0..word.len(), no_word(word)));
+        return Some(no_word(word));
     };
     let (has, wanted) = (fields.len() - 1, names + numbers);
     if has != wanted {
-        let spaces = if bytes.contains(&b' ') {
-            "; there are spaces, and only tabs part fields"
+        let why = format!("fields behind `{name}`: {has}, where {wanted} should stand");
+        return Some(if bytes.contains(&b' ') {
+            Fault::new(whole, format!("{why}; {SPACES}")).with(PART)
         } else {
-            ""
-        };
-        let why = format!("fields behind `{name}`: {has}, where {wanted} should stand{spaces}");
-        return Some((whole, why));
+            Fault::new(whole, why)
+        });
     }
     let mut placed = fields.iter().zip(edit.places()).enumerate().skip(1);
     placed.find_map(|(at, (field, place))| {
@@ -71,24 +103,29 @@ pub fn fault(edit: &Line) -> Option<Fault> {
         } else {
             number_fault(field)
         };
-        Some((place, why?.to_owned()))
+        Some(Fault::new(place, why?))
     })
 }
 
 /// Why a field is no edit's word.
-fn no_word(field: &[u8]) -> String {
+fn no_word(field: &[u8]) -> Fault {
+    let whole = 0..field.len();
     let word = field.split(|&byte| byte == b' ').find(|w| !w.is_empty());
     let word = word.unwrap_or_default();
     let lower = word.to_ascii_lowercase();
     let known = FORMS.iter().any(|form| form.0.as_bytes() == lower);
-    if lower == b"help" {
-        "`help` is for the prompt, where standard input is a terminal".to_owned()
+    let lower_shown = shown(&lower);
+    if [&b"help"[..], b"?", b"quit", b"exit"].contains(&&lower[..]) {
+        let place = "where standard input and standard error are terminals";
+        Fault::new(whole, format!("`{lower_shown}` is for the prompt, {place}"))
     } else if known && lower != word {
-        format!("the word is `{}`, in lower case", shown(&lower))
+        let why = format!("the word is `{lower_shown}`, in lower case");
+        Fault::new(whole, why).with("write the word in lower case")
     } else if known {
-        "there are spaces, and only tabs part fields".to_owned()
+        Fault::new(whole, SPACES).with(PART)
     } else {
-        "an edit begins with `add`, `withdraw`, `retime` or `list`".to_owned()
+        let why = "an edit begins with `add`, `withdraw`, `retime` or `list`";
+        Fault::new(whole, why)
     }
 }
 
@@ -100,7 +137,7 @@ pub fn times(edit: &Line) -> Option<Fault> {
     let numbers: Option<Vec<u32>> = fields.get(2..)?.iter().map(number).collect();
     let (at, why) = broken_times(TIMES, &numbers?)?;
     let part = places.get(at.start + 2)?.start..places.get(at.end + 1)?.end;
-    Some((part, why))
+    Some(Fault::new(part, why))
 }
 
 #[cfg(test)]
@@ -112,7 +149,10 @@ mod tests {
         let words = "an edit begins with `add`, `withdraw`, `retime` or `list`";
         let spaces = "there are spaces, and only tabs part fields";
         let returns = "a carriage return; the script has another system's line ends";
-        let help = "`help` is for the prompt, where standard input is a terminal";
+        let help =
+            "`help` is for the prompt, where standard input and standard error are terminals";
+        let quit =
+            "`quit` is for the prompt, where standard input and standard error are terminals";
         let mark = "a byte-order mark, which some editors put before the first word";
         let letters = "a name has ASCII letters, digits, hyphens and full stops only";
         for [edit, part, words] in [
@@ -132,6 +172,7 @@ mod tests {
             [" list", " list", spaces],
             ["List", "List", "the word is `list`, in lower case"],
             ["HELP", "HELP", help],
+            ["quit", "quit", quit],
             ["\u{feff}list\r", "\\u{feff}", mark],
             ["ad\tx", "ad", words],
             ["\tlist", "", words],
@@ -146,9 +187,37 @@ mod tests {
                 bytes: edit.as_bytes().to_vec(),
                 ended: true,
             };
-            let (found, why) = fault(&edit).unwrap();
-            assert_eq!(shown(&edit.bytes[found]), part);
-            assert_eq!(why, words);
+            let found = fault(&edit).unwrap();
+            assert_eq!(shown(&edit.bytes[found.part]), part);
+            assert_eq!(found.why, words);
+        }
+    }
+
+    /// What to do is told where the cause is known; else the refusal tells it.
+    #[test]
+    fn causes_have_remedies() {
+        for (edit, to_do) in [
+            ("list\r", Some("`tr -d '\\r' < EDITS > NEW` takes them off")),
+            ("\u{feff}list", Some("save the script without it")),
+            ("add x 1 1", Some("put one tab between fields")),
+            ("withdraw\tx y\tz", Some("put one tab between fields")),
+            ("List", Some("write the word in lower case")),
+            ("", None),
+            ("help", None),
+            ("ad\tx", None),
+            ("list\tx", None),
+            ("withdraw\ta_b", None),
+        ] {
+            let mut line = Line {
+                bytes: edit.as_bytes().to_vec(),
+                ended: true,
+            };
+            assert_eq!(fault(&line).unwrap().to_do, to_do, "{edit}");
+            if to_do.is_none() {
+                line.ended = false;
+                let to_do = fault(&line).unwrap().to_do;
+                assert_eq!(to_do, Some("end the last line too"), "{edit}");
+            }
         }
     }
 }

@@ -7,12 +7,15 @@ use std::ffi::OsString;
 use std::fs::File;
 use std::io::{self, Seek, Write};
 use std::os::unix::io::AsRawFd;
+use std::os::unix::process::ExitStatusExt;
 use std::path::{Path, PathBuf};
 use std::process::{self, Child, ChildStdin, ChildStdout, Command, Stdio};
 
 /// A run of the program. It ends with this value, whatever happens.
 pub struct Program {
     path: PathBuf,
+    /// Who says that the program is there.
+    named: &'static str,
     child: Child,
     answers: Answers<ChildStdout>,
     /// What the program opens as its sheet.
@@ -29,7 +32,7 @@ impl Program {
     ///
     /// The program is missing or cannot be run, or there is no room for the sheet.
     pub fn start(sheet: &[u8]) -> Result<Self, Failure> {
-        let path = find()?;
+        let (path, named) = find()?;
         let lent = lend(sheet).map_err(|error| {
             Failure::new(format!("the sheet cannot be lent to the desk: {error}"))
         })?;
@@ -50,6 +53,7 @@ impl Program {
         let answers = Answers::new(child.stdout.take().ok_or_else(unread)?);
         Ok(Program {
             path,
+            named,
             child,
             answers,
             _sheet: lent,
@@ -78,24 +82,23 @@ impl Program {
     pub fn end(&mut self) -> Result<(), Failure> {
         let ended = self.child.wait();
         let ended = ended.map_err(|error| Failure::of(&self.path, &error))?;
-        if ended.success() {
-            Ok(())
-        } else {
-            Err(self.failed(&ended.to_string()))
+        match (ended.code(), ended.signal()) {
+            (Some(0), _) => Ok(()),
+            (Some(code), _) => Err(self.ended(&format!("with exit status {code}"))),
+            (None, signal) => Err(self.ended(&format!("by signal {}", signal.unwrap_or(0)))),
         }
     }
 
     /// The failure that the program has ended before its edits.
     pub fn early(&mut self) -> Failure {
         let ended = self.end();
-        ended.map_or_else(
-            |why| why,
-            |()| self.failed("the desk ended before its edits"),
-        )
+        ended.map_or_else(|why| why, |()| self.ended("before its edits"))
     }
 
-    fn failed(&self, why: &str) -> Failure {
-        Failure::new(format!("{}: {why}", files::shown(&self.path)))
+    /// The failure that the program has ended so.
+    fn ended(&self, how: &str) -> Failure {
+        let path = files::shown(&self.path);
+        Failure::new(format!("{path}, {}, ended {how}", self.named))
     }
 }
 
@@ -108,21 +111,27 @@ impl Drop for Program {
 }
 
 /// Where the program is: `SPARDIMPLE_DESK` names it, else it is where it is installed beside this one,
-/// `bin/spardimple` and `lib/spardimple/desk`.
-fn find() -> Result<PathBuf, Failure> {
+/// `bin/spardimple` and `lib/spardimple/desk`. With it comes who says so.
+fn find() -> Result<(PathBuf, &'static str), Failure> {
     let installed = || {
         let this = env::current_exe().ok()?;
         let prefix = this.parent().and_then(Path::parent)?;
         Some(prefix.join("lib/spardimple/desk"))
     };
     let named = set("SPARDIMPLE_DESK").map(PathBuf::from);
-    let to_do = match named {
-        Some(_) => "SPARDIMPLE_DESK names this file",
-        None => "it was looked for there, and SPARDIMPLE_DESK can name another place",
+    let (who, to_do) = match named {
+        Some(_) => (
+            "which SPARDIMPLE_DESK names",
+            "SPARDIMPLE_DESK names this file",
+        ),
+        None => (
+            "which is installed beside this command",
+            "it was looked for there, and SPARDIMPLE_DESK can name another place",
+        ),
     };
     let program = named.or_else(installed).unwrap_or_default();
     if program.is_file() {
-        return Ok(program);
+        return Ok((program, who));
     }
     Err(Failure::new(format!(
         "{}: the desk program is missing; {to_do}",

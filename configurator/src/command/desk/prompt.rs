@@ -17,9 +17,25 @@ edits, one a line, fields parted by spaces or tabs:
   add       NAME  C  D  T  J  P  M    one task more, behind the others
   retime    NAME  C  D  T  J  P  M    other times for a task
   withdraw  NAME                      one task less
-C is the work, D the deadline, T the period, J the jitter, P and M the cache charges of a preemption and
-a migration, all in ticks. The answer is ok, the listing, or refusal with its number and what it carries.
-The arrow keys bring back what was typed before, Ctrl-C drops a line, Ctrl-D ends.";
+C is the work, D the deadline, T the period, J the jitter, P and M the cache
+charges of a preemption and a migration, all in ticks. The answer is ok, the
+listing, or refusal with its number and what it carries.
+The sheet itself is not changed, and nothing is kept when the desk ends.
+The arrow keys bring back what was typed before, Ctrl-C drops a line;
+`quit`, `exit` or Ctrl-D ends.";
+
+/// What to do about a line that has the form of no edit.
+pub const TO_DO: &str = "type help to see the forms of edits";
+
+/// The first words, over the plan of a sheet that is called so in messages.
+#[must_use]
+pub fn welcome(sheet: &str) -> String {
+    format!(
+        "edits on the plan of {sheet}\n\
+         the sheet itself is not changed, and nothing is kept when the desk ends\n\
+         `help` has the forms of edits; `quit`, `exit` or Ctrl-D ends"
+    )
+}
 
 /// What was typed.
 #[derive(Clone, Debug, PartialEq, Eq)]
@@ -79,11 +95,19 @@ pub fn edit(typed: &str) -> Option<String> {
     (!fields.is_empty()).then(|| fields.join("\t"))
 }
 
-/// Whether an edit is none, but the word `help`, alone or before others.
+/// Whether an edit is none, but `help` or `?`, alone or before other words.
 #[must_use]
 pub fn asks_help(edit: &str) -> bool {
-    let word = edit.split('\t').next();
-    word.map_or(false, |word| word.eq_ignore_ascii_case("help"))
+    let word = edit.split('\t').next().unwrap_or_default();
+    ["help", "?"].iter().any(|w| word.eq_ignore_ascii_case(w))
+}
+
+/// Whether an edit is none, but the word `quit` or `exit` alone.
+#[must_use]
+pub fn asks_end(edit: &str) -> bool {
+    ["quit", "exit"]
+        .iter()
+        .any(|w| edit.eq_ignore_ascii_case(w))
 }
 
 #[cfg(test)]
@@ -100,6 +124,29 @@ mod tests {
             (" \t ", None),
         ] {
             assert_eq!(edit(typed).as_deref(), sent);
+        }
+    }
+
+    #[test]
+    fn words_of_the_prompt() {
+        for (edit, help, end) in [
+            ("help", true, false),
+            ("Help\tadd", true, false),
+            ("?", true, false),
+            ("quit", false, true),
+            ("EXIT", false, true),
+            ("quit\tnow", false, false),
+            ("list", false, false),
+        ] {
+            assert_eq!((asks_help(edit), asks_end(edit)), (help, end), "{edit}");
+        }
+    }
+
+    #[test]
+    fn lines_fit_a_terminal() {
+        let told = [HELP, &welcome("s.sheet")].join("\n");
+        for line in told.lines() {
+            assert!(line.chars().count() <= 80, "{line}");
         }
     }
 }

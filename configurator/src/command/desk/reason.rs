@@ -11,9 +11,28 @@ use crate::text::shown;
 use crate::Refusal;
 use std::fmt::Write;
 
+/// What to do about 7: an edit changes tasks alone.
+const MAKE_ROOM: &str = "withdraw a task, or retime one to less work (C) or more time (D, T); \
+                         cores and grain are changed in the sheet";
+
+/// Why an edit was refused, and what to do about it.
+pub struct Reason {
+    explained: Explained,
+    /// What to do; the refusal's own words where nothing better is known.
+    pub to_do: &'static str,
+}
+
+impl Reason {
+    /// The message for a terminal.
+    #[must_use]
+    pub fn message(&self) -> String {
+        self.explained.message_to(self.to_do, "edit")
+    }
+}
+
 /// The refusal of the edit with that number, over the tasks that are held.
 #[must_use]
-pub fn of(refusal: Refusal, number: usize, edit: &Line, held: &Held) -> Explained {
+pub fn of(refusal: Refusal, number: usize, edit: &Line, held: &Held) -> Reason {
     let name = edit.fields().get(1).map(|name| shown(name));
     let name = name.unwrap_or_default();
     let named = |why| Some(at_name(edit, why));
@@ -34,7 +53,8 @@ pub fn of(refusal: Refusal, number: usize, edit: &Line, held: &Held) -> Explaine
         8 => form::fault(edit),
         _ => None,
     };
-    let (part, why) = fault.map_or((0..0, None), |(part, why)| (part, Some(why)));
+    let to_do = fault.as_ref().and_then(|fault| fault.to_do);
+    let (part, why) = fault.map_or((0..0, None), |fault| (fault.part, Some(fault.why)));
     // the edit is no line of a sheet
     let mut explained = explain::refused(refusal, b"");
     let line = explain::Line::cut(number, &edit.bytes, part.start, part.end);
@@ -42,7 +62,10 @@ pub fn of(refusal: Refusal, number: usize, edit: &Line, held: &Held) -> Explaine
     if let (7, Some(name)) = (refusal.number(), held.after(edit).at(refusal.carries())) {
         let _ = write!(explained.meaning, ", `{}`", shown(name));
     }
-    explained
+    Reason {
+        explained,
+        to_do: to_do.unwrap_or_else(|| refusal.remedy()),
+    }
 }
 
 /// 7: what the task's place counts, which the meaning has. The edit's own name is at fault if it is the
@@ -56,17 +79,18 @@ fn stuck(refusal: Refusal, edit: &Line, held: &Held) -> Fault {
     };
     let tasks = counted(after.count(), "task");
     let why = format!("after this edit there would be {tasks}{fewer}; the plan stays as it was");
-    if after.at(refusal.carries()) == edit.fields().get(1).copied() {
+    let fault = if after.at(refusal.carries()) == edit.fields().get(1).copied() {
         at_name(edit, why)
     } else {
-        (0..0, why)
-    }
+        Fault::new(0..0, why)
+    };
+    fault.with(MAKE_ROOM)
 }
 
 /// A fault of the name behind the edit's word.
 fn at_name(edit: &Line, why: String) -> Fault {
     let place = edit.places().get(1).cloned();
-    (place.unwrap_or_default(), why)
+    Fault::new(place.unwrap_or_default(), why)
 }
 
 #[cfg(test)]
@@ -90,7 +114,7 @@ mod tests {
     /// What is wrong with an edit, over the tasks `panel` and `reject`.
     fn why(number: u8, carries: u32, edit: &str) -> (String, String) {
         let held = desk(&["panel", "reject"]);
-        let explained = of(Refusal::new(number, carries), 1, &line(edit), &held);
+        let explained = of(Refusal::new(number, carries), 1, &line(edit), &held).explained;
         (
             explained.line.unwrap().fault,
             explained.why.unwrap_or_default(),
@@ -145,7 +169,8 @@ mod tests {
                 "1 task, placed afresh, and fewer can need more room",
             ),
         ] {
-            let explained = of(Refusal::new(7, place), 1, &line(edit), &held);
+            let Reason { explained, to_do } = of(Refusal::new(7, place), 1, &line(edit), &held);
+            assert_eq!(to_do, MAKE_ROOM);
             assert_eq!(
                 explained.meaning,
                 format!("no core has room for task {meaning}")
@@ -177,7 +202,7 @@ mod tests {
                 for number in 0..=11 {
                     for carries in [0, 1, u32::MAX] {
                         let refusal = Refusal::new(number, carries);
-                        let message = of(refusal, 1, &edit, &desk(&["a"])).message("edit");
+                        let message = of(refusal, 1, &edit, &desk(&["a"])).message();
                         assert!(message.starts_with(&format!("edit:1: refused ({number}): ")));
                         assert!(message.chars().count() < 1_000, "{message}");
                     }
