@@ -1,5 +1,6 @@
 //! The table of refusals: document 01's number, what it means, and what to do. Every sentence about
-//! a refusal, the report and the manual page read this table, and no other place has one.
+//! a refusal, the report and the manual page read this table; where the cause is known, a remedy that
+//! fits it better takes its place.
 
 /// One refusal, for people.
 #[derive(Clone, Copy, Debug, PartialEq, Eq)]
