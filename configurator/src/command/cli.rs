@@ -186,7 +186,8 @@ fn desk() -> Command {
             "Examples: spardimple desk examples/film-line.sheet\n          \
              spardimple desk --exit-status examples/film-line.sheet < examples/film-line.edits\n\n\
              On a terminal there is a prompt with a history, where `help` has the forms of edits,\n\
-             spaces part fields too, and `quit` ends. From a file or a pipe edits come one a line, fields parted by one tab:\n  \
+             spaces part fields too, and `quit` ends. From a file or a pipe edits come one a line,\n\
+             fields parted by one tab:\n  \
              add NAME C D T J P M, withdraw NAME, retime NAME C D T J P M, list\n\
              The answer is ok, the listing, or refusal with its number and what it carries; standard error\n\
              has the reason of each refusal. A refused edit changes nothing, and the exit status is 0\n\
