@@ -537,7 +537,8 @@ fn words(bytes: &[u8]) -> Vec<Vec<Vec<u8>>> {
 }
 
 /// A good sheet stays byte for byte. Whatever damage of these kinds is done to it, it is mended to the
-/// same bytes. Of any bytes the words stay, and what is mended stays as it is.
+/// same bytes. With one space for a tab in a line that has other tabs it stays as it is. Of any bytes the
+/// words stay, and what is mended stays as it is.
 #[test]
 fn nothing_but_the_form_is_touched() {
     let mut random = Random::for_test();
@@ -554,6 +555,12 @@ fn nothing_but_the_form_is_touched() {
         let whole = mended(&ruin);
         assert_eq!(String::from_utf8_lossy(&whole.bytes), good, "{shown:?}");
         assert_eq!(whole.flaws.is_empty(), ruin == good.as_bytes(), "{shown:?}");
+        let tabs: Vec<usize> = good.match_indices('\t').map(|(at, _)| at).collect();
+        let mut mixed = good.into_bytes();
+        mixed[random.pick(&tabs)] = b' ';
+        let left = mended(&mixed);
+        let shown = String::from_utf8_lossy(&mixed);
+        assert!(left.bytes == mixed && left.flaws.is_empty(), "{shown:?}");
         let other = match count % 3 {
             0 => damaged(&ruin, &mut random),
             1 => (0..random.place(300))
