@@ -118,7 +118,7 @@ pub fn mended(file: &[u8]) -> Mended {
     }
     let all = |flaw| (flaw, (if flaw == Mark { 1 } else { lines.len().max(1) }, 1));
     let mut flaws: BTreeMap<_, _> = of_file.into_iter().map(all).collect();
-    if !is_text(&decoded) {
+    if no_text(&decoded).is_some() {
         let bytes = decoded.into_owned();
         return Mended { bytes, flaws };
     }
@@ -171,7 +171,8 @@ pub fn decoded(file: &[u8]) -> (Cow<'_, [u8]>, Vec<Flaw>) {
         decoded = Cow::Owned(letters);
         flaws.push(Wide);
     }
-    if is_text(&decoded) && decoded.contains(&b'\r') && !decoded.contains(&b'\n') {
+    let returns = decoded.contains(&b'\r') && !decoded.contains(&b'\n');
+    if returns && no_text(&decoded).is_none() {
         for byte in decoded.to_mut() {
             if *byte == b'\r' {
                 *byte = b'\n';
@@ -182,16 +183,30 @@ pub fn decoded(file: &[u8]) -> (Cow<'_, [u8]>, Vec<Flaw>) {
     (decoded, flaws)
 }
 
-/// Whether bytes are UTF-16: by its mark, or because each second one is 0 and no other.
+/// Why decoded bytes are no text of one byte a letter. They may mean anything, and stay.
 #[must_use]
-pub fn is_wide(bytes: &[u8]) -> bool {
-    let marked = bytes.starts_with(b"\xff\xfe") || bytes.starts_with(b"\xfe\xff");
-    marked || narrow(bytes).is_some()
+pub fn no_text(bytes: &[u8]) -> Option<String> {
+    if let Some(why) = still_wide(bytes) {
+        return Some(why.to_owned());
+    }
+    let at = bytes.iter().position(|&byte| byte == 0)?;
+    let line = bytes[..=at].split(|&byte| byte == b'\n').count();
+    Some(format!("there is a NUL byte in line {line}"))
 }
 
-/// Whether bytes may be a text of one byte a letter. What else there is may mean anything, and stays.
-fn is_text(bytes: &[u8]) -> bool {
-    !bytes.contains(&0) && !is_wide(bytes)
+/// Why decoded bytes are UTF-16 still. It is known by its mark, or because each second byte is 0 and no
+/// other.
+#[must_use]
+pub fn still_wide(bytes: &[u8]) -> Option<&'static str> {
+    let marked = bytes.starts_with(b"\xff\xfe") || bytes.starts_with(b"\xfe\xff");
+    let pairs = &bytes[..bytes.len() / 2 * 2];
+    if !marked && narrow(pairs).is_none() {
+        None
+    } else if pairs.len() < bytes.len() {
+        Some("the file is UTF-16 and ends in the middle of a letter")
+    } else {
+        Some("the file is UTF-16, and not all of its letters are ASCII")
+    }
 }
 
 /// The letters of UTF-16, if all of them are ASCII.
@@ -214,8 +229,8 @@ fn narrow(bytes: &[u8]) -> Option<Vec<u8>> {
 }
 
 /// A line's fields. Where tabs part as many as the line's word asks for, they are what parts them, and
-/// a blank inside a field belongs to it; else runs of blanks are, if these part so many. An empty field
-/// counts only if runs do not. Else the line stays as it is.
+/// a blank inside a field belongs to it; else runs of blanks are, if these part so many and are alike.
+/// Else the line stays as it is.
 fn parted(text: Text, line: &[u8]) -> Vec<&[u8]> {
     let fits = |fields: &[&[u8]]| {
         let form = fields.first().and_then(|word| text.form_of(word));
@@ -225,13 +240,23 @@ fn parted(text: Text, line: &[u8]) -> Vec<&[u8]> {
     let by_tabs: Vec<&[u8]> = tabs.clone().map(trimmed).collect();
     let runs = line.split(|&byte| blank(byte));
     let by_runs: Vec<&[u8]> = runs.filter(|run| !run.is_empty()).collect();
-    let full = by_tabs.iter().all(|field| !field.is_empty());
-    match (fits(&by_tabs), fits(&by_runs)) {
-        (true, true) if full => by_tabs,
-        (_, true) => by_runs,
-        (true, false) => by_tabs,
-        (false, false) => tabs.collect(),
+    if fits(&by_tabs) {
+        by_tabs
+    } else if fits(&by_runs) && alike(line) {
+        by_runs
+    } else {
+        tabs.collect()
     }
+}
+
+/// Whether every run of blanks between words has a tab in it, or none has. Where only some have one, the
+/// others may belong to a name or a number, as in `3 10`.
+fn alike(line: &[u8]) -> bool {
+    let runs = trimmed(line).split(|&byte| !blank(byte));
+    let runs = runs.filter(|run| !run.is_empty());
+    let mut tabbed = runs.map(|run| run.contains(&b'\t'));
+    let first = tabbed.next();
+    tabbed.all(|tab| Some(tab) == first)
 }
 
 /// Whether a byte may stand between words by mistake for a tab.

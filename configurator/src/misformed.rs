@@ -15,6 +15,9 @@ pub(crate) fn find(
     below: Option<&[u8]>,
 ) -> Option<Fault> {
     let (&words, above) = lines.split_last()?;
+    if bytes.is_empty() {
+        return Some(Fault::new(0..0, "the file is empty".to_owned()));
+    }
     if above.is_empty() {
         if let Some(fault) = of_file(bytes, words) {
             return Some(fault);
@@ -24,6 +27,11 @@ pub(crate) fn find(
     let forms = text.forms(above.len());
     if mended.is_empty() {
         return Some(empty(forms, words, below.unwrap_or_default()));
+    }
+    let inside = &words[..mend::words_end(words)];
+    if let Some(at) = inside.iter().position(|&byte| byte == b'\r') {
+        let why = "a carriage return inside the line, where a newline or nothing should be";
+        return Some(Fault::new(at..at + 1, why.to_owned()));
     }
     let fields = located(words, &mended);
     if let Some(fault) = unmended(forms, above, words, &fields) {
@@ -80,11 +88,7 @@ fn of_file(bytes: &[u8], line: &[u8]) -> Option<Fault> {
             let why = "a carriage return; no newline ends a line of this file";
             told(at..at + 1, why, Some(flaw))
         }
-        None if mend::is_wide(&decoded) => {
-            let why = "the file is UTF-16, and not all of its letters are ASCII";
-            told(0..line.len(), why, None)
-        }
-        None => None,
+        None => told(0..line.len(), mend::still_wide(&decoded)?, None),
     }
 }
 
@@ -247,6 +251,18 @@ mod tests {
                 "Fit\tpress drv a",
                 "fields behind `fit`: 1, where 2 should stand; there are spaces, and only tabs part fields",
             ),
+            (
+                "part\tservo\t3 10\t1000\t1000\t0\t20\n",
+                "part\tservo\t3 10\t1000\t1000\t0\t20",
+                "fields behind `part`: 6, where 7 should stand; there are spaces, and only tabs part fields",
+            ),
+            ("fit a\tb\n", "fit a", "the line should begin with `part` or `fit` and a tab"),
+            ("fit\t\ta b\n", "", "a name is missing here"),
+            (
+                "fit\ta\rb\tc\n",
+                "\r",
+                "a carriage return inside the line, where a newline or nothing should be",
+            ),
             ("fit\tpress\tdrv a\n", "drv a", "a name has ASCII letters, digits, hyphens and full stops only"),
             ("fit\t\tdrv\n", "", "a name is missing here"),
             ("fit\tabcdefghijklmnopqrstuvwxy\td\n", "abcdefghijklmnopqrstuvwxy", "a name has at most 24 letters"),
@@ -261,7 +277,7 @@ mod tests {
             let expected = (part.to_owned(), why.to_owned(), None);
             assert_eq!(below_head(lines), expected, "{lines:?}");
         }
-        assert_eq!(fault(b"", 0).1, "the `machine` line is missing here");
+        assert_eq!(fault(b"", 0).1, "the file is empty");
         assert_eq!(fault(b" \r\n\n", 0).1, "the `machine` line is missing here");
         assert_eq!(
             fault(b"machine\t1\t1\n", 1).1,
@@ -298,9 +314,9 @@ mod tests {
                 Flaw::Ends,
             ),
             (
-                "fit a\tb\n",
-                " ",
-                "a space where one tab should be",
+                "fit \ta\t \tb\n",
+                " \t",
+                "blanks where one tab should be",
                 Flaw::Parting,
             ),
             (
@@ -375,13 +391,17 @@ mod tests {
         ] {
             assert_eq!(fault(&wide, 0).2, Some(Flaw::Wide));
         }
-        let (_, why, flaw) = fault(b"\xff\xfem\0\xe9\0\n\0", 0);
-        assert_eq!(
-            (why.as_str(), flaw),
-            (
-                "the file is UTF-16, and not all of its letters are ASCII",
-                None
-            )
-        );
+        let foreign = "the file is UTF-16, and not all of its letters are ASCII";
+        let cut = "the file is UTF-16 and ends in the middle of a letter";
+        for (bytes, expected) in [
+            (&b"\xff\xfem\0\xe9\0\n\0"[..], foreign),
+            (b"\xff\xfem\0\n", cut),
+            (b"\xfe\xff\0m\0", cut),
+            (b"m\0a\0c", cut),
+            (b"\0m\0a\0", cut),
+        ] {
+            let (_, why, flaw) = fault(bytes, 0);
+            assert_eq!((why.as_str(), flaw), (expected, None), "{bytes:?}");
+        }
     }
 }

@@ -169,7 +169,7 @@ fn each_cause_is_told_and_mended() {
 fn several_at_once() {
     let folder = folder("several-causes");
     let name = "Jo's line.sheet";
-    let sheet = "\u{feff}Machine 2\t1\r\ncost\t0\t0\t0\t0\t0\t0\t0\t0\t0\t\t\r\n\r\n  part drv-a 6 10 10 0 0 1\r\nFIT\tpress\tdrv-a";
+    let sheet = "\u{feff}Machine 2  1\r\ncost\t0\t0\t0\t0\t0\t0\t0\t0\t0\t\t\r\n\r\n  part drv-a 6 10 10 0 0 1\r\nFIT\tpress\tdrv-a";
     fs::write(folder.join(name), sheet).unwrap();
     let (_, _, said) = within(&folder, &["plan", name]);
     let todo = "to do: `spardimple fmt 'Jo'\\''s line.sheet' -o NEW` takes it off";
@@ -234,6 +234,146 @@ names 1 to 24 letters, digits, hyphens and full stops\n"
         "{said}"
     );
     assert!(!said.contains("fmt"), "{said}");
+}
+
+/// A line that has tabs is not parted at its spaces: they may belong to a name or a number. The message
+/// then names no `fmt`, which would not help. Doubled tabs and blanks around tabs are mended as ever.
+#[test]
+fn spaces_beside_tabs_part_nothing() {
+    for (good, bad, place, why) in [
+        (
+            "part\tdrv-a\t6\t10\t10\t0\t0\t1\n",
+            "part\tdrv-a\t3 10\t1000\t1000\t0\t20\n",
+            3,
+            "fields behind `part`: 6, where 7 should stand; there are spaces, and only tabs part fields",
+        ),
+        (
+            "fit\tweld\tdrv-a\n",
+            "fit\tfilm feed\n",
+            6,
+            "fields behind `fit`: 1, where 2 should stand; there are spaces, and only tabs part fields",
+        ),
+        (
+            "machine\t2\t1\n",
+            "machine\t3 0\n",
+            1,
+            "fields behind `machine`: 1, where 2 should stand; there are spaces, and only tabs part fields",
+        ),
+        (
+            "fit\tweld\tdrv-a\n",
+            "fit weld\tdrv-a\n",
+            6,
+            "the line should begin with `part` or `fit` and a tab",
+        ),
+    ] {
+        let sheet = SHEET.replace(good, bad);
+        let refused = text(&spardimple_fed(&["plan", "-"], sheet.as_bytes()).stderr);
+        let begin = format!("standard input:{place}: refused (8): ");
+        assert!(refused.starts_with(&begin), "{refused}");
+        assert!(refused.contains(&format!("\n  {why}\n")), "{refused}");
+        assert!(!refused.contains("spardimple fmt"), "{refused}");
+        let ended = spardimple_fed(&["fmt", "-"], sheet.as_bytes());
+        assert_eq!(text(&ended.stdout), sheet);
+        let still = format!(
+            "the mended text is still refused (8) at line {place}; `spardimple check -` says why\n"
+        );
+        assert_eq!((ended.status.code(), text(&ended.stderr)), (Some(0), still));
+    }
+    for parting in ["\t\t", " \t ", "\t ", "  "] {
+        let ended = spardimple_fed(&["fmt", "-"], SHEET.replace('\t', parting).as_bytes());
+        assert_eq!(text(&ended.stdout), SHEET, "{parting:?}");
+    }
+}
+
+/// A carriage return inside a line is pointed at, and left to a person.
+#[test]
+fn a_carriage_return_inside_a_line() {
+    let sheet = SHEET.replacen("drv-a\nfit", "drv-a\rfit", 1);
+    let refused = spardimple_fed(&["plan", "-"], sheet.as_bytes());
+    assert_eq!(
+        text(&refused.stderr),
+        "standard input:4: refused (8): not formed as it should be, or cut short
+  fit⇥press⇥drv-a\\rfit⇥feed⇥drv-a
+                 ^^
+  a carriage return inside the line, where a newline or nothing should be
+  to do: fields are parted by one tab, lines ended by one newline, the last line too; numbers have 1 to 7 digits, \
+names 1 to 24 letters, digits, hyphens and full stops\n"
+    );
+    let ended = spardimple_fed(&["fmt", "-"], sheet.as_bytes());
+    assert_eq!(text(&ended.stdout), sheet);
+}
+
+/// What `fmt` cannot mend is told when it has written: why nothing was mended, and that the text is
+/// refused still, with the command that says why.
+#[test]
+fn what_is_still_refused() {
+    let folder = folder("still-refused");
+    let still = |number: u8, line: usize| {
+        format!("NEW: still refused ({number}) at line {line}; `spardimple check NEW` says why\n")
+    };
+    let marked = |text: &str| wide(&format!("\u{feff}{text}"), true);
+    let cut = marked(SHEET)[..101].to_vec();
+    let table = "cost\t0\t0\t0\t0\t0\t0\t0\t0\t0\nwhole\t6\t5\t10\t0\t0\t0\n";
+    for (file, said) in [
+        (
+            SHEET.replace("feed", "fe\0d").into_bytes(),
+            format!("s: nothing mended: there is a NUL byte in line 5\n{}", still(8, 5)),
+        ),
+        (
+            format!("\u{feff}{}", SHEET.replace("2\t1", "2\0\t1")).into_bytes(),
+            format!(
+                "s: byte-order mark: line 1\ns: nothing else mended: there is a NUL byte in line 1\n{}",
+                still(8, 1)
+            ),
+        ),
+        (
+            marked(&SHEET.replace("feed", "f\u{fc}d")),
+            format!(
+                "s: nothing mended: the file is UTF-16, and not all of its letters are ASCII\n{}",
+                still(8, 1)
+            ),
+        ),
+        (
+            cut.clone(),
+            format!(
+                "s: nothing mended: the file is UTF-16 and ends in the middle of a letter\n{}",
+                still(8, 1)
+            ),
+        ),
+        (format!("{SHEET}# note\n").into_bytes(), still(8, 7)),
+        (SHEET.replace("6\t10", "6,5\t10").into_bytes(), still(8, 3)),
+        (SHEET.replace("feed", "f\u{fc}d").into_bytes(), still(8, 5)),
+        (SHEET.replace("weld", "press").into_bytes(), still(4, 6)),
+        (Vec::new(), still(8, 1)),
+        (SHEET.replace("machine\t2", "machine\t1").into_bytes(), String::new()),
+        (
+            table.as_bytes().to_vec(),
+            "NEW: still refused (3) at line 2; `spardimple verdict --table NEW` says why\n".to_owned(),
+        ),
+        (table.replace("6\t5", "5\t5").into_bytes(), String::new()),
+    ] {
+        fs::write(folder.join("s"), &file).unwrap();
+        let ended = within(&folder, &["fmt", "s", "-o", "NEW"]);
+        assert_eq!(ended, (Some(0), String::new(), said));
+    }
+    let quoted = within(&folder, &["fmt", "/dev/null", "-o", "Jo's new"]).2;
+    let word = "`spardimple check 'Jo'\\''s new'` says why\n";
+    assert_eq!(
+        quoted,
+        format!("Jo's new: still refused (8) at line 1; {word}")
+    );
+    let table = text(&spardimple_fed(&["fmt", "-", "-o", "-"], table.as_bytes()).stderr);
+    assert_eq!(
+        table,
+        "the mended text is still refused (3) at line 2; `spardimple verdict --table -` says why\n"
+    );
+    let form = "refused (8): not formed as it should be, or cut short";
+    let empty = text(&spardimple_fed(&["plan", "-"], b"").stderr);
+    let begin = format!("standard input:1: {form}\n  \n  the file is empty\n");
+    assert!(empty.starts_with(&begin), "{empty}");
+    let cut = text(&spardimple_fed(&["plan", "-"], &cut).stderr);
+    let why = "\n  the file is UTF-16 and ends in the middle of a letter\n";
+    assert!(cut.contains(why), "{cut}");
 }
 
 /// Letters that take two columns, or none, have the fault underlined where it stands.
@@ -322,6 +462,19 @@ fn blanks(random: &mut Random) -> String {
     (0..length).map(|_| random.pick(&[' ', '\t'])).collect()
 }
 
+/// What stands between the fields of a line: spaces alone, or else a tab at least. The two are not mixed
+/// in a line.
+fn between(spaces: bool, random: &mut Random) -> String {
+    let some = blanks(random);
+    if spaces {
+        some.replace('\t', " ")
+    } else if some.contains('\t') {
+        some
+    } else {
+        format!("{some}\t")
+    }
+}
+
 /// A good sheet with all the damage that `fmt` mends, each by chance.
 fn ruined(sheet: &str, random: &mut Random) -> Vec<u8> {
     let mut text = String::new();
@@ -333,9 +486,10 @@ fn ruined(sheet: &str, random: &mut Random) -> Vec<u8> {
         if random.once_in(often) {
             text.push_str(&blanks(random));
         }
+        let spaces = random.once_in(3 * often);
         for (at, field) in line.split('\t').enumerate() {
-            if at > 0 && random.once_in(often) {
-                text.push_str(&blanks(random));
+            if at > 0 && (spaces || random.once_in(often)) {
+                text.push_str(&between(spaces, random));
             } else if at > 0 {
                 text.push('\t');
             }
@@ -383,7 +537,8 @@ fn words(bytes: &[u8]) -> Vec<Vec<Vec<u8>>> {
 }
 
 /// A good sheet stays byte for byte. Whatever damage of these kinds is done to it, it is mended to the
-/// same bytes. Of any bytes the words stay, and what is mended stays as it is.
+/// same bytes. With one space for a tab in a line that has other tabs it stays as it is. Of any bytes the
+/// words stay, and what is mended stays as it is.
 #[test]
 fn nothing_but_the_form_is_touched() {
     let mut random = Random::for_test();
@@ -400,6 +555,12 @@ fn nothing_but_the_form_is_touched() {
         let whole = mended(&ruin);
         assert_eq!(String::from_utf8_lossy(&whole.bytes), good, "{shown:?}");
         assert_eq!(whole.flaws.is_empty(), ruin == good.as_bytes(), "{shown:?}");
+        let tabs: Vec<usize> = good.match_indices('\t').map(|(at, _)| at).collect();
+        let mut mixed = good.into_bytes();
+        mixed[random.pick(&tabs)] = b' ';
+        let left = mended(&mixed);
+        let shown = String::from_utf8_lossy(&mixed);
+        assert!(left.bytes == mixed && left.flaws.is_empty(), "{shown:?}");
         let other = match count % 3 {
             0 => damaged(&ruin, &mut random),
             1 => (0..random.place(300))

@@ -106,8 +106,9 @@ fn fmt() -> Command {
              It takes off a byte-order mark, carriage returns and blanks at the ends of lines, leaves\n\
              out empty lines, makes UTF-16 bytes of one letter each, puts one tab between fields, writes\n\
              the first word of a line in lower case and adds the last newline. A line that has another\n\
-             number of fields than its word asks for keeps what stands between its ends; check tells\n\
-             what is wrong with it. What was mended is told on standard error.",
+             number of fields than its word asks for keeps what stands between its ends, and one that has\n\
+             tabs is not parted at spaces; check tells what is wrong with it. What was mended, and whether\n\
+             the mended text is still refused, is told on standard error.",
         )
         .arg(file("SHEET", "A timing sheet or a table; - reads standard input"))
         .arg(out("NEW", "Writes the mended text to NEW, whole or not at all"))
