@@ -27,6 +27,8 @@ pub struct Explained {
     pub why: Option<String>,
     /// What `fmt` mends, where that is all that is wrong.
     pub flaw: Option<Flaw>,
+    /// What a person can do about it, where that is known better than by the number alone.
+    pub to_do: Option<&'static str>,
 }
 
 /// A line of a sheet, cut where the fault in it begins and ends. Tabs are `⇥`, so that a wrong
@@ -74,11 +76,12 @@ pub fn refused(refusal: Refusal, sheet: &[u8]) -> Explained {
 pub fn refused_in(text: Text, refusal: Refusal, sheet: &[u8], numbers: Numbers) -> Explained {
     let mut meaning = refusal.meaning();
     let place = usize::try_from(refusal.carries()).unwrap_or(usize::MAX);
-    let (mut line, mut why, mut flaw) = (None, None, None);
+    let (mut line, mut why, mut flaw, mut to_do) = (None, None, None, None);
     match (refusal.number(), place.checked_sub(1)) {
         (1..=6 | 8, Some(above)) => {
             let fault = fault::find(refusal.number(), text, sheet, above, numbers);
             flaw = fault.as_ref().and_then(|fault| fault.flaw);
+            to_do = fault.as_ref().and_then(|fault| fault.to_do);
             line = lines(sheet).nth(above).map(|bytes| {
                 let part = fault
                     .as_ref()
@@ -106,6 +109,7 @@ pub fn refused_in(text: Text, refusal: Refusal, sheet: &[u8], numbers: Numbers) 
         line,
         why,
         flaw,
+        to_do,
     }
 }
 
@@ -118,7 +122,7 @@ impl Explained {
                 let file = shell_word(file);
                 format!("`spardimple fmt {file} -o NEW` {}", flaw.mending())
             }
-            None => self.refusal.remedy().to_owned(),
+            None => self.to_do.unwrap_or(self.refusal.remedy()).to_owned(),
         }
     }
 

@@ -21,6 +21,8 @@ pub struct Fault {
     pub why: String,
     /// What `fmt` mends, where nothing else is wrong.
     pub flaw: Option<Flaw>,
+    /// What a person can do about it, if there is something better to say than the refusal's remedy.
+    pub to_do: Option<&'static str>,
 }
 
 /// The number in the file of the line with so many lines above it.
@@ -89,7 +91,23 @@ impl Fault {
             part,
             why,
             flaw: None,
+            to_do: None,
         }
+    }
+
+    /// A fault that `fmt` mends.
+    pub(crate) fn flawed(part: Range<usize>, why: String, flaw: Flaw) -> Self {
+        let flaw = Some(flaw);
+        Fault {
+            flaw,
+            ..Fault::new(part, why)
+        }
+    }
+
+    /// The fault, with what a person can do about it.
+    pub(crate) fn with(self, to_do: &'static str) -> Self {
+        let to_do = Some(to_do);
+        Fault { to_do, ..self }
     }
 }
 

@@ -120,32 +120,41 @@ impl Text {
     }
 }
 
-/// What is wrong with a name's form.
+/// What is wrong with a name's form, and what to do.
 #[must_use]
-pub fn name_fault(name: &[u8]) -> Option<&'static str> {
+pub fn name_fault(name: &[u8]) -> Option<(&'static str, &'static str)> {
     let letter = |byte: &u8| byte.is_ascii_alphanumeric() || matches!(byte, b'-' | b'.');
     if name.is_empty() {
-        Some("a name is missing here")
+        Some(("a name is missing here", "write the name"))
     } else if name.len() > 24 {
-        Some("a name has at most 24 letters")
+        Some(("a name has at most 24 letters", "choose a shorter name"))
     } else if !name.iter().all(letter) {
-        Some("a name has ASCII letters, digits, hyphens and full stops only")
+        let why = "a name has ASCII letters, digits, hyphens and full stops only";
+        Some((why, "choose a name of these, the same wherever it stands"))
     } else {
         None
     }
 }
 
-/// What is wrong with a number's form.
+/// What is wrong with a number's form, and what to do.
 #[must_use]
-pub fn number_fault(number: &[u8]) -> Option<&'static str> {
+pub fn number_fault(number: &[u8]) -> Option<(&'static str, &'static str)> {
     if number.is_empty() {
-        Some("a number is missing here")
+        Some((
+            "a number is missing here",
+            "write the number, 0 if there is none",
+        ))
     } else if !number.iter().all(u8::is_ascii_digit) {
-        Some("a number has the digits 0 to 9 only")
+        let why = "a number has the digits 0 to 9 only";
+        Some((
+            why,
+            "write a whole number of ticks, without sign, point or comma",
+        ))
     } else if number.len() > 7 {
-        Some("a number has at most 7 digits")
+        let why = "a number has at most 7 digits";
+        Some((why, "take a longer tick for the whole sheet"))
     } else if number.len() > 1 && number[0] == b'0' {
-        Some("a number has no leading 0")
+        Some(("a number has no leading 0", "take the leading 0 away"))
     } else {
         None
     }

@@ -16,7 +16,13 @@ pub(crate) fn find(
 ) -> Option<Fault> {
     let (&words, above) = lines.split_last()?;
     if bytes.is_empty() {
-        return Some(Fault::new(0..0, "the file is empty".to_owned()));
+        let empty = Fault::new(0..0, "the file is empty".to_owned());
+        return Some(empty.with(match text {
+            Text::Sheet => {
+                "see that it is the right file; `spardimple new FILE` writes one to begin with"
+            }
+            Text::Table => "see that it is the right file",
+        }));
     }
     if above.is_empty() {
         if let Some(fault) = of_file(bytes, words) {
@@ -31,7 +37,8 @@ pub(crate) fn find(
     let inside = &words[..mend::words_end(words)];
     if let Some(at) = inside.iter().position(|&byte| byte == b'\r') {
         let why = "a carriage return inside the line, where a newline or nothing should be";
-        return Some(Fault::new(at..at + 1, why.to_owned()));
+        let fault = Fault::new(at..at + 1, why.to_owned());
+        return Some(fault.with("end the line there, or take the carriage return out"));
     }
     let fields = located(words, &mended);
     if let Some(fault) = unmended(forms, above, words, &fields) {
@@ -45,11 +52,11 @@ pub(crate) fn find(
             }
             Some(fault)
         }
-        None if below.is_none() => Some(Fault {
-            part: words.len()..words.len(),
-            why: "the file ends here without a newline".to_owned(),
-            flaw: Some(Flaw::Newline),
-        }),
+        None if below.is_none() => {
+            let end = words.len()..words.len();
+            let why = "the file ends here without a newline".to_owned();
+            Some(Fault::flawed(end, why, Flaw::Newline))
+        }
         None => None,
     }
 }
@@ -70,25 +77,25 @@ fn worded(lines: &[u8]) -> impl Iterator<Item = &[u8]> {
 /// What is wrong with a whole file, told at its first line.
 fn of_file(bytes: &[u8], line: &[u8]) -> Option<Fault> {
     let (decoded, flaws) = mend::decoded(bytes);
-    let told = |part, why: &str, flaw| {
-        let why = why.to_owned();
-        Some(Fault { part, why, flaw })
-    };
+    let told = |part, why: &str, flaw| Some(Fault::flawed(part, why.to_owned(), flaw));
     match flaws.first() {
         Some(&Flaw::Mark) => {
             let why = "a byte-order mark, which some editors put before the first word";
-            told(0..3, why, Some(Flaw::Mark))
+            told(0..3, why, Flaw::Mark)
         }
         Some(&Flaw::Wide) => {
             let why = "the file is UTF-16, two bytes a letter where one should be";
-            told(0..line.len(), why, Some(Flaw::Wide))
+            told(0..line.len(), why, Flaw::Wide)
         }
         Some(&flaw) => {
             let at = line.iter().position(|&byte| byte == b'\r')?;
             let why = "a carriage return; no newline ends a line of this file";
-            told(at..at + 1, why, Some(flaw))
+            told(at..at + 1, why, flaw)
         }
-        None => told(0..line.len(), mend::still_wide(&decoded)?, None),
+        None => {
+            let fault = Fault::new(0..line.len(), mend::still_wide(&decoded)?.to_owned());
+            Some(fault.with("save the file as plain text, one byte a letter"))
+        }
     }
 }
 
@@ -98,13 +105,9 @@ fn empty(forms: &[Form], line: &[u8], below: &[u8]) -> Fault {
     match forms {
         [form] if worded(below).next().is_none() => {
             let why = format!("the `{}` line is missing here", form.word);
-            Fault::new(part, why)
+            Fault::new(part, why).with("write it; `spardimple new FILE` shows how it looks")
         }
-        _ => Fault {
-            part,
-            why: "the line is empty".to_owned(),
-            flaw: Some(Flaw::Empty),
-        },
+        _ => Fault::flawed(part, "the line is empty".to_owned(), Flaw::Empty),
     }
 }
 
@@ -138,11 +141,13 @@ fn unmended(forms: &[Form], above: &[&[u8]], line: &[u8], fields: &[Field]) -> O
             .map(|form| format!("`{}`", form.word))
             .collect();
         let wanted = words.join(" or ");
-        return Some(word.fault(format!("the line should begin with {wanted} and a tab")));
+        let why = format!("the line should begin with {wanted} and a tab");
+        return Some(strange(line, forms).unwrap_or_else(|| word.fault(why).with(LINES)));
     };
     let fit = |line: &&[u8]| line.starts_with(b"fit\t");
     if form.word == "part" && above.iter().any(fit) {
-        return Some(word.fault("`part` lines stand above all `fit` lines".to_owned()));
+        let fault = word.fault("`part` lines stand above all `fit` lines".to_owned());
+        return Some(fault.with("move the line above the first `fit` line"));
     }
     if fields.len() != form.fields() {
         let (has, wanted) = (fields.len() - 1, form.fields() - 1);
@@ -153,16 +158,48 @@ fn unmended(forms: &[Form], above: &[&[u8]], line: &[u8], fields: &[Field]) -> O
         };
         let word = form.word;
         let why = format!("fields behind `{word}`: {has}, where {wanted} should stand{spaces}");
-        return Some(Fault::new(0..line.len(), why));
+        let fault = Fault::new(0..line.len(), why);
+        return Some(fault.with("write so many fields, with one tab between two of them"));
     }
     fields[1..].iter().enumerate().find_map(|(at, field)| {
-        let why = if at < form.names {
+        let fault = if at < form.names {
             name_fault(field.bytes)
         } else {
             number_fault(field.bytes)
         };
-        Some(field.fault(why?.to_owned()))
+        let (why, to_do) = fault?;
+        Some(field.fault(why.to_owned()).with(to_do))
     })
+}
+
+/// What to do about a line of another word.
+const LINES: &str = "see that it is the right file, and that its lines are in their order";
+
+/// A line that is of no form, if it can be told what it is.
+fn strange(line: &[u8], forms: &[Form]) -> Option<Fault> {
+    let starts = |words: &[&str]| words.iter().any(|word| line.starts_with(word.as_bytes()));
+    let whole = |why: &str, to_do| Some(Fault::new(0..line.len(), why.to_owned()).with(to_do));
+    let parted = |by: char| {
+        forms
+            .iter()
+            .any(|form| starts(&[&format!("{}{by}", form.word)]))
+    };
+    if starts(&["#", "//", "--", ";"]) {
+        whole("there are no comments here", "take the line out")
+    } else if parted(',') || parted(';') {
+        let to_do = "save it again with tabs between the fields";
+        whole("commas or semicolons where tabs should be", to_do)
+    } else if starts(&["plan\t", "piece\t"]) {
+        whole(
+            "this is a line of a listing",
+            "see that it is the right file",
+        )
+    } else if starts(&["add\t", "retime\t", "withdraw\t"]) {
+        let to_do = "give the sheet to `spardimple desk`, and this file as its input";
+        whole("this is an edit", to_do)
+    } else {
+        None
+    }
 }
 
 /// A flaw of a line that is formed but for its flaws.
@@ -193,8 +230,7 @@ fn flawed(flaw: Flaw, line: &[u8], fields: &[Field]) -> Fault {
             (word.at.clone(), why)
         }
     };
-    let flaw = Some(flaw);
-    Fault { part, why, flaw }
+    Fault::flawed(part, why, flaw)
 }
 
 /// The first place between two fields that is not one tab.

@@ -48,10 +48,9 @@ fn refused_sheets() {
         "examples/film-line.listing",
         "1: refused (8): not formed as it should be, or cut short
   plan⇥11⇥12
-  ^^^^
-  the line should begin with `machine` and a tab
-  to do: fields are parted by one tab, lines ended by one newline, the last line too; numbers have 1 to 7 digits, \
-names 1 to 24 letters, digits, hyphens and full stops",
+  ^^^^^^^^^^
+  this is a line of a listing
+  to do: see that it is the right file",
     );
 }
 

@@ -223,8 +223,7 @@ fn what_no_rule_fits_stays() {
   FIT weld drv_a \\r
            ^^^^^
   a name has ASCII letters, digits, hyphens and full stops only
-  to do: fields are parted by one tab, lines ended by one newline, the last line too; numbers have 1 to 7 digits, \
-names 1 to 24 letters, digits, hyphens and full stops\n"
+  to do: choose a name of these, the same wherever it stands\n"
     );
     let foreign = wide("machine\u{e9}\n", true);
     let refused = spardimple_fed(&["plan", "-"], &[b"\xff\xfe", &foreign[..]].concat());
@@ -296,8 +295,7 @@ fn a_carriage_return_inside_a_line() {
   fit⇥press⇥drv-a\\rfit⇥feed⇥drv-a
                  ^^
   a carriage return inside the line, where a newline or nothing should be
-  to do: fields are parted by one tab, lines ended by one newline, the last line too; numbers have 1 to 7 digits, \
-names 1 to 24 letters, digits, hyphens and full stops\n"
+  to do: end the line there, or take the carriage return out\n"
     );
     let ended = spardimple_fed(&["fmt", "-"], sheet.as_bytes());
     assert_eq!(text(&ended.stdout), sheet);

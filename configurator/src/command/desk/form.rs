@@ -103,7 +103,8 @@ pub fn fault(edit: &Line) -> Option<Fault> {
         } else {
             number_fault(field)
         };
-        Some(Fault::new(place, why?))
+        let (why, to_do) = why?;
+        Some(Fault::new(place, why).with(to_do))
     })
 }
 
