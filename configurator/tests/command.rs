@@ -161,11 +161,7 @@ fn verdicts_of_tables() {
             ":1: refused (2)",
             "π is 100001 here",
         ),
-        (
-            String::new(),
-            ":1: refused (8)",
-            "the `cost` line is missing",
-        ),
+        (String::new(), ":1: refused (8)", "the file is empty"),
         (
             costs.trim_end().to_owned(),
             ":1: refused (8)",

@@ -207,7 +207,10 @@ mod tests {
             ("help", None),
             ("ad\tx", None),
             ("list\tx", None),
-            ("withdraw\ta_b", None),
+            (
+                "withdraw\ta_b",
+                Some("choose a name of these, the same wherever it stands"),
+            ),
         ] {
             let mut line = Line {
                 bytes: edit.as_bytes().to_vec(),
