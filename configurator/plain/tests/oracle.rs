@@ -54,7 +54,7 @@ fn longest_period(sheet: &Sheet) -> u64 {
 const EVERY_LENGTH_MOST: u64 = 2_000_000;
 
 /// Looking at stretches is for sheets with at most this many candidates.
-const STRETCHES_MOST: u64 = 250_000;
+const STRETCHES_MOST: u64 = 1_000_000;
 
 /// Holds the oracle to every case whose numbers are small enough, and says which it leaves out.
 fn hold_to_cases(stretches_most: u64) {
