@@ -206,7 +206,8 @@ fn on_paper() {
 
 /// All words are inside the margins, and large enough.
 fn assert_legible(words: &[Word], width: f64, height: f64, place: &str) {
-    let margin = 72.0 / 25.4 * 14.0 - 3.0;
+    // a word that just fills its line was seen 0.6 points over the margin
+    let margin = 72.0 / 25.4 * 14.0 - 1.0;
     for word in words {
         let beside = word.left < margin || word.right > width - margin;
         let above = word.top < margin || word.bottom > height - margin;
