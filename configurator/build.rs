@@ -17,7 +17,6 @@ mod refusals;
 
 use sha2::{Digest, Sha256};
 use std::env;
-use std::fmt::Write;
 use std::fs;
 use std::path::{Path, PathBuf};
 use std::process::{self, Command};
@@ -47,11 +46,8 @@ fn main() {
 /// no history the commit is unknown.
 fn tell_origin(archive: &Path) {
     let bytes = fs::read(archive).unwrap_or_else(|error| stop(&format!("the archive: {error}")));
-    let mut digest = String::new();
-    for byte in Sha256::digest(bytes) {
-        let _ = write!(digest, "{byte:02x}");
-    }
-    println!("cargo:rustc-env=SPARDIMPLE_ARCHIVE_SHA256={digest}");
+    let digest = Sha256::digest(bytes);
+    println!("cargo:rustc-env=SPARDIMPLE_ARCHIVE_SHA256={digest:x}");
     let changed = git(&[
         "status",
         "--porcelain",

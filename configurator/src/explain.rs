@@ -130,12 +130,6 @@ impl Explained {
     /// fault underlined, and what to do.
     #[must_use]
     pub fn message(&self, file: &str) -> String {
-        self.message_to(&self.remedy(file), file)
-    }
-
-    /// The message with another remedy than the refusal's own.
-    #[must_use]
-    pub fn message_to(&self, remedy: &str, file: &str) -> String {
         let mut text = file.to_owned();
         if let Some(line) = &self.line {
             let _ = write!(text, ":{}", line.number);
@@ -156,6 +150,7 @@ impl Explained {
         if let Some(why) = &self.why {
             let _ = write!(text, "\n  {why}");
         }
+        let remedy = self.remedy(file);
         if !remedy.is_empty() {
             let _ = write!(text, "\n  to do: {remedy}");
         }

@@ -86,7 +86,8 @@ impl Field<'_> {
 
 impl Fault {
     /// A fault that only a person can mend.
-    pub(crate) fn new(part: Range<usize>, why: String) -> Self {
+    pub(crate) fn new(part: Range<usize>, why: impl Into<String>) -> Self {
+        let why = why.into();
         Fault {
             part,
             why,

@@ -2,7 +2,6 @@
 //! the first two up.
 
 use sha2::{Digest, Sha256};
-use std::fmt::Write;
 use std::path::{Path, PathBuf};
 
 /// The program's name and version.
@@ -33,11 +32,7 @@ pub const VERSION: &str = concat!(
 /// ```
 #[must_use]
 pub fn digest(bytes: &[u8]) -> String {
-    let mut hex = String::new();
-    for byte in Sha256::digest(bytes) {
-        let _ = write!(hex, "{byte:02x}");
-    }
-    hex
+    format!("{:x}", Sha256::digest(bytes))
 }
 
 /// Where it is said what a listing came from: beside it.

@@ -67,7 +67,7 @@ fn long_spans() {
 fn full_loads() {
     let mut random = Random::for_test();
     let mut tally = Tally::default();
-    for _ in 0..6_000 {
+    for _ in 0..rounds(6_000) {
         let core = full_load(&mut random);
         tally.core(&core, &mut random);
     }

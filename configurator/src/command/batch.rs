@@ -112,11 +112,8 @@ impl Batch {
 pub fn run(given: &ArgMatches, streams: &mut Streams) -> Result<Status, Failure> {
     let folder = cli::needed(given, "DIR");
     let done = plan_all(given, &folder, streams);
-    if given.get_flag("json") {
-        let asked = [Asked::new("folder", &folder, None)];
-        return json::told("batch", &asked, done, streams);
-    }
-    done
+    let asked = [Asked::new("folder", &folder, None)];
+    json::told(given, "batch", &asked, done, streams)
 }
 
 fn plan_all(given: &ArgMatches, folder: &Path, streams: &mut Streams) -> Result<Status, Failure> {

@@ -165,9 +165,9 @@ impl Desk {
                 self.refused = true;
                 let mut reason = reason::of(refusal, self.played, edit, &self.held);
                 if self.typed && refusal.number() == 8 {
-                    reason.to_do = prompt::TO_DO;
+                    reason.to_do = Some(prompt::TO_DO);
                 }
-                streams.say(&reason.message());
+                streams.say(&reason.message("edit"));
             }
             Answer::Listing | Answer::Other => {}
         }

@@ -8,6 +8,7 @@ use crate::listing::{Listing, Piece};
 use crate::origin;
 use crate::quoted::{number, Sheet, COSTS, TIMES};
 use crate::{Answer, Refusal};
+use clap::ArgMatches;
 use serde_json::{json, Map, Value};
 use std::fmt::Write;
 use std::os::unix::ffi::OsStrExt;
@@ -190,18 +191,19 @@ pub fn text(mut begun: Fields, answer: Fields) -> String {
     laid_out(&Value::Object(begun))
 }
 
-/// How a run ended whose answers are JSON: a failure is told as JSON too, if that can be printed.
+/// How a run ended. Where its answers are JSON, a failure is told as JSON too, if that can be printed.
 ///
 /// # Errors
 ///
 /// The failure itself.
 pub fn told(
+    given: &ArgMatches,
     command: &str,
     asked: &[Asked],
     done: Result<Status, Failure>,
     streams: &mut Streams,
 ) -> Result<Status, Failure> {
-    if let Err(failure) = &done {
+    if let (true, Err(failure)) = (given.get_flag("json"), &done) {
         let text = text(
             begun(command, asked),
             failed(failure.status, failure.why.as_deref()),

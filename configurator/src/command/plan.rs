@@ -15,10 +15,8 @@ use std::path::Path;
 pub fn run(given: &ArgMatches, streams: &mut Streams) -> Result<Status, Failure> {
     let sheet = cli::needed(given, "SHEET");
     let done = plan(given, &sheet, streams);
-    if given.get_flag("json") {
-        return json::told("plan", &[Asked::sheet(&sheet, None)], done, streams);
-    }
-    done
+    let asked = [Asked::sheet(&sheet, None)];
+    json::told(given, "plan", &asked, done, streams)
 }
 
 fn plan(given: &ArgMatches, sheet: &Path, streams: &mut Streams) -> Result<Status, Failure> {

@@ -17,10 +17,8 @@ use std::path::Path;
 pub fn run(given: &ArgMatches, streams: &mut Streams) -> Result<Status, Failure> {
     let sheet = cli::needed(given, "SHEET");
     let done = show(given, &sheet, streams);
-    if given.get_flag("json") {
-        return json::told("show", &[Asked::sheet(&sheet, None)], done, streams);
-    }
-    done
+    let asked = [Asked::sheet(&sheet, None)];
+    json::told(given, "show", &asked, done, streams)
 }
 
 fn show(given: &ArgMatches, sheet: &Path, streams: &mut Streams) -> Result<Status, Failure> {

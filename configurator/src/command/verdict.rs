@@ -30,15 +30,11 @@ pub fn run(given: &ArgMatches, streams: &mut Streams) -> Result<Status, Failure>
     };
     let told = given.get_flag("exit-status");
     let done = done.and_then(|judged| tell(&judged, json, told, streams));
-    if json {
-        let unread = |(what, path)| Asked::new(what, path, None);
-        let asked: Vec<Asked> = asked
-            .iter()
-            .map(|(what, path)| unread((*what, path)))
-            .collect();
-        return json::told("verdict", &asked, done, streams);
-    }
-    done
+    let unread = asked
+        .iter()
+        .map(|(what, path)| Asked::new(what, path, None));
+    let asked: Vec<Asked> = unread.collect();
+    json::told(given, "verdict", &asked, done, streams)
 }
 
 /// An answer, with what is told of it.

@@ -2,44 +2,11 @@
 //! the edit; what stands here finds what can be pointed at.
 
 use super::script::{Line, LINE_MOST};
-use crate::fault::broken_times;
+use crate::fault::{broken_times, Fault};
 use crate::forms::{name_fault, number_fault};
 use crate::quoted::TIMES;
 use crate::text::shown;
-use std::ops::Range;
 use std::str;
-
-/// What is wrong with an edit.
-#[derive(Clone, Debug, PartialEq, Eq)]
-pub struct Fault {
-    /// The bytes at fault; none where nothing can be pointed at.
-    pub part: Range<usize>,
-    /// What is wrong with them.
-    pub why: String,
-    /// What to do, where the cause is known better than the refusal tells it.
-    pub to_do: Option<&'static str>,
-}
-
-impl Fault {
-    /// A fault of these bytes.
-    #[must_use]
-    pub fn new(part: Range<usize>, why: impl Into<String>) -> Self {
-        Fault {
-            part,
-            why: why.into(),
-            to_do: None,
-        }
-    }
-
-    /// The fault with what to do about it.
-    #[must_use]
-    pub fn with(self, to_do: &'static str) -> Self {
-        Fault {
-            to_do: Some(to_do),
-            ..self
-        }
-    }
-}
 
 const SPACES: &str = "there are spaces, and only tabs part fields";
 const PART: &str = "put one tab between fields";

@@ -1,12 +1,12 @@
 //! Why an edit was refused, for people. The refusal is the desk program's; what stands here looks at
 //! the edit's words and at the names of the tasks for what it is about.
 
-use super::form::{self, Fault};
+use super::form;
 use super::held::Held;
 use super::script::Line;
 use crate::command::show::counted;
 use crate::explain::{self, Explained};
-use crate::fault::nearest;
+use crate::fault::{nearest, Fault};
 use crate::text::shown;
 use crate::Refusal;
 use std::fmt::Write;
@@ -15,24 +15,9 @@ use std::fmt::Write;
 const MAKE_ROOM: &str = "withdraw a task, or retime one to less work (C) or more time (D, T); \
                          cores and grain are changed in the sheet";
 
-/// Why an edit was refused, and what to do about it.
-pub struct Reason {
-    explained: Explained,
-    /// What to do; the refusal's own words where nothing better is known.
-    pub to_do: &'static str,
-}
-
-impl Reason {
-    /// The message for a terminal.
-    #[must_use]
-    pub fn message(&self) -> String {
-        self.explained.message_to(self.to_do, "edit")
-    }
-}
-
 /// The refusal of the edit with that number, over the tasks that are held.
 #[must_use]
-pub fn of(refusal: Refusal, number: usize, edit: &Line, held: &Held) -> Reason {
+pub fn of(refusal: Refusal, number: usize, edit: &Line, held: &Held) -> Explained {
     let name = edit.fields().get(1).map(|name| shown(name));
     let name = name.unwrap_or_default();
     let named = |why| Some(at_name(edit, why));
@@ -53,19 +38,16 @@ pub fn of(refusal: Refusal, number: usize, edit: &Line, held: &Held) -> Reason {
         8 => form::fault(edit),
         _ => None,
     };
-    let to_do = fault.as_ref().and_then(|fault| fault.to_do);
-    let (part, why) = fault.map_or((0..0, None), |fault| (fault.part, Some(fault.why)));
     // the edit is no line of a sheet
     let mut explained = explain::refused(refusal, b"");
+    explained.to_do = fault.as_ref().and_then(|fault| fault.to_do);
+    let (part, why) = fault.map_or((0..0, None), |fault| (fault.part, Some(fault.why)));
     let line = explain::Line::cut(number, &edit.bytes, part.start, part.end);
     (explained.line, explained.why) = (Some(line), why);
     if let (7, Some(name)) = (refusal.number(), held.after(edit).at(refusal.carries())) {
         let _ = write!(explained.meaning, ", `{}`", shown(name));
     }
-    Reason {
-        explained,
-        to_do: to_do.unwrap_or_else(|| refusal.remedy()),
-    }
+    explained
 }
 
 /// 7: what the task's place counts, which the meaning has. The edit's own name is at fault if it is the
@@ -114,7 +96,7 @@ mod tests {
     /// What is wrong with an edit, over the tasks `panel` and `reject`.
     fn why(number: u8, carries: u32, edit: &str) -> (String, String) {
         let held = desk(&["panel", "reject"]);
-        let explained = of(Refusal::new(number, carries), 1, &line(edit), &held).explained;
+        let explained = of(Refusal::new(number, carries), 1, &line(edit), &held);
         (
             explained.line.unwrap().fault,
             explained.why.unwrap_or_default(),
@@ -169,8 +151,8 @@ mod tests {
                 "1 task, placed afresh, and fewer can need more room",
             ),
         ] {
-            let Reason { explained, to_do } = of(Refusal::new(7, place), 1, &line(edit), &held);
-            assert_eq!(to_do, MAKE_ROOM);
+            let explained = of(Refusal::new(7, place), 1, &line(edit), &held);
+            assert_eq!(explained.to_do, Some(MAKE_ROOM));
             assert_eq!(
                 explained.meaning,
                 format!("no core has room for task {meaning}")
@@ -202,7 +184,7 @@ mod tests {
                 for number in 0..=11 {
                     for carries in [0, 1, u32::MAX] {
                         let refusal = Refusal::new(number, carries);
-                        let message = of(refusal, 1, &edit, &desk(&["a"])).message();
+                        let message = of(refusal, 1, &edit, &desk(&["a"])).message("edit");
                         assert!(message.starts_with(&format!("edit:1: refused ({number}): ")));
                         assert!(message.chars().count() < 1_000, "{message}");
                     }
