@@ -12,6 +12,7 @@ pub mod RecordLaws
 pub mod RunLaws
 pub mod BusyLaws
 pub mod VerdictLaws
+pub mod WhyLaws
 pub mod Judgement
 pub mod ChargedSplitLaws
 pub mod SplitLaws

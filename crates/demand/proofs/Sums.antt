@@ -5,7 +5,7 @@
 --   total-snoc               one piece more
 --   total-same               equal figures have equal sums
 --   each-at, each-snoc, each-front, each-last, each-map, each-imp
-use mathlib.Core.Path.{_≡_}
+use mathlib.Core.Path.{_≡_, refl}
 use mathlib.Core.List.{List, [], _∷_, _++_, map}
 use Prim.Native.Nat.{ℕ, zero, suc, _+_, _≤_, _<_, zero-le}
 use native.Mathlib.Nat.{not-suc-le-zero, le-of-suc-le-suc}
@@ -24,6 +24,10 @@ module _ (f g : Charged → ℕ) (step : (q : Charged) → f q ≤ g q) where
   pub total-mono : (qs : List Charged) → total f qs ≤ total g qs
   total-mono [] = zero-le
   total-mono (q ∷ qs) = omega (arith, step q, total-mono qs)
+
+pub total-same : (f g : Charged → ℕ) → ((q : Charged) → f q ≡ g q) → (qs : List Charged) → total f qs ≡ total g qs
+total-same f g same [] = refl
+total-same f g same (q ∷ qs) = omega (arith, same q, total-same f g same qs)
 
 pub total-snoc : (f : Charged → ℕ) (qs : List Charged) (q : Charged) → total f (qs ++ (q ∷ [])) ≡ total f qs + f q
 total-snoc f [] q = omega arith

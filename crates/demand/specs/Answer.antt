@@ -6,6 +6,7 @@
 --   answerOf c n ps       the refusal, else the verdict
 --   Taken c n ps          the run breaks no rule: `proofs/AnswerLaws.antt` has that it is judged exactly then
 --   chargedTime c p       C', or 0 where the costs or the piece are outside the sizes
+--   showingOf c n ps      what is shown of the run, refused as its verdict is
 --   told a                document 01's number for each case, with what it carries
 use mathlib.Core.Bool.{cond, _&&_}
 use mathlib.Core.List.{List, [], _∷_, _++_}
@@ -26,6 +27,9 @@ use Rattle.demand.specs.declared.Answer.{Answer}
 use Rattle.demand.specs.declared.Answer.the-variants.{Judged, Refused}
 use Rattle.demand.specs.declared.Figure.{Figure}
 use Rattle.demand.specs.declared.Figure.the-variants.{Of, Barred}
+use Rattle.demand.specs.declared.Shown.{Shown}
+use Rattle.demand.specs.declared.Showing.{Showing}
+use Rattle.demand.specs.declared.Showing.the-variants.{Shows, Unshown}
 use Rattle.demand.specs.declared.Split.{Split}
 use Rattle.demand.specs.declared.Splitting.{Splitting}
 use Rattle.demand.specs.declared.Splitting.the-variants.{Best, Denied}
@@ -34,6 +38,7 @@ use Rattle.demand.specs.Charge.{charge, coreOf, stall}
 use Rattle.demand.specs.Demand.{demand}
 use Rattle.demand.specs.Busy.{busyLength, tightWindow}
 use Rattle.demand.specs.Verdict.{verdictOf}
+use Rattle.demand.specs.Why.{shownOf}
 use Rattle.demand.specs.Split.{greatestSplit}
 
 abbrev pub firstBad : ℕ → List Piece → ℕ
@@ -73,6 +78,14 @@ figured (Bad r) f = Barred r
 -- the busy length L
 unfoldable pub busyFigure : Costs → ℕ → List Piece → Figure
 busyFigure c n ps = figured (checkRun c n ps) (busyLength (coreOf c (take n ps)))
+
+-- what is shown of the verdict
+abbrev pub showing : Check → Shown → Showing
+showing Fine s = Shows s
+showing (Bad r) s = Unshown r
+
+unfoldable pub showingOf : Costs → ℕ → List Piece → Showing
+showingOf c n ps = showing (checkRun c n ps) (shownOf c (take n ps))
 
 -- the demand g(t), for t up to what a judged length can be
 unfoldable pub demandFigure : Costs → ℕ → List Piece → ℕ → Figure

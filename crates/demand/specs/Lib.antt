@@ -7,6 +7,7 @@ pub mod Charge
 pub mod Demand
 pub mod Busy
 pub mod Verdict
+pub mod Why
 pub mod Split
 pub mod Answer
 pub mod Refusals

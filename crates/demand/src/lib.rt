@@ -139,6 +139,27 @@ pub enum Splitting {
     Denied(Refusal),
 }
 
+/// What a piece is shown to ask for: its jobs, their demand, its interrupts.
+pub struct Ask {
+    pub jobs: u64,
+    pub demand: u64,
+    pub interrupts: u64,
+}
+
+/// What is shown of a core: the verdict on it, and at one length the blocking and the total of what is asked for.
+pub struct Shown {
+    pub verdict: Verdict,
+    pub length: u64,
+    pub blocking: u64,
+    pub total: u64,
+}
+
+/// What is shown of a run of records.
+pub enum Showing {
+    Shows(Shown),
+    Unshown(Refusal),
+}
+
 /// A run of piece records: the first `count` of `pieces`.
 pub struct Run {
     pub count: usize,
