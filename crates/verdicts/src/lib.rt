@@ -13,6 +13,7 @@ mod most_fitting;
 mod queries;
 mod release_sums;
 mod spans;
+mod stretches;
 
 pub use arrays::laid_piece;
 use arrays::lay_out;

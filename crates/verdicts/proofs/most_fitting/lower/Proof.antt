@@ -13,7 +13,7 @@ use Rattle.demand.proofs.greater.Reads as greater-reads
 use Rattle.demand.proofs.lesser.Reads as lesser-reads
 use Rattle.verdicts.proofs.most_fitting.last_below.Reads as last-below-reads
 use Rattle.verdicts.proofs.most_fitting.level_at.Reads as level-at-reads
-use Rattle.verdicts.proofs.most_fitting.stretch_start.Reads as stretch-start-reads
+use Rattle.verdicts.proofs.stretches.stretch_start.Reads as stretch-start-reads
 use Rattle.verdicts.proofs.spans.next_end.Reads as next-end-reads
 
 level-at-requires : tie.Need-level-at-requires

@@ -1,13 +1,13 @@
--- `most_fitting::stretch_start` meets its contract: nothing wraps. What is left of the pieces falls.
+-- `stretches::stretch_start` meets its contract: nothing wraps. What is left of the pieces falls.
 use borrow.Author.Needs.{needs}
 use Prim.Native.Nat.{_≤_, _-_}
 use Rattle.demand.specs.ways.Ranges.{Ranged}
 use Rattle.verdicts.proofs.ChargedArrayLaws.{charged-at-each}
-use Rattle.verdicts.proofs.most_fitting.stretch_start.Statement.{statement}
-use Rattle.verdicts.proofs.most_fitting.stretch_start.Tie as tie
-use Rattle.verdicts.proofs.most_fitting.stretch_start.Reads as reads
-use Rattle.verdicts.proofs.most_fitting.stretch_start.Lts as lts
-use Rattle.verdicts.proofs.most_fitting.piece_start.Reads as piece-start-reads
+use Rattle.verdicts.proofs.stretches.stretch_start.Statement.{statement}
+use Rattle.verdicts.proofs.stretches.stretch_start.Tie as tie
+use Rattle.verdicts.proofs.stretches.stretch_start.Reads as reads
+use Rattle.verdicts.proofs.stretches.stretch_start.Lts as lts
+use Rattle.verdicts.proofs.stretches.piece_start.Reads as piece-start-reads
 use Rattle.demand.proofs.greater.Reads as greater-reads
 use Rattle.verdicts.proofs.arrays.charged_at.Reads as charged-at-reads
 

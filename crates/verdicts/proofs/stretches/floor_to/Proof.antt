@@ -1,11 +1,11 @@
--- `most_fitting::floor_to` meets its contract: a multiple of the quotient is at most the dividend.
+-- `stretches::floor_to` meets its contract: a multiple of the quotient is at most the dividend.
 use native.Mathlib.Nat.{div-mul-le-self}
 use native.Mathlib.Omega.{arith}
 use borrow.Author.Needs.{needs}
-use Rattle.verdicts.proofs.most_fitting.floor_to.Statement.{statement}
-use Rattle.verdicts.proofs.most_fitting.floor_to.Tie as tie
-use Rattle.verdicts.proofs.most_fitting.floor_to.Reads as reads
-use Rattle.verdicts.proofs.most_fitting.floor_to.Lts as lts
+use Rattle.verdicts.proofs.stretches.floor_to.Statement.{statement}
+use Rattle.verdicts.proofs.stretches.floor_to.Tie as tie
+use Rattle.verdicts.proofs.stretches.floor_to.Reads as reads
+use Rattle.verdicts.proofs.stretches.floor_to.Lts as lts
 
 div-result : tie.Need-div-result
 div-result c = search needs
