@@ -4,3 +4,4 @@ pub mod LaidLaws
 pub mod BusyClimbLaws
 pub mod ReleaseSumLaws
 pub mod MostFittingLaws
+pub mod HuntLaws

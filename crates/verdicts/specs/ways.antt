@@ -2,3 +2,4 @@
 pub mod BusyClimb
 pub mod ReleaseSums
 pub mod ChargeWalk
+pub mod SlackHunt

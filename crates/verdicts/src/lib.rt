@@ -12,6 +12,7 @@ mod lengths;
 mod most_fitting;
 mod queries;
 mod release_sums;
+mod slacks;
 mod spans;
 mod stretches;
 

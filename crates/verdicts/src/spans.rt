@@ -8,11 +8,14 @@ use demand::Found;
 use demand::Verdict;
 use demand::greater;
 ghost use mathlib.Core.Path.{_≡_};
-ghost use Prim.Native.Nat.{_≤_};
+ghost use Prim.Native.Nat.{_+_, _≤_};
+ghost use lib.Dec.{ltb};
 ghost use Rattle.verdicts.specs.ChargedArray.{chargedIn};
 ghost use Rattle.demand.specs.ways.Ranges.{Ranged, stallMost};
 ghost use Rattle.demand.specs.Sizes.{Each, busyMost, timeMost, runMost};
+ghost use Rattle.demand.specs.Demand.{demand, largestWindow};
 ghost use Rattle.demand.specs.Verdict.{scan, verdict};
+ghost use Rattle.verdicts.specs.ways.SlackHunt.{Hunts, raised};
 
 // The end below which the descent goes on, after the demand g at t. The demand falls at the largest window w, so from at or above it
 // the descent never steps past it.
@@ -23,23 +26,54 @@ pub fn next_end(g: u64, w: u64, t: u64) -> u64
     if w <= t { greater(g, w) } else { g }
 }
 
-// The greatest overloaded length among the l from a. All lengths from `end` up are known to be calm.
+// Whether the length t is overloaded with the demand g and the bar added.
+pub fn reaches(g: u64, bar: u64, t: u64) -> bool
+    ensures { λ r. ⌜ r ≡ ltb t (g + bar) ⌝ }
+{
+    if t < g {
+        return true;
+    }
+    t - g < bar
+}
+
+// The greatest of the l lengths from a at which the demand, with the bar added, is above the length; w is the largest window. All lengths from `end` up are known to be
+// below it.
+pub fn hunt(
+    core: &[u64; CORE_NUMBERS],
+    n: usize,
+    b: u64,
+    w: u64,
+    bar: u64,
+    a: u64,
+    l: u64,
+) -> Found
+    requires { ⌜ (n ≤ runMost) × Each Ranged (chargedIn (now core) n) ⌝ }
+    requires { ⌜ (b ≤ stallMost) × (w ≡ largestWindow (chargedIn (now core) n)) × (a ≤ timeMost) × (l ≤ busyMost) ⌝ }
+    ensures { λ r. ⌜ Hunts (raised (demand b (chargedIn (now (core .entry)) n)) bar) a l r ⌝ }
+{
+    let mut end = a + l;
+    while a < end {
+        let t = end - 1;
+        let g = demand_at(core, n, b, w, t);
+        if reaches(g, bar, t) {
+            return Found::At(t);
+        }
+        end = next_end(g + bar, w, t);
+    }
+    Found::Nothing
+}
+
+// The greatest overloaded length among the l from a: a hunt with no bar.
 pub fn descend(core: &[u64; CORE_NUMBERS], n: usize, b: u64, a: u64, l: u64) -> Verdict
     requires { ⌜ (n ≤ runMost) × Each Ranged (chargedIn (now core) n) ⌝ }
     requires { ⌜ (b ≤ stallMost) × (a ≤ timeMost) × (l ≤ busyMost) ⌝ }
     ensures { λ r. ⌜ r ≡ scan b (chargedIn (now (core .entry)) n) a l ⌝ }
 {
     let w = largest_window(core, n);
-    let mut end = a + l;
-    while a < end {
-        let t = end - 1;
-        let g = demand_at(core, n, b, w, t);
-        if t < g {
-            return Verdict::Overloaded(t);
-        }
-        end = next_end(g, w, t);
+    match hunt(core, n, b, w, 0, a, l) {
+        Found::At(t) => Verdict::Overloaded(t),
+        Found::Nothing => Verdict::Passes,
     }
-    Verdict::Passes
 }
 
 // The verdict on a core with the stall b.

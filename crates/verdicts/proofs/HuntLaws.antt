@@ -1,0 +1,102 @@
+-- Laws of the hunts: what a hunt finds, and that hunts lead to the least slack. Of any demand g that does not fall on either side of w.
+-- Assumes nothing.
+--
+--   core-rises                                      the demand of a core is such a one
+--   test-moves                                      the test that does not wrap
+--   quiet-more                                      a step passes over lengths only that are not overloaded
+--   hunt-hit, hunt-none                             a hunt with no bar is the verdict's scan
+--   hit-of, none-of, bar-is                         what a hunt's answer says, and the bar as the code has it
+--   leads-start, leads-hit, leads-none, leads-low   how the search for the least slack begins, goes on and ends
+use mathlib.Core.Path.{_≡_, refl, subst}
+use mathlib.Core.List.{List}
+use Prim.Native.Nat.{ℕ, _+_, _-_, _≤_, _<_}
+use native.Mathlib.Decide.{decLt}
+use native.Mathlib.Omega.{arith}
+use borrow.Author.Tests.{lt-ltb, le-ltb}
+use lib.Dec.{ltb}
+use Rattle.demand.specs.declared.Charged.{Charged}
+use Rattle.demand.specs.declared.Found.{Found}
+use Rattle.demand.specs.declared.Found.the-variants.{At, Nothing}
+use Rattle.demand.specs.declared.Verdict.the-variants.{Passes, Overloaded}
+use Rattle.demand.specs.Demand.{demand, largestWindow}
+use Rattle.demand.specs.Verdict.{scan}
+use Rattle.demand.specs.Why.{slack, LeastSlack}
+use Rattle.demand.proofs.DemandLaws.{demand-mono}
+use Rattle.demand.proofs.VerdictLaws.{scan-is}
+use Rattle.verdicts.specs.ways.SlackHunt.{Rises, raised, Quiet, Hit, Hunts, Level, Leads}
+
+pub core-rises : (b : ℕ) (qs : List Charged) → Rises (demand b qs) (largestWindow qs)
+core-rises b qs t u up side = demand-mono qs b {t = t} {u = u} up side
+
+-- ---- a hunt
+
+pub test-moves : (t x bar : ℕ) → x ≤ t → ltb (t - x) bar ≡ ltb t (x + bar)
+test-moves t x bar h = elim (decLt (t - x) bar) [
+  | yes k ↦ rw (lt-ltb (t - x) bar k, lt-ltb t (x + bar) (omega arith)) refl
+  | no k ↦ rw (le-ltb (t - x) bar (omega arith), le-ltb t (x + bar) (omega arith)) refl
+]
+
+pub quiet-more : (g : ℕ → ℕ) (w bar : ℕ) → Rises g w → (t low end : ℕ) → raised g bar t ≤ low → (w ≤ t → w ≤ low) → Quiet (raised g bar) (t + 1) end
+    → Quiet (raised g bar) low end
+quiet-more g w bar rises t low end fits side quiet u from below = elim (decLt t u) [
+  | yes above ↦ quiet u (omega arith) below
+  | no under ↦ omega (arith, rises u t (omega arith) (λ wide. omega (arith, side wide)))
+]
+
+module _ (b : ℕ) (qs : List Charged) (a l : ℕ) where
+  pub hunt-hit : (t : ℕ) → Hunts (raised (demand b qs) 0) a l (At t) → Overloaded t ≡ scan b qs a l
+  hunt-hit t hit = scan-is b qs a l (Overloaded t)
+      (record { from = hit .from; below = hit .below; over = omega (arith, hit .over); calm = λ u from below. omega (arith, hit .quiet u from below) })
+
+  pub hunt-none : Hunts (raised (demand b qs) 0) a l Nothing → Passes ≡ scan b qs a l
+  hunt-none quiet = scan-is b qs a l Passes (λ u from below. omega (arith, quiet u from below))
+
+pub hit-of : (g : ℕ → ℕ) (a l : ℕ) (r : Found) (t : ℕ) → Hunts g a l r → r ≡ At t → Hit g a l t
+hit-of g a l r t hunts e = subst (λ (x : Found). Hunts g a l x) e hunts
+
+pub none-of : (g : ℕ → ℕ) (a l : ℕ) (r : Found) → Hunts g a l r → r ≡ Nothing → Quiet g a (a + l)
+none-of g a l r hunts e = subst (λ (x : Found). Hunts g a l x) e hunts
+
+-- ---- to the least slack
+
+pub bar-is : (g : ℕ → ℕ) (best x y : ℕ) → x ≡ g best → y ≡ best - x → y + 1 ≡ slack g best + 1
+unfolding slack
+bar-is g best x y e f = omega (arith, e, f)
+
+pub leads-start : (g : ℕ → ℕ) (a l : ℕ) → 1 ≤ l → Leads g a l a (a + l)
+leads-start g a l some =
+    record { from = omega arith; upto = omega arith; below = omega arith; inside = omega arith; least = λ u past below. absurd (omega arith) }
+
+module _ (g : ℕ → ℕ) (w a l best end : ℕ) (lead : Leads g a l best end) where
+  pub leads-hit : (t v : ℕ) → Rises g w → Hit (raised g (slack g best + 1)) a (end - a) t → Level g w a t v → Leads g a l v v
+  unfolding slack
+  leads-hit t v rises hit level = record {
+    from = level .from;
+    upto = omega arith;
+    below = omega (arith, hit .below, level .upto, lead .inside);
+    inside = omega (arith, hit .below, level .upto, lead .inside);
+    least = λ u past near. elim (decLt t u) [
+      | no low ↦ omega (arith, level .same, rises u t (omega arith) (λ wide. omega (arith, level .side wide)))
+      | yes high ↦ elim (decLt u end) [
+        | yes inner ↦ omega (arith, hit .over, level .same, level .upto, hit .quiet u (omega arith) (omega arith))
+        | no outer ↦ omega (arith, hit .over, level .same, level .upto, lead .least u (omega arith) near)
+      ]
+    ];
+  }
+
+  pub leads-none : Quiet (raised g (slack g best + 1)) a (a + (end - a)) → LeastSlack g a l best
+  unfolding slack
+  leads-none quiet = record {
+    from = lead .from;
+    below = lead .below;
+    least = λ u from near. elim (decLt u end) [ yes inner ↦ omega (arith, quiet u from (omega arith)) | no outer ↦ lead .least u (omega arith) near ];
+    shortest = λ u from less. omega (arith, lead .upto, quiet u from (omega (arith, lead .upto)));
+  }
+
+  pub leads-low : end ≤ a → LeastSlack g a l best
+  leads-low low = record {
+    from = lead .from;
+    below = lead .below;
+    least = λ u from near. lead .least u (omega arith) near;
+    shortest = λ u from less. absurd (omega (arith, lead .upto));
+  }

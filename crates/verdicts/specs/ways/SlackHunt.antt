@@ -1,0 +1,46 @@
+-- How the least slack of a span is found: by hunts. A hunt finds the greatest length at which the demand, with a bar added, is above the length; with no bar that is the
+-- verdict's own walk. It is a way and no meaning; the laws are in `proofs/HuntLaws.antt`, for any demand g that does not fall on either side of w.
+--
+--   Rises g w            g does not fall from t to u, unless w lies between them
+--   raised g bar         the demand with the bar added: "slack below the bar" is "overloaded" there
+--   Hit g a l t          t is the greatest length of the l from a that is overloaded
+--   Hunts g a l r        r is that length, or says that there is none
+--   Level g w a t r      r is t, or a shorter length from a, on t's side of w, with the same demand
+--   Leads g a l best end     no length of the l from a which is not below `end` has less slack than `best`, and `best` is not above it
+use mathlib.Core.Path.{_≡_}
+use Prim.Native.Nat.{ℕ, _+_, _≤_, _<_}
+use Rattle.demand.specs.declared.Found.{Found}
+use Rattle.demand.specs.declared.Found.the-variants.{At, Nothing}
+use Rattle.demand.specs.Why.{slack}
+
+abbrev pub Rises : (ℕ → ℕ) → ℕ → Type 0
+Rises g w = (t u : ℕ) → t ≤ u → (w ≤ u → w ≤ t) → g t ≤ g u
+
+abbrev pub raised : (ℕ → ℕ) → ℕ → ℕ → ℕ
+raised g bar t = g t + bar
+
+abbrev pub Quiet : (ℕ → ℕ) → ℕ → ℕ → Type 0
+Quiet g a e = (u : ℕ) → a ≤ u → u < e → g u ≤ u
+
+pub record Hit (g : ℕ → ℕ) (a l t : ℕ) : Type 0 where
+  pub from : a ≤ t
+  pub below : t < a + l
+  pub over : t < g t
+  pub quiet : Quiet g (t + 1) (a + l)
+
+abbrev pub Hunts : (ℕ → ℕ) → ℕ → ℕ → Found → Type 0
+Hunts g a l (At t) = Hit g a l t
+Hunts g a l Nothing = Quiet g a (a + l)
+
+pub record Level (g : ℕ → ℕ) (w a t r : ℕ) : Type 0 where
+  pub from : a ≤ r
+  pub upto : r ≤ t
+  pub same : g r ≡ g t
+  pub side : w ≤ t → w ≤ r
+
+pub record Leads (g : ℕ → ℕ) (a l best end : ℕ) : Type 0 where
+  pub from : a ≤ best
+  pub upto : best ≤ end
+  pub below : best < a + l
+  pub inside : end ≤ a + l
+  pub least : (u : ℕ) → end ≤ u → u < a + l → slack g best ≤ slack g u
