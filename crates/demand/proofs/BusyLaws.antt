@@ -90,6 +90,9 @@ busy-nothing qs l past clear = busy-length-is qs Nothing (λ k h p. clear k (ome
 pub busy-length-within : (qs : List Charged) (l : ℕ) → busyLength qs ≡ At l → l ≤ busyMost
 busy-length-within qs l e = subst (λ (r : Found). Finds (busySum qs) busyMost r) e (busy-length-finds qs) .1
 
+pub busy-length-some : (qs : List Charged) (l : ℕ) → busyLength qs ≡ At l → 1 ≤ l
+busy-length-some qs l e = subst (λ (r : Found). Finds (busySum qs) busyMost r) e (busy-length-finds qs) .0 .here .some
+
 -- ---- the tight window
 
 pub tight-of-last : (b : ℕ) (all qs : List Charged) (q : Charged) → tightOfLast b all (qs ++ (q ∷ [])) ≡ tightWindow b all q (q .window)

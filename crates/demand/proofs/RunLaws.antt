@@ -3,7 +3,7 @@
 --
 --   length-mapped   how long an array of structs is
 --   check-many, check-costs, check-records      the refusals in their order
---   answer-fine, answer-bad, figure-fine, figure-bad      what is then answered
+--   answer-fine, answer-bad, showing-fine, showing-bad, figure-fine, figure-bad      what is then answered
 --   taken-check, taken-answer      a run within the sizes is not refused
 --   check-taken     what is known of a run that is not refused
 --   check-place     the first record outside the sizes is refused by its place
@@ -39,7 +39,9 @@ use Rattle.demand.specs.declared.Split.{Split}
 use Rattle.demand.specs.declared.Splitting.the-variants.{Best, Denied}
 use Rattle.demand.specs.Charge.{coreOf}
 use Rattle.demand.specs.Verdict.{verdictOf}
-use Rattle.demand.specs.Answer.{Taken, firstBad, badRecord, checkRun, answerOf, figured, splitted}
+use Rattle.demand.specs.declared.Showing.the-variants.{Shows, Unshown}
+use Rattle.demand.specs.Why.{shownOf}
+use Rattle.demand.specs.Answer.{Taken, firstBad, badRecord, checkRun, answerOf, showingOf, figured, splitted}
 use Rattle.demand.proofs.RecordLaws.{records-length, records-at, kind-outside}
 use Rattle.demand.proofs.Sums.{each-front, each-last}
 use Rattle.demand.proofs.ChargeLaws.{all-countable, core-ranged}
@@ -184,6 +186,14 @@ answer-fine c n ps e = rw e
 pub answer-bad : (c : Costs) (n : ℕ) (ps : List Piece) (r : Refusal) → checkRun c n ps ≡ Bad r → answerOf c n ps ≡ Refused r
 unfolding answerOf
 answer-bad c n ps r e = rw e
+
+pub showing-fine : (c : Costs) (n : ℕ) (ps : List Piece) → checkRun c n ps ≡ Fine → showingOf c n ps ≡ Shows (shownOf c (take n ps))
+unfolding showingOf
+showing-fine c n ps e = rw e
+
+pub showing-bad : (c : Costs) (n : ℕ) (ps : List Piece) (r : Refusal) → checkRun c n ps ≡ Bad r → showingOf c n ps ≡ Unshown r
+unfolding showingOf
+showing-bad c n ps r e = rw e
 
 pub split-fine : (k : Check) (s : Split) → k ≡ Fine → Best s ≡ splitted k s
 split-fine k s e = rw e

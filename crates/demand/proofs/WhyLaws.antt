@@ -3,6 +3,7 @@
 --
 --   least-slack-one, least-slack-means, least-slack-is      the shortest length with the least slack is one, and `leastSlack` gives it
 --   ask-adds, shown-adds                        the blocking and what the pieces ask for add up to the total
+--   shown-beyond, shown-over, shown-calm        what is shown, as the engine comes to it
 --   shown-verdict                               the verdict that is named is the verdict
 --   shown-overloaded                            overloaded: at its own length, which asks for more than itself
 --   shown-passes                                passes: at a live length of the judged span, with the least slack, the shortest if several
@@ -15,6 +16,7 @@ use Prim.Native.Nat.{ℕ, zero, suc, _+_, _*_, _-_, _≤_, _<_}
 use native.Mathlib.Decide.{decLt}
 use native.Mathlib.Omega.{arith}
 use borrow.Author.Tests.{lt-ltb, le-ltb}
+use lib.ListN.{length}
 use Rattle.demand.specs.declared.Charged.{Charged}
 use Rattle.demand.specs.declared.Ask.{Ask}
 use Rattle.demand.specs.declared.Shown.{Shown}
@@ -25,12 +27,12 @@ use Rattle.demand.specs.declared.Verdict.the-variants.{Passes, Overloade
 use Rattle.demand.specs.Sizes.{busyMost}
 use Rattle.demand.specs.Demand.{ceil, total, jobsDue, interrupts, blocking, load, demand, Live, leastLive}
 use Rattle.demand.specs.Busy.{Least, Finds, leastHolding, busyLoad, busySum, busyLength}
-use Rattle.demand.specs.Verdict.{Judged, Calm, Means, verdict}
+use Rattle.demand.specs.Verdict.{Judged, Calm, Means, scan, overSpan, verdict}
 use Rattle.demand.specs.Why.{slack, LeastSlack, tighter, leastSlack, dueAsk, busyAsk, askSum, tightestOver, lengthShown, shownAt, shown}
 use Rattle.demand.proofs.Sums.{total-same}
 use Rattle.demand.proofs.BusyLaws.{least-unique, busy-length-finds}
 use Rattle.demand.proofs.DemandLaws.{live-mono, least-live-least}
-use Rattle.demand.proofs.VerdictLaws.{verdict-means, verdict-empty}
+use Rattle.demand.proofs.VerdictLaws.{verdict-means, verdict-span, verdict-empty}
 
 -- ---- the least slack
 
@@ -128,12 +130,26 @@ module _ (b : ℕ) (qs : List Charged) where
   unfolding shown
   shown-adds = ask-adds b qs (verdict b qs) (lengthShown b qs (verdict b qs))
 
-  shown-is : (v : Verdict) → verdict b qs ≡ v → shown b qs ≡ shownAt b qs v (lengthShown b qs v)
+  pub shown-is : (v : Verdict) → verdict b qs ≡ v → shown b qs ≡ shownAt b qs v (lengthShown b qs v)
   unfolding shown
   shown-is v e = ap (λ (w : Verdict). shownAt b qs w (lengthShown b qs w)) e
 
   means : (v : Verdict) → verdict b qs ≡ v → Means b qs v
   means v e = subst (λ (w : Verdict). Means b qs w) e (verdict-means b qs)
+
+  -- as the engine goes: by the busy length, then by the span
+  pub shown-beyond : 1 ≤ length qs → busyLength qs ≡ Nothing → shown b qs ≡ shownAt b qs Undecided busyMost
+  shown-beyond some none = shown-is Undecided (verdict-span b qs some ∙ ap (overSpan b qs (leastLive qs)) none)
+
+  module _ (some : 1 ≤ length qs) (l : ℕ) (busy : busyLength qs ≡ At l) where
+    verdict-is : verdict b qs ≡ scan b qs (leastLive qs) l
+    verdict-is = verdict-span b qs some ∙ ap (overSpan b qs (leastLive qs)) busy
+
+    pub shown-over : (t : ℕ) → Overloaded t ≡ scan b qs (leastLive qs) l → shown b qs ≡ shownAt b qs (Overloaded t) t
+    shown-over t over = shown-is (Overloaded t) (verdict-is ∙ sym over)
+
+    pub shown-calm : Passes ≡ scan b qs (leastLive qs) l → shown b qs ≡ shownAt b qs Passes (leastSlack (demand b qs) (leastLive qs) (l - 1))
+    shown-calm calm = shown-is Passes (verdict-is ∙ sym calm) ∙ ap (λ (r : Found). shownAt b qs Passes (tightestOver b qs r)) busy
 
   pub shown-overloaded : (t : ℕ) → verdict b qs ≡ Overloaded t → (shown b qs ≡ shownAt b qs (Overloaded t) t) × (t < demand b qs t)
   shown-overloaded t e = (shown-is (Overloaded t) e, means (Overloaded t) e .3 .over)

@@ -5,3 +5,4 @@ pub mod BusyClimbLaws
 pub mod ReleaseSumLaws
 pub mod MostFittingLaws
 pub mod HuntLaws
+pub mod AskLaws

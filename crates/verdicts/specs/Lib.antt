@@ -2,4 +2,5 @@
 pub mod ChargedArray
 pub mod MostFitting
 pub mod Laid
+pub mod Asks
 pub mod ways

@@ -12,6 +12,7 @@ mod lengths;
 mod most_fitting;
 mod queries;
 mod release_sums;
+mod shows;
 mod slacks;
 mod spans;
 mod stretches;
@@ -32,12 +33,14 @@ use demand::Found;
 use demand::RUN_MOST;
 use demand::RUN_NUMBERS;
 use demand::Run;
+use demand::Showing;
 use demand::TIME_MOST;
 use demand::check_records;
 use demand::records_of;
 use demands::demand_at;
 use demands::largest_window;
 use lengths::tight_of;
+pub use queries::ask_of;
 pub use queries::laid_busy_length;
 pub use queries::laid_largest_window;
 pub use queries::laid_least_live;
@@ -47,9 +50,10 @@ pub use queries::laid_sum;
 pub use queries::laid_tight_window;
 pub use queries::laid_verdict;
 pub use queries::laid_wait;
+use shows::show_core;
 use spans::judge_core;
 ghost use mathlib.Core.Path.{_≡_};
-ghost use Rattle.demand.specs.Answer.{answerOf, busyFigure, demandFigure, tightFigure};
+ghost use Rattle.demand.specs.Answer.{answerOf, busyFigure, demandFigure, showingOf, tightFigure};
 ghost use Rattle.demand.specs.Records.{recordsOf};
 
 /// How many numbers a core that is laid out is, seven to a charged piece. As many as a lent run of records, with other columns.
@@ -105,6 +109,20 @@ pub fn judge(costs: Costs, run: Run) -> Answer
     let records = records_of(run);
     let n = run.count;
     judge_records(costs, &records, n)
+}
+
+/// What is shown of the verdict on the first `count` records; refused as that is.
+pub fn show_records(costs: Costs, records: &[u64; RUN_NUMBERS], count: usize) -> Showing
+    ensures exact { λ r. ⌜ r ≡ showingOf costs count (recordsOf (now (records .entry))) ⌝ }
+{
+    match check_records(costs, records, count) {
+        Check::Bad(why) => Showing::Unshown(why),
+        Check::Fine => {
+            let mut core: [u64; CORE_NUMBERS] = [0; CORE_NUMBERS];
+            lay_out(&mut core, costs, records, count);
+            Showing::Shows(show_core(&core, count, stall_of(costs)))
+        }
+    }
 }
 
 /// The busy length L of the first `count` records, if there is one up to the limit; refused as their verdict is.

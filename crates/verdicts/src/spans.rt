@@ -38,15 +38,7 @@ pub fn reaches(g: u64, bar: u64, t: u64) -> bool
 
 // The greatest of the l lengths from a at which the demand, with the bar added, is above the length; w is the largest window. All lengths from `end` up are known to be
 // below it.
-pub fn hunt(
-    core: &[u64; CORE_NUMBERS],
-    n: usize,
-    b: u64,
-    w: u64,
-    bar: u64,
-    a: u64,
-    l: u64,
-) -> Found
+pub fn hunt(core: &[u64; CORE_NUMBERS], n: usize, b: u64, w: u64, bar: u64, a: u64, l: u64) -> Found
     requires { ⌜ (n ≤ runMost) × Each Ranged (chargedIn (now core) n) ⌝ }
     requires { ⌜ (b ≤ stallMost) × (w ≡ largestWindow (chargedIn (now core) n)) × (a ≤ timeMost) × (l ≤ busyMost) ⌝ }
     ensures { λ r. ⌜ Hunts (raised (demand b (chargedIn (now (core .entry)) n)) bar) a l r ⌝ }

@@ -31,13 +31,13 @@ add-end c = search needs
 
 -- src/slacks.rt:48:5
 loop-holds : tie.Need-loop-holds Inv-loop μ-loop
-loop-holds c = 
+loop-holds c =
     let s = c .args in
     leads-start (demand (s .b) (chargedIn (s .core .now) (s .n))) (s .a) (s .l) (c .pre .1 .1 .1)
 
 -- src/slacks.rt:49:13
 demand-at-requires : tie.Need-demand-at-requires Inv-loop μ-loop
-demand-at-requires c κs = 
+demand-at-requires c κs =
     let pre = c .before .before .pre in
     (pre .0, (pre .1 .0 .0, pre .1 .0 .1, omega (arith, c .before .loop .inv .below)))
 
@@ -55,7 +55,7 @@ sub-hunt c = omega arith
 
 -- src/slacks.rt:51:15
 hunt-requires : tie.Need-hunt-requires Inv-loop μ-loop
-hunt-requires c κs = 
+hunt-requires c κs =
     let pre = c .before .before .before .before .pre in
     (pre .0, (pre .1 .0 .0, pre .1 .0 .1, pre .1 .1 .0, omega (arith, c .before .before .before .loop .inv .inside)))
 
@@ -65,7 +65,7 @@ enum-told c = search needs
 
 -- src/slacks.rt:53:17
 returns : tie.Need-returns Inv-loop μ-loop
-returns c = 
+returns c =
     let s = c .before .before .before .before .before .before .before .args in
     let now = c .before .before .before .before .before .before .loop in
     let g = demand (s .b) (chargedIn (s .core .now) (s .n)) in
@@ -79,7 +79,7 @@ enum-known-t c = search needs
 
 -- src/slacks.rt:56:21
 level-requires : tie.Need-level-requires Inv-loop μ-loop
-level-requires c κs = 
+level-requires c κs =
     let s = c .before .before .before .before .before .before .before .before .args in
     let now = c .before .before .before .before .before .before .before .loop in
     let g = demand (s .b) (chargedIn (s .core .now) (s .n)) in
@@ -89,7 +89,7 @@ level-requires c κs =
 
 -- src/slacks.rt:48:5
 loop-less : tie.Need-loop-less Inv-loop μ-loop
-loop-less c = 
+loop-less c =
     let s = c .before .before .before .before .before .before .before .before .before .args in
     let now = c .before .before .before .before .before .before .before .before .loop in
     let g = demand (s .b) (chargedIn (s .core .now) (s .n)) in
@@ -99,7 +99,7 @@ loop-less c =
 
 -- src/slacks.rt:48:5
 loop-again : tie.Need-loop-again Inv-loop μ-loop
-loop-again c = 
+loop-again c =
     let s = c .before .before .before .before .before .before .before .before .before .args in
     let now = c .before .before .before .before .before .before .before .before .loop in
     let g = demand (s .b) (chargedIn (s .core .now) (s .n)) in
@@ -110,7 +110,7 @@ loop-again c =
 
 -- src/slacks.rt:40:1
 returns-2 : tie.Need-returns-2 Inv-loop μ-loop
-returns-2 c = 
+returns-2 c =
     let s = c .before .before .args in
     let now = c .before .loop in
     let g = demand (s .b) (chargedIn (s .core .now) (s .n)) in

@@ -36,7 +36,7 @@ sub-t c = search needs
 
 -- src/spans.rt:57:13
 demand-at-requires : tie.Need-demand-at-requires Inv-loop μ-loop
-demand-at-requires c κs = 
+demand-at-requires c κs =
     let pre = c .before .before .pre in
     (pre .0, (pre .1 .0, pre .1 .1, omega arith))
 
@@ -46,7 +46,7 @@ reaches-requires c κs = search needs
 
 -- src/spans.rt:59:13
 returns : tie.Need-returns Inv-loop μ-loop
-returns c = 
+returns c =
     let s = c .before .before .before .before .before .args in
     let loop = c .before .before .before .before .loop in
     let x = c .before .before .demand-at .result in
@@ -55,7 +55,7 @@ returns c =
 
 -- src/spans.rt:61:24
 add-next-end : tie.Need-add-next-end Inv-loop μ-loop
-add-next-end c = 
+add-next-end c =
     let s = c .before .before .before .before .before .args in
     let loop = c .before .before .before .before .loop in
     let x = c .before .before .demand-at .result in
@@ -64,7 +64,7 @@ add-next-end c =
 
 -- src/spans.rt:61:9
 next-end-requires : tie.Need-next-end-requires Inv-loop μ-loop
-next-end-requires c κs = 
+next-end-requires c κs =
     let s = c .before .before .before .before .before .args in
     let loop = c .before .before .before .before .loop in
     let x = c .before .before .demand-at .result in
@@ -77,7 +77,7 @@ loop-less c = search needs
 
 -- src/spans.rt:55:5
 loop-again : tie.Need-loop-again Inv-loop μ-loop
-loop-again c = 
+loop-again c =
     let s = c .before .before .before .before .before .before .args in
     let loop = c .before .before .before .before .before .loop in
     let qs = chargedIn (s .core .now) (s .n) in
