@@ -1,5 +1,6 @@
-// A plan's listing, written into a lent buffer: document 01, "Sheet".
+// The texts that are written into a lent buffer: a plan's listing (document 01, "Sheet"), and the listing that says why (document 02, E1).
 mod texts;
+mod whys;
 
 use demand::Costs;
 use demand::Kind;
@@ -30,6 +31,12 @@ ghost use Rattle.plan.specs.Layout.{blank};
 ghost use Rattle.lines.specs.Lines.{bytesOf};
 ghost use Rattle.listing.specs.Text.{Wrote, endedBy, textLine, decimal, over};
 ghost use Rattle.listing.specs.Listing.{spelling, kindWord, figuresLine, entryWith, listingOf, planWith, listedOn, entryLine};
+
+/// What is said of a text that is asked for in a lent buffer: a refusal's number and what it carries, or 0 and the text's length.
+pub struct Note {
+    pub number: u64,
+    pub carries: u64,
+}
 
 // A kind's word, ended by a tab.
 fn put_kind(buf: &mut [u8], at: usize, kind: Kind) -> usize

@@ -1,0 +1,37 @@
+-- How the pieces of a core lie in arrays: their records, and beside them the places of their tasks.
+--
+--   seatsIn q ks a n      the first n, on core q: the records of a, of the tasks at the places ks
+--   titledIn b ts ks a n  the same, called by the names of these tasks in ts; or, where b is false, by their own places from 1
+--   frontOf k n m         the line in front of a listing: none where k is 0
+use mathlib.Core.Bool.{Bool, true, false}
+use mathlib.Core.List.{List, []}
+use Prim.Native.Nat.{ℕ, zero, suc, _+_}
+use lib.ListN.{getD}
+use Rattle.demand.specs.Lists.{firsts}
+use Rattle.demand.specs.Records.{recordAt}
+use Rattle.task.specs.declared.Task.{Task}
+use Rattle.task.specs.Tasks.{taskAt}
+use Rattle.walks.specs.Way.{Placed}
+use Rattle.listing.specs.Text.{decimal}
+use Rattle.listing.specs.Listing.{spelling}
+use Rattle.listing.specs.Why.{Titled, noRoomLine}
+
+abbrev pub seatIn : ℕ → List ℕ → List ℕ → ℕ → Placed ℕ
+seatIn q ks a i = record { on = q; item = getD ks i 0; piece = recordAt a i }
+
+abbrev pub seatsIn : ℕ → List ℕ → List ℕ → ℕ → List (Placed ℕ)
+seatsIn q ks a n = firsts (seatIn q ks a) n
+
+abbrev pub titleIn : Bool → List Task → List ℕ → ℕ → List ℕ
+titleIn true ts ks i = spelling (taskAt ts (getD ks i 0) .name)
+titleIn false ts ks i = decimal (i + 1)
+
+abbrev pub titledAt : Bool → List Task → List ℕ → List ℕ → ℕ → Titled
+titledAt b ts ks a i = record { title = titleIn b ts ks i; piece = recordAt a i }
+
+abbrev pub titledIn : Bool → List Task → List ℕ → List ℕ → ℕ → List Titled
+titledIn b ts ks a n = firsts (titledAt b ts ks a) n
+
+abbrev pub frontOf : ℕ → List ℕ → ℕ → List ℕ
+frontOf zero n m = []
+frontOf (suc k) n m = noRoomLine (suc k) n m
