@@ -46,12 +46,12 @@ use Rattle.task.specs.Tasks.{wholePiece, taskAt, stateFault}
 use Rattle.task.proofs.TaskLaws.{Sane, state-sane}
 use Rattle.walks.specs.Lists.{Chain, sumBy}
 use Rattle.walks.specs.Order.{Precedes}
-use Rattle.walks.specs.Way.{Placed, placedAs, Ending, fine, stuck, onCore, rowOf}
+use Rattle.walks.specs.Way.{Placed, placedAs, Ending, fine, stuck, SticksAt, onCore, rowOf}
 use Rattle.walks.specs.Halves.{Stand, Shared, splitCount}
 use Rattle.walks.proofs.ListLaws.{each-middle, sum-map}
 use Rattle.walks.proofs.OrderLaws.{pack-every, pack-ranked}
 use Rattle.walks.proofs.DenserLaws.{denser-lawful}
-use Rattle.walks.proofs.WayLaws.{SticksAt, sticks-at, walk-items}
+use Rattle.walks.proofs.WayLaws.{stuck-where, walk-items}
 use Rattle.walks.proofs.SoundLaws.{Planned, Has, Divided, share-of, spots-within, few-on-core, apart-on, pieces-each}
 use Rattle.walks.proofs.HalvesLaws.{shared-firsts, shares-firsts, shared-free}
 use Rattle.plan.specs.declared.Reply.{Reply}
@@ -164,12 +164,12 @@ module _ (m : Machine) (c : Costs) (n : ℕ) (ts : List Task) (faultless : state
 
   pub no-room-at : (k : ℕ) → walked m c (take n ts) ≡ stuck k 7 → SticksAt (placeWay m c (take n ts)) (placeWay m c (take n ts) .begin) (packed (take n ts)) k 7
   unfolding walked
-  no-room-at k e = sticks-at (placeWay m c (take n ts)) (packed (take n ts)) (placeWay m c (take n ts) .begin) k 7 e
+  no-room-at k e = stuck-where (placeWay m c (take n ts)) (placeWay m c (take n ts) .begin) (packed (take n ts)) k 7 e
 
   pub no-room-place : (k : ℕ) → walked m c (take n ts) ≡ stuck k 7 → k < length (take n ts)
   no-room-place k e =
       let at = no-room-at k e in
-      each-middle (λ (j : ℕ). j < length (take n ts)) (at .before) k (at .after)
+      each-middle (λ (j : ℕ). j < length (take n ts)) (at .ahead) k (at .later)
       (subst (Each (λ j. j < length (take n ts))) (at .order) (in-order (take n ts) .below))
 
   -- ---- every task is placed

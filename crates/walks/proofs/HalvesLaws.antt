@@ -39,7 +39,7 @@ use Rattle.walks.specs.Shares.{Divides, Kinds, Shares, nil, more}
 use Rattle.walks.specs.Kept.{Meet}
 use Rattle.walks.specs.Halves.{Stand, inOne, inTwo, fromCore, halving, Shared, one-piece, two-pieces, splitCount}
 use Rattle.walks.proofs.ListLaws.{sum-append}
-use Rattle.walks.proofs.WayLaws.{IfLands, sticks-at}
+use Rattle.walks.proofs.WayLaws.{IfLands, stuck-where}
 use Rattle.walks.proofs.SoundLaws.{row-append, Claim, Sound}
 
 module _ {A : Type 0} (c : Costs) (g m : ℕ) (whole : A → Piece) where
@@ -109,8 +109,8 @@ module _ (c : Costs) (g : ℕ) (w : Piece) where
 
 pub sticks-seven : {A : Type 0} (c : Costs) (g m : ℕ) (whole : A → Piece) (xs : List A) (a : A) (n : ℕ) → walkOver (halving c g m whole) xs ≡ stuck a n → n ≡ 7
 sticks-seven c g m whole xs a n e =
-    let at = sticks-at (halving c g m whole) xs (halving c g m whole .begin) a n e in
-    from-seven c g (whole a) (m - 1 - at .at .core) (at .at .core) (at .at .row) n (at .here)
+    let at = stuck-where (halving c g m whole) (halving c g m whole .begin) xs a n e in
+    from-seven c g (whole a) (m - 1 - at .at .core) (at .at .core) (at .at .row) n (at .refused)
 
 -- ---- what one placement keeps
 
