@@ -8,6 +8,7 @@
 --   until-fine            where a walk does not stick, what is placed before it does is all that it places
 --   until-stuck           where it sticks, it is what the items ahead of that one place
 --   stuck-where           a walk that sticks does at the first item that has no place, with that one's number
+--   Reaches, until-reaches      stuck or not, it is what some items at the front place, over which the walk does not stick
 --   walk-keeps, over-keeps      what every placement keeps, of the items so far, the state and what is placed, the walk keeps
 --   shares-snoc           the share of one item more
 --   walk-items            what holds of each item holds of each that is placed
@@ -164,6 +165,23 @@ module _ {A : Type 0} (W : Way A) where
             reached = ap (λ (z : Landing (W .State)). fine s (onwardPlaced (landed x z) (λ u. placedUntil W u xs))) (sym f);
             refused = ap (W .place s) (sym own) ∙ (f ∙ ap refuses number);
           }
+
+  -- stuck or not, a walk does not stick over the items ahead of where it does
+  pub record Reaches (s : W .State) (xs : List A) : Type 0 where
+    pub ahead : List A
+    pub rest : List A
+    pub at : W .State
+    pub order : xs ≡ ahead ++ rest
+    pub reached : walk W s ahead ≡ fine at (placedUntil W s xs)
+
+  pub until-reaches : (s : W .State) (xs : List A) → Reaches s xs
+  until-reaches s xs = by (walk W s xs) refl
+    where
+      by : (o : Ending (W .State) A) → walk W s xs ≡ o → Reaches s xs
+      by (fine t l) e =
+          record { ahead = xs; rest = []; at = t; order = sym (append-nil xs); reached = e ∙ ap (fine t) (sym (until-fine s t xs l e)) }
+      by (stuck a n) e =
+          (let h = stuck-where s xs a n e in record { ahead = h .ahead; rest = a ∷ h .later; at = h .at; order = h .order; reached = h .reached })
 
   -- ---- as code goes: one item more
 
