@@ -9,6 +9,7 @@
 --   no-room-at            those before that task in packing order are placed, and where they end it has no place
 --   no-room-place         and it is one of the first n
 --   reached-number        the answer that keeps what was placed before the walk stuck has the same number, and carries the same
+--   reached-ended         it is the walk's, with what was placed until then
 --   reached-fine          with 0 it is the same answer
 --   reached-stuck         with 7 its plan has what was placed before the walk stuck
 --   reached-sized, reached-places, reached-counts      what was placed then is within the sizes, of the first n, and has room
@@ -369,7 +370,7 @@ module _ (m : Machine) (c : Costs) (n : ℕ) (ts : List Task) (faultless : state
 
   -- ---- what was placed before the walk stuck
 
-  reached-ended : reachedOf m c n ts
+  pub reached-ended : reachedOf m c n ts
       ≡ reaching (planWith m c (take n ts) (walkedUntil m c (take n ts))) (finished m c (take n ts) (walked m c (take n ts)))
   unfolding reachedOf
   reached-ended = rw faultless
