@@ -14,6 +14,7 @@
 --   reached-stuck         with 7 its plan has what was placed before the walk stuck
 --   reached-sized, reached-places, reached-counts      what was placed then is within the sizes, of the first n, and has room
 --   reached-shows         the rows of that plan show it
+--   no-room-last          and its last core does not pass with the whole of the task that the walk sticks at
 --   packing-order         the packing order has the place of each task, once
 --   packing-ranked        greater C/D first: none stands behind one that it beats, and ties stand by earlier task
 --   packing-one           and a list of which both are so is the packing order
@@ -30,7 +31,7 @@
 --   words-show            a core's word has bit k set exactly when the task at place k has a piece there, and its ones are its pieces
 use mathlib.Core.Path.{_≡_, refl, sym, ap, _∙_, subst}
 use mathlib.Core.Logic.{_⊎_, inl, inr, _↔_}
-use mathlib.Core.List.{List, [], _++_, append-nil, map}
+use mathlib.Core.List.{List, [], _∷_, _++_, append-nil, map}
 use Prim.Native.Nat.{ℕ, zero, suc, _+_, _-_, _≤_, _<_}
 use native.Mathlib.Omega.{arith}
 use lib.ListN.{length, take, getD, length-take, length-map, length-append}
@@ -59,7 +60,7 @@ use Rattle.walks.proofs.OrderLaws.{pack-every, pack-ranked}
 use Rattle.walks.proofs.DenserLaws.{denser-lawful}
 use Rattle.walks.proofs.WayLaws.{until-fine, stuck-where, Reaches, until-reaches, walk-items}
 use Rattle.walks.proofs.SoundLaws.{Planned, Has, Divided, share-of, spots-within, few-on-core, apart-on, pieces-each}
-use Rattle.walks.proofs.HalvesLaws.{shared-firsts, shares-firsts, shared-free}
+use Rattle.walks.proofs.HalvesLaws.{refused-last, shared-firsts, shares-firsts, shared-free}
 use Rattle.plan.specs.declared.Plan.{Plan}
 use Rattle.plan.specs.declared.Reply.{Reply}
 use Rattle.plan.specs.Walk.{wholeAt, placeWay, upto, denserAt, packed, walked, walkedUntil}
@@ -406,3 +407,10 @@ module _ (m : Machine) (c : Costs) (n : ℕ) (ts : List Task) (faultless : state
 
   pub reached-shows : LayoutShows (layoutOn none (walkedUntil m c (take n ts))) (walkedUntil m c (take n ts))
   reached-shows = (let r = reaches in front-shows (r .ahead) (r .rest) (r .order) (r .at) (walkedUntil m c (take n ts)) (r .reached))
+
+  pub no-room-last : (k : ℕ) → walked m c (take n ts) ≡ stuck k 7
+      → verdictOf c (rowOf (m .cores - 1) (walkedUntil m c (take n ts)) ++ (wholeAt (take n ts) k ∷ [])) ≡ Passes → ⊥
+  no-room-last k e =
+      let at = no-room-at k e in
+      let facts = front-facts (at .ahead) (k ∷ at .later) (at .order) (at .at) (walkedUntil m c (take n ts)) (at .reached) in
+      refused-last c (m .grain) (m .cores) (wholeAt (take n ts)) (at .ahead) (at .at) (walkedUntil m c (take n ts)) k 7 (facts .faithful) (at .refused)
