@@ -111,7 +111,7 @@ both-put a mid b g one two k f l one-is two-is first last =
 module _ (c : Costs) (r : ℕ) (placed : List ℕ) (h : Going) (k : ℕ) (still : h .stuck ≡ 0) (ok : Seated h) (free : h .row .len < 64)
     (placed′ records : List ℕ) (records-size : length records ≡ 553) where
   pub seat-reach : (q : Piece) → Put placed (h .count) (seatOf (h .core) k q) placed′
-      → Reach (placedIn placed (h .count)) placed′ records (seatedOf h) (landed k (inOne c r q (h .core) (piecesOfRow placed (h .row))))
+      → Reach (placedIn placed (h .count)) (placedIn placed (h .count)) placed′ records (seatedOf h) (landed k (inOne c r q (h .core) (piecesOfRow placed (h .row))))
   seat-reach q put = record {
     still = unfold seatedOf in still;
     core-is = unfold seatedOf in refl;
@@ -125,7 +125,7 @@ module _ (c : Costs) (r : ℕ) (placed : List ℕ) (h : Going) (k : ℕ) (still 
 
   pub both-reach : (w : Piece) (x v : ℕ)
       → Both placed (h .count) (seatOf (h .core) k (firstPiece w x v)) (seatOf (h .core + 1) k (lastPiece c w x v)) placed′
-      → Reach (placedIn placed (h .count)) placed′ records (seatedOf (nextOf (seatedOf h))) (landed k (inTwo c r w (h .core) x v))
+      → Reach (placedIn placed (h .count)) (placedIn placed (h .count)) placed′ records (seatedOf (nextOf (seatedOf h))) (landed k (inTwo c r w (h .core) x v))
   both-reach w x v both =
       let f = firstPiece w x v in
       let l = lastPiece c w x v in
@@ -147,9 +147,10 @@ module _ (c : Costs) (r : ℕ) (placed : List ℕ) (h : Going) (k : ℕ) (still 
         seated = seated-seat (both .mid) g k l placed′ seated none;
       }
 
-pub stick-reach : (h : Going) (k : ℕ) (base : List (Placed ℕ)) (placed records : List ℕ) → Reach base placed records (stickOf h k) (stuck k 7)
+pub stick-reach : (h : Going) (k : ℕ) (base : List (Placed ℕ)) (placed records : List ℕ)
+    → Reach base (placedIn placed (h .count)) placed records (stickOf h k) (stuck k 7)
 unfolding stickOf
-stick-reach h k base placed records = (add-one k, refl)
+stick-reach h k base placed records = (add-one k, refl, refl)
 
 -- ---- the four rules
 
@@ -175,11 +176,11 @@ module _ (m : ℕ) (c : Costs) (r k : ℕ) (w : Piece) (placed₀ : List ℕ) (g
   -- where the task is to be placed from g on
   abbrev Goal : List ℕ → List ℕ → Going → Type 0
   Goal placed′ records′ x =
-      Reach (placedIn placed₀ (g .count)) placed′ records′ x
+      Reach (placedIn placed₀ (g .count)) (placedIn placed₀ (g .count)) placed′ records′ x
       (landed k (fromCore c r w (m - 1 - g .core) (g .core) (piecesOfRow placed₀ (g .row))))
 
   reached : (placed′ records′ : List ℕ) (x : Going) (o : Landing Stand) → fromCore c r w (m - 1 - h .core) (h .core) row ≡ o
-      → Reach (placedIn placed (h .count)) placed′ records′ x (landed k o) → Goal placed′ records′ x
+      → Reach (placedIn placed (h .count)) (placedIn placed (h .count)) placed′ records′ x (landed k o) → Goal placed′ records′ x
   unfolding row
   reached placed′ records′ x o e there = rw (u .rest ∙ e, ← u .kept, ← u .same) there
 
@@ -219,11 +220,11 @@ module _ (m : ℕ) (c : Costs) (r k : ℕ) (w : Piece) (placed₀ : List ℕ) (g
       ask-fits-still = record { costs = u .ok .costs; free = u .ok .free; size = more-size; sizes = rw as-was (u .ok .sizes) }
 
       module _ (fails : passes v ≡ false) where
-        pub stuck-done : h .core + 1 ≡ m → (placed′ : List ℕ) → Goal placed′ more (stickOf h k)
-        stuck-done last placed′ =
+        pub stuck-done : h .core + 1 ≡ m → Goal placed more (stickOf h k)
+        stuck-done last =
             let none : m - 1 - h .core ≡ zero = omega arith in
-            reached placed′ more (stickOf h k) (refuses 7) (rw none (from-stuck c r w (h .core) row (fits-is ∙ fails)))
-            (stick-reach h k (placedIn placed (h .count)) placed′ more)
+            reached placed more (stickOf h k) (refuses 7) (rw none (from-stuck c r w (h .core) row (fits-is ∙ fails)))
+            (stick-reach h k (placedIn placed (h .count)) placed more)
 
         module _ (on : h .core + 1 ≡ m → ⊥) where
           pub both-fit : BothFit placed h

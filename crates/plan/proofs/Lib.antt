@@ -15,4 +15,5 @@ pub mod RankLaws
 pub mod ShowLaws
 pub mod WordLaws
 pub mod Theorems
+pub mod ReplyLaws
 pub mod RefusalLaws

@@ -1,18 +1,17 @@
--- From the walk's code to the plan.
+-- From the tasks to the walk's code.
 -- Assumes nothing.
 --
 --   small-laid         the products of the tasks' times fit
 --   sized-at           a task at a place below the end is within the sizes
 --   upto-each          what holds of each place below n
 --   walk-fits          the walk over the packing order can begin
---   all-fits           what it placed has room in a plan
+--   walk-laid          and is the walk over the tasks
 --   fault-seven        no fault of a state has the number 7
 --   no-fault           what is not refused has no fault
---   plan-refused, plan-stuck, plan-fine      the three ways to end
-use mathlib.Core.Path.{_≡_, refl, sym, ap, subst, _∙_, fun-ext}
+use mathlib.Core.Path.{_≡_, sym, ap, subst, _∙_, fun-ext}
 use mathlib.Core.Bool.{Bool, true, false}
 use mathlib.Core.List.{List, [], _∷_, _++_}
-use Prim.Native.Nat.{ℕ, zero, suc, _+_, _<_, _≤_}
+use Prim.Native.Nat.{ℕ, zero, suc, _<_}
 use native.Mathlib.Nat.{not-suc-le-zero, le-of-suc-le-suc}
 use native.Mathlib.Decide.{decLt}
 use native.Mathlib.Omega.{arith}
@@ -22,31 +21,18 @@ use lib.Seq.{length-take-le}
 use Rattle.demand.specs.declared.Piece.{Piece}
 use Rattle.demand.specs.declared.Costs.{Costs}
 use Rattle.demand.specs.Sizes.{Sized, Each, sized, sizedCosts}
-use Rattle.demand.proofs.Sums.{each-imp}
 use Rattle.task.specs.declared.Task.{Task}
-use Rattle.task.specs.declared.Tasks.{Tasks}
 use Rattle.task.specs.declared.Machine.{Machine}
-use Rattle.task.specs.Tasks.{wholePiece, past, taskAt, placeOf, rule, orElse, faultOf, firstFault, stateFault, sizedMachine, tasksMost, noTask}
+use Rattle.task.specs.Tasks.{wholePiece, past, taskAt, placeOf, rule, orElse, faultOf, firstFault, stateFault, sizedMachine, tasksMost}
 use Rattle.task.specs.Names.{formed}
 use Rattle.task.proofs.TaskLaws.{Sane}
-use Rattle.plan.specs.declared.Layout.{Layout}
 use Rattle.plan.specs.declared.Going.{Going}
-use Rattle.plan.specs.declared.Reply.{Reply}
 use Rattle.walks.specs.Order.{pack}
-use Rattle.walks.specs.Way.{Placed, Ending, fine, stuck, walkOver, walkOf}
-use Rattle.walks.specs.Halves.{Stand}
 use Rattle.walks.proofs.OrderLaws.{pack-every}
-use Rattle.walks.proofs.WayLaws.{walk-items}
-use Rattle.walks.proofs.SoundLaws.{spots-within, few-on-core}
-use Rattle.plan.specs.Walk.{wholeAt, wayFor, placeWay, upto, walked}
-use Rattle.plan.specs.Layout.{none, layoutOn}
-use Rattle.plan.specs.Plan.{refused, finished, planOf}
-use Rattle.demand.specs.Lists.{padded}
-use Rattle.plan.specs.ways.TimesArray.{timesAt, Laid, wholeIn, denserIn, Small, SmallIn}
-use Rattle.plan.specs.ways.PlacedArray.{placedIn, HasRoom}
-use Rattle.plan.specs.ways.WalkGoing.{WalkFits, Reach}
-use Rattle.plan.proofs.LentLaws.{placed-length}
-use Rattle.plan.proofs.WalkLaws.{claims, walk-planned}
+use Rattle.walks.specs.Halves.{denser}
+use Rattle.plan.specs.Walk.{wholeAt, upto, denserAt, walked, walkedUntil}
+use Rattle.plan.specs.ways.TimesArray.{Laid, wholeIn, denserIn, Small, SmallIn}
+use Rattle.plan.specs.ways.WalkGoing.{WalkFits, Reach, ReachOver}
 
 -- ---- the times of the tasks, where they are laid out
 
@@ -103,81 +89,17 @@ module _ (m : Machine) (c : Costs) (n : ℕ) (ts : List Task) (long : length ts 
     records-size = records-size;
   }
 
-  walked-is : walkOver (wayFor m c (wholeIn times)) (take n order) ≡ walked m c (take n ts)
+  -- so where the code's walk ends, the definition's does
+  pub walk-laid : (placed records : List ℕ) (g : Going) → ReachOver m c (wholeIn times) placed records g (take n order)
+      → Reach [] (walkedUntil m c (take n ts)) placed records g (walked m c (take n ts))
   unfolding walked
-  walked-is = ap (walkOver (wayFor m c (wholeIn times))) packed
-      ∙ (ap (λ (w : ℕ → Piece). walkOf (wayFor m c w) (upto n)) (wholes-laid times (take n ts) laid)
-      ∙ ap (λ (k : ℕ). walkOf (placeWay m c (take n ts)) (upto k)) (sym whole))
-
-  planned : stateFault m c n ts ≡ 0 → planOf m c n ts ≡ finished m c (take n ts) (walked m c (take n ts))
-  unfolding planOf
-  planned faultless = rw faultless
-
-  module _ (placed records : List ℕ) (g : Going) (there : Reach [] placed records g (walkOver (wayFor m c (wholeIn times)) (take n order))) where
-    -- what a walk that did not stick placed has room in a plan
-    pub all-fits : length order ≡ 64 → Each (λ k. k < 64) (take n order) → g .stuck ≤ 0 → (g .count ≤ 79) × HasRoom (placedIn placed (g .count))
-    all-fits size places going = by (walkOver (wayFor m c (wholeIn times)) (take n order)) refl there
-      where
-        short : length (take n order) ≡ n
-        short = length-take-le n order (omega (arith, sane .few))
-
-        by : (x : Ending Stand ℕ) → walkOver (wayFor m c (wholeIn times)) (take n order) ≡ x → Reach [] placed records g x
-            → (g .count ≤ 79) × HasRoom (placedIn placed (g .count))
-        by (fine s l) is r =
-            let p = walk-planned m c (timesAt times) (sane .costs) (sane .cores-some) (take n order) sizes s l is in
-            let share = claims m c (timesAt times) .Share in (
-              omega (
-                arith,
-                placed-length placed (g .count),
-                ap length (r .placed-is),
-                p .faithful .count,
-                p .faithful .below,
-                sane .cores-fit,
-                sane .few,
-                short,
-              ),
-              rw (r .placed-is) (record {
-                cores =
-                    each-imp (λ (e : Placed ℕ). e .on < m .cores) (λ (e : Placed ℕ). e .on < 16) (λ e low. omega (arith, sane .cores-fit)) l
-                    (spots-within (m .cores) (wholeIn times) share (p .shares));
-                places = walk-items (wayFor m c (wholeIn times)) (λ k. k < 64) (wayFor m c (wholeIn times) .begin) s (take n order) l places is;
-                rows = λ q. omega (arith, few-on-core (m .cores) (wholeIn times) share q (p .shares), sane .few, short);
-              }),
-            )
-        by (stuck k j) is r = absurd (omega (arith, r .0))
-
-    module _ (fault : stateFault m c n ts ≡ 0) where
-      pub plan-stuck : 0 < g .stuck → refused 7 (g .stuck) ≡ planOf m c n ts
-      plan-stuck some = by (walkOver (wayFor m c (wholeIn times)) (take n order)) there ∙ (ap (finished m c (take n ts)) walked-is ∙ sym (planned fault))
-        where
-          by : (x : Ending Stand ℕ) → Reach [] placed records g x → refused 7 (g .stuck) ≡ finished m c (take n ts) x
-          by (fine s l) r = absurd (omega (arith, r .still))
-          by (stuck k j) r = rw (r .0, r .1)
-
-      pub plan-fine : g .stuck ≤ 0 → (clean : Tasks) → clean .count ≡ n → clean .list ≡ padded tasksMost noTask (take n ts) → (s : Layout)
-          → s ≡ layoutOn none (placedIn placed (g .count)) →
-          _≡_ {A = Reply} (record { number = 0; carries = 0; plan = record { machine = m; costs = c; tasks = clean; layout = s } }) (planOf m c n ts)
-      plan-fine going clean count list s laid-out = by (walkOver (wayFor m c (wholeIn times)) (take n order)) there
-          ∙ (ap (finished m c (take n ts)) walked-is ∙ sym (planned fault))
-        where
-          tidied : clean ≡ record { count = length (take n ts); list = padded tasksMost noTask (take n ts) }
-          tidied =
-              (let e : _≡_ {A = Tasks} (record { count = clean .count; list = clean .list })
-              (record { count = length (take n ts); list = padded tasksMost noTask (take n ts) }) = cc (count ∙ sym whole, list) in e)
-
-          by : (x : Ending Stand ℕ) → Reach [] placed records g x
-              → _≡_ {A = Reply} (record { number = 0; carries = 0; plan = record { machine = m; costs = c; tasks = clean; layout = s } })
-              (finished m c (take n ts) x)
-          by (fine t l) r = cc (laid-out, ap (layoutOn none) (r .placed-is), tidied)
-          by (stuck k j) r = absurd (omega (arith, r .0))
+  walk-laid placed records g there =
+      subst (λ (k : ℕ). ReachOver m c (wholeAt (take n ts)) placed records g (pack (denserAt (take n ts)) (upto k))) (sym whole)
+      (subst (λ (w : ℕ → Piece). ReachOver m c w placed records g (pack (λ i j. denser (w i) (w j)) (upto n))) (wholes-laid times (take n ts) laid)
+      (subst (ReachOver m c (wholeIn times) placed records g) packed there))
 
 pub no-fault : (m : Machine) (c : Costs) (n : ℕ) (ts : List Task) (k : ℕ) → k ≡ stateFault m c n ts → k ≡ 0 → stateFault m c n ts ≡ 0
 no-fault m c n ts k e none = sym e ∙ none
-
-pub plan-refused : (m : Machine) (c : Costs) (n : ℕ) (ts : List Task) (k : ℕ) → k ≡ stateFault m c n ts → (k ≡ 0 → ⊥) → refused k 0 ≡ planOf m c n ts
-unfolding planOf
-plan-refused m c n ts zero e some = absurd (some refl)
-plan-refused m c n ts (suc k) e some = rw (← e)
 
 -- ---- no fault has the number 7
 

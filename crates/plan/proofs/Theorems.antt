@@ -8,6 +8,13 @@
 --   plan-faultless, no-room-faultless      and neither comes for a state that breaks a rule
 --   no-room-at            those before that task in packing order are placed, and where they end it has no place
 --   no-room-place         and it is one of the first n
+--   reached-number        the answer that keeps what was placed before the walk stuck has the same number, and carries the same
+--   reached-ended         it is the walk's, with what was placed until then
+--   reached-fine          with 0 it is the same answer
+--   reached-stuck         with 7 its plan has what was placed before the walk stuck
+--   reached-sized, reached-places, reached-counts      what was placed then is within the sizes, of the first n, and has room
+--   reached-shows         the rows of that plan show it
+--   no-room-last          and its last core does not pass with the whole of the task that the walk sticks at
 --   packing-order         the packing order has the place of each task, once
 --   packing-ranked        greater C/D first: none stands behind one that it beats, and ties stand by earlier task
 --   packing-one           and a list of which both are so is the packing order
@@ -24,10 +31,10 @@
 --   words-show            a core's word has bit k set exactly when the task at place k has a piece there, and its ones are its pieces
 use mathlib.Core.Path.{_≡_, refl, sym, ap, _∙_, subst}
 use mathlib.Core.Logic.{_⊎_, inl, inr, _↔_}
-use mathlib.Core.List.{List, [], _++_, map}
+use mathlib.Core.List.{List, [], _∷_, _++_, append-nil, map}
 use Prim.Native.Nat.{ℕ, zero, suc, _+_, _-_, _≤_, _<_}
 use native.Mathlib.Omega.{arith}
-use lib.ListN.{length, take, getD, length-take, length-map}
+use lib.ListN.{length, take, getD, length-take, length-map, length-append}
 use Rattle.demand.specs.declared.Kind.the-variants.{First}
 use Rattle.demand.specs.declared.Piece.{Piece}
 use Rattle.demand.specs.declared.Costs.{Costs}
@@ -46,25 +53,26 @@ use Rattle.task.specs.Tasks.{wholePiece, taskAt, stateFault}
 use Rattle.task.proofs.TaskLaws.{Sane, state-sane}
 use Rattle.walks.specs.Lists.{Chain, sumBy}
 use Rattle.walks.specs.Order.{Precedes}
-use Rattle.walks.specs.Way.{Placed, placedAs, Ending, fine, stuck, onCore, rowOf}
+use Rattle.walks.specs.Way.{Placed, placedAs, Ending, fine, stuck, walkOver, SticksAt, onCore, rowOf}
 use Rattle.walks.specs.Halves.{Stand, Shared, splitCount}
-use Rattle.walks.proofs.ListLaws.{each-middle, sum-map}
+use Rattle.walks.proofs.ListLaws.{each-parts, each-middle, sum-map}
 use Rattle.walks.proofs.OrderLaws.{pack-every, pack-ranked}
 use Rattle.walks.proofs.DenserLaws.{denser-lawful}
-use Rattle.walks.proofs.WayLaws.{SticksAt, sticks-at, walk-items}
+use Rattle.walks.proofs.WayLaws.{until-fine, stuck-where, Reaches, until-reaches, walk-items}
 use Rattle.walks.proofs.SoundLaws.{Planned, Has, Divided, share-of, spots-within, few-on-core, apart-on, pieces-each}
-use Rattle.walks.proofs.HalvesLaws.{shared-firsts, shares-firsts, shared-free}
+use Rattle.walks.proofs.HalvesLaws.{refused-last, shared-firsts, shares-firsts, shared-free}
+use Rattle.plan.specs.declared.Plan.{Plan}
 use Rattle.plan.specs.declared.Reply.{Reply}
-use Rattle.plan.specs.Walk.{wholeAt, placeWay, upto, denserAt, packed, walked}
+use Rattle.plan.specs.Walk.{wholeAt, placeWay, upto, denserAt, packed, walked, walkedUntil}
 use Rattle.plan.specs.Layout.{layoutOn, none, blank}
-use Rattle.plan.specs.Plan.{refused, finished, unlessFault, planOf}
+use Rattle.plan.specs.Plan.{refused, planWith, finished, unlessFault, planOf, reaching, reachedOf}
 use Rattle.plan.specs.Places.{Rearranged, ofTask, TaskPlaced}
 use Rattle.plan.specs.Shows.{LayoutShows, WordShows}
 use Rattle.plan.proofs.WalkLaws.{whole-kind, claims, walk-planned, only-seven}
 use Rattle.plan.proofs.PlanLaws.{sized-at, upto-each, fault-seven}
 use Rattle.plan.proofs.PlaceLaws.{byPlace, place-exact, upto-chain, Arranged, arranged, rearranged}
 use Rattle.plan.proofs.RankLaws.{rearranged-one}
-use Rattle.plan.proofs.ShowLaws.{Room, kept, kept-shows}
+use Rattle.plan.proofs.ShowLaws.{Room, Kept, kept, kept-shows}
 use Rattle.plan.proofs.WordLaws.{word-shows}
 
 -- ---- the packing order
@@ -105,6 +113,17 @@ module _ (m : Machine) (c : Costs) (n : ℕ) (ts : List Task) where
 
   pub no-room-faultless : planOf m c n ts .number ≡ 7 → stateFault m c n ts ≡ 0
   no-room-faultless e = faultless-but 7 (λ same. absurd (fault-seven m c n ts same)) e
+
+  -- ---- what the walk reached
+
+  pub reached-number : (reachedOf m c n ts .number ≡ planOf m c n ts .number) × (reachedOf m c n ts .carries ≡ planOf m c n ts .carries)
+  unfolding planOf reachedOf
+  reached-number = by (stateFault m c n ts) (planWith m c (take n ts) (walkedUntil m c (take n ts))) (finished m c (take n ts) (walked m c (take n ts)))
+    where
+      by : (k : ℕ) (p : Plan) (r : Reply)
+          → (unlessFault k (reaching p r) .number ≡ unlessFault k r .number) × (unlessFault k (reaching p r) .carries ≡ unlessFault k r .carries)
+      by zero p r = (refl, refl)
+      by (suc k) p r = (refl, refl)
 
 -- ---- a state that breaks no rule
 
@@ -164,12 +183,12 @@ module _ (m : Machine) (c : Costs) (n : ℕ) (ts : List Task) (faultless : state
 
   pub no-room-at : (k : ℕ) → walked m c (take n ts) ≡ stuck k 7 → SticksAt (placeWay m c (take n ts)) (placeWay m c (take n ts) .begin) (packed (take n ts)) k 7
   unfolding walked
-  no-room-at k e = sticks-at (placeWay m c (take n ts)) (packed (take n ts)) (placeWay m c (take n ts) .begin) k 7 e
+  no-room-at k e = stuck-where (placeWay m c (take n ts)) (placeWay m c (take n ts) .begin) (packed (take n ts)) k 7 e
 
   pub no-room-place : (k : ℕ) → walked m c (take n ts) ≡ stuck k 7 → k < length (take n ts)
   no-room-place k e =
       let at = no-room-at k e in
-      each-middle (λ (j : ℕ). j < length (take n ts)) (at .before) k (at .after)
+      each-middle (λ (j : ℕ). j < length (take n ts)) (at .ahead) k (at .later)
       (subst (Each (λ j. j < length (take n ts))) (at .order) (in-order (take n ts) .below))
 
   -- ---- every task is placed
@@ -196,11 +215,80 @@ module _ (m : Machine) (c : Costs) (n : ℕ) (ts : List Task) (faultless : state
   abbrev timesOf : ℕ → Times
   timesOf k = taskAt (take n ts) k .times
 
+  -- ---- some tasks at the front of the packing order, over which the walk does not stick
+
+  module _ (ks rest : List ℕ) (front : packed (take n ts) ≡ ks ++ rest) (s : Stand) (l : List (Placed ℕ))
+      (planned : walkOver (placeWay m c (take n ts)) ks ≡ fine s l) where
+    front-each : (P : ℕ → Type 0) → Each P (packed (take n ts)) → Each P ks
+    front-each P all = each-parts P ks rest (subst (Each P) front all) .0
+
+    front-long : length ks ≤ length (take n ts)
+    front-long = omega (arith, in-order (take n ts) .long, ap length front, length-append ks rest)
+
+    front-facts : Planned (claims m c timesOf) ks s l
+    front-facts =
+        walk-planned m c timesOf (sane .costs) (sane .cores-some) ks (front-each (λ k. Sized (wholeAt (take n ts) k)) sized-order) s l planned
+
+    front-places : Each (λ e. e .item < length (take n ts)) l
+    front-places =
+        walk-items (placeWay m c (take n ts)) (λ k. k < length (take n ts)) (placeWay m c (take n ts) .begin) s ks l
+        (front-each (λ k. k < length (take n ts)) (in-order (take n ts) .below)) planned
+
+    front-sized : Each (λ e. Sized (e .piece)) l
+    front-sized = pieces-each Sized l (λ q. front-facts .rows q .sizes)
+
+    front-counts : Counted (m .cores) (length (take n ts)) l
+    front-counts =
+        let facts = front-facts in
+        let few : length (take n ts) ≤ 64 = omega (arith, length-take n ts, sane .few) in
+        let pieces : length l ≤ length (take n ts) + (m .cores - 1) = omega (arith, facts .faithful .count, facts .faithful .below, front-long) in
+        let row : (q : ℕ) → length (rowOf q l) ≤ length (take n ts) =
+        (λ q. omega (
+          arith,
+          length-map (onCore q l) (λ (e : Placed ℕ). e .piece),
+          few-on-core (m .cores) (wholeAt (take n ts)) (claims m c timesOf .Share) q (facts .shares),
+          front-long,
+        )) in
+        record {
+          pieces = pieces;
+          pieces-fit = omega (arith, sane .cores-fit);
+          row = row;
+          row-fits = λ q. omega (arith, row q);
+          splits =
+              omega (
+                arith,
+                shares-firsts c (m .grain) (m .cores) (wholeAt (take n ts)) (λ k. whole-kind (timesOf k)) (facts .shares),
+                facts .faithful .count,
+                facts .faithful .below,
+              );
+          cores = spots-within (m .cores) (wholeAt (take n ts)) (claims m c timesOf .Share) (facts .shares);
+        }
+
+    front-room : Room l
+    front-room = record {
+      pieces = front-counts .pieces-fit;
+      seats = λ q. omega (arith, front-counts .row-fits q, length-map (onCore q l) (λ (e : Placed ℕ). e .piece));
+      cores = each-imp (λ (e : Placed ℕ). e .on < m .cores) (λ (e : Placed ℕ). e .on < 16) (λ e h. omega (arith, sane .cores-fit)) l (front-counts .cores);
+    }
+
+    front-kept : Kept (layoutOn none l) l
+    front-kept = kept l front-room
+
+    front-shows : LayoutShows (layoutOn none l) l
+    front-shows = kept-shows (layoutOn none l) l front-room front-kept
+
   module _ (s : Stand) (l : List (Placed ℕ)) (planned : walked m c (take n ts) ≡ fine s l) where
+    -- all of them are such
+    all : packed (take n ts) ≡ packed (take n ts) ++ []
+    all = sym (append-nil (packed (take n ts)))
+
+    over : walkOver (placeWay m c (take n ts)) (packed (take n ts)) ≡ fine s l
+    unfolding walked
+    over = planned
+
     -- what every walk's plan is
     facts : Planned (claims m c timesOf) (packed (take n ts)) s l
-    unfolding walked
-    facts = walk-planned m c timesOf (sane .costs) (sane .cores-some) (packed (take n ts)) sized-order s l planned
+    facts = front-facts (packed (take n ts)) [] all s l over
 
     -- a task's share
     share : (k : ℕ) → k < length (take n ts)
@@ -245,13 +333,10 @@ module _ (m : Machine) (c : Costs) (n : ℕ) (ts : List Task) (faultless : state
         shared-free c (m .grain) (wholeAt (take n ts) k) (h .past) k (sized-place k low) free (whole-kind (timesOf k)) (h .shared)
 
     pub placed-places : Each (λ e. e .item < length (take n ts)) l
-    unfolding walked
-    placed-places =
-        walk-items (placeWay m c (take n ts)) (λ k. k < length (take n ts)) (placeWay m c (take n ts) .begin) s (packed (take n ts)) l
-        (in-order (take n ts) .below) planned
+    placed-places = front-places (packed (take n ts)) [] all s l over
 
     pub placed-sized : Each (λ e. Sized (e .piece)) l
-    placed-sized = pieces-each Sized l (λ q. facts .rows q .sizes)
+    placed-sized = front-sized (packed (take n ts)) [] all s l over
 
     -- ---- every core passes
 
@@ -269,49 +354,63 @@ module _ (m : Machine) (c : Costs) (n : ℕ) (ts : List Task) (faultless : state
         shared-firsts c (m .grain) (wholeAt (take n ts) k) (h .past) k (whole-kind (timesOf k)) (h .shared)
 
     pub plan-counts : Counted (m .cores) (length (take n ts)) l
-    plan-counts =
-        let order = in-order (take n ts) in
-        let few : length (take n ts) ≤ 64 = omega (arith, length-take n ts, sane .few) in
-        let pieces : length l ≤ length (take n ts) + (m .cores - 1) = omega (arith, facts .faithful .count, facts .faithful .below, order .long) in
-        let row : (q : ℕ) → length (rowOf q l) ≤ length (take n ts) =
-        (λ q. omega (
-          arith,
-          length-map (onCore q l) (λ (e : Placed ℕ). e .piece),
-          few-on-core (m .cores) (wholeAt (take n ts)) (claims m c timesOf .Share) q (facts .shares),
-          order .long,
-        )) in
-        record {
-          pieces = pieces;
-          pieces-fit = omega (arith, sane .cores-fit);
-          row = row;
-          row-fits = λ q. omega (arith, row q);
-          splits =
-              omega (
-                arith,
-                shares-firsts c (m .grain) (m .cores) (wholeAt (take n ts)) (λ k. whole-kind (timesOf k)) (facts .shares),
-                facts .faithful .count,
-                facts .faithful .below,
-                order .long,
-              );
-          cores = spots-within (m .cores) (wholeAt (take n ts)) (claims m c timesOf .Share) (facts .shares);
-        }
+    plan-counts = front-counts (packed (take n ts)) [] all s l over
 
     -- ---- rows and words
-
-    room : Room l
-    room = record {
-      pieces = plan-counts .pieces-fit;
-      seats = λ q. omega (arith, plan-counts .row-fits q, length-map (onCore q l) (λ (e : Placed ℕ). e .piece));
-      cores = each-imp (λ (e : Placed ℕ). e .on < m .cores) (λ (e : Placed ℕ). e .on < 16) (λ e h. omega (arith, sane .cores-fit)) l (plan-counts .cores);
-    }
 
     laid : planOf m c n ts .plan .layout ≡ layoutOn none l
     laid = ap (λ (r : Reply). r .plan .layout) (ended ∙ ap (finished m c (take n ts)) planned)
 
     pub plan-shows : LayoutShows (planOf m c n ts .plan .layout) l
-    plan-shows = rw laid (kept-shows (layoutOn none l) l room (kept l room))
+    plan-shows = rw laid (front-shows (packed (take n ts)) [] all s l over)
 
     pub words-show : (q : ℕ) → q < 16 → WordShows (getD (planOf m c n ts .plan .layout .words) q 0) (onCore q l)
     words-show q low =
-        word-shows (getD (planOf m c n ts .plan .layout .words) q 0) (onCore q l) (rw laid (kept l room .core q low blank .word))
+        word-shows (getD (planOf m c n ts .plan .layout .words) q 0) (onCore q l) (rw laid (front-kept (packed (take n ts)) [] all s l over .core q low blank .word))
         (apart-on (m .cores) (wholeAt (take n ts)) (claims m c timesOf .Share) q (λ k. k) (facts .shares) (in-order (take n ts) .apart))
+
+  -- ---- what was placed before the walk stuck
+
+  pub reached-ended : reachedOf m c n ts
+      ≡ reaching (planWith m c (take n ts) (walkedUntil m c (take n ts))) (finished m c (take n ts) (walked m c (take n ts)))
+  unfolding reachedOf
+  reached-ended = rw faultless
+
+  pub reached-fine : planOf m c n ts .number ≡ 0 → reachedOf m c n ts ≡ planOf m c n ts
+  unfolding walked
+  reached-fine none =
+      let w = plan-comes .0 none in
+      let W = placeWay m c (take n ts) in
+      let fine-is = ap (finished m c (take n ts)) (w .2) in
+      let all-is : walkedUntil m c (take n ts) ≡ w .1 = until-fine W (W .begin) (w .0) (packed (take n ts)) (w .1) (w .2) in
+      reached-ended
+      ∙ (ap (reaching (planWith m c (take n ts) (walkedUntil m c (take n ts)))) fine-is
+      ∙ (ap (λ (z : List (Placed ℕ)). reaching (planWith m c (take n ts) z) (finished m c (take n ts) (fine (w .0) (w .1)))) all-is
+      ∙ sym (ended ∙ fine-is)))
+
+  pub reached-stuck : (k : ℕ) → walked m c (take n ts) ≡ stuck k 7
+      → reachedOf m c n ts ≡ record { number = 7; carries = suc k; plan = planWith m c (take n ts) (walkedUntil m c (take n ts)) }
+  reached-stuck k e = reached-ended
+      ∙ ap (λ (o : Ending Stand ℕ). reaching (planWith m c (take n ts) (walkedUntil m c (take n ts))) (finished m c (take n ts) o)) e
+
+  reaches : Reaches (placeWay m c (take n ts)) (placeWay m c (take n ts) .begin) (packed (take n ts))
+  reaches = until-reaches (placeWay m c (take n ts)) (placeWay m c (take n ts) .begin) (packed (take n ts))
+
+  pub reached-sized : Each (λ e. Sized (e .piece)) (walkedUntil m c (take n ts))
+  reached-sized = (let r = reaches in front-sized (r .ahead) (r .rest) (r .order) (r .at) (walkedUntil m c (take n ts)) (r .reached))
+
+  pub reached-places : Each (λ e. e .item < length (take n ts)) (walkedUntil m c (take n ts))
+  reached-places = (let r = reaches in front-places (r .ahead) (r .rest) (r .order) (r .at) (walkedUntil m c (take n ts)) (r .reached))
+
+  pub reached-counts : Counted (m .cores) (length (take n ts)) (walkedUntil m c (take n ts))
+  reached-counts = (let r = reaches in front-counts (r .ahead) (r .rest) (r .order) (r .at) (walkedUntil m c (take n ts)) (r .reached))
+
+  pub reached-shows : LayoutShows (layoutOn none (walkedUntil m c (take n ts))) (walkedUntil m c (take n ts))
+  reached-shows = (let r = reaches in front-shows (r .ahead) (r .rest) (r .order) (r .at) (walkedUntil m c (take n ts)) (r .reached))
+
+  pub no-room-last : (k : ℕ) → walked m c (take n ts) ≡ stuck k 7
+      → verdictOf c (rowOf (m .cores - 1) (walkedUntil m c (take n ts)) ++ (wholeAt (take n ts) k ∷ [])) ≡ Passes → ⊥
+  no-room-last k e =
+      let at = no-room-at k e in
+      let facts = front-facts (at .ahead) (k ∷ at .later) (at .order) (at .at) (walkedUntil m c (take n ts)) (at .reached) in
+      refused-last c (m .grain) (m .cores) (wholeAt (take n ts)) (at .ahead) (at .at) (walkedUntil m c (take n ts)) k 7 (facts .faithful) (at .refused)

@@ -10,6 +10,7 @@
 --   denserAt ts i j      the task at place i of ts has the greater C/D than the one at place j
 --   packed ts            the places of the tasks ts, in packing order: greater C/D first, ties by earlier task
 --   walked m c ts        the walk over the tasks ts in packing order, by their places
+--   walkedUntil m c ts   what that walk places before it sticks, or all that it places
 use mathlib.Core.Bool.{Bool}
 use mathlib.Core.List.{List, [], _∷_, _++_}
 use Prim.Native.Nat.{ℕ, zero, suc}
@@ -20,7 +21,7 @@ use Rattle.task.specs.declared.Task.{Task}
 use Rattle.task.specs.declared.Machine.{Machine}
 use Rattle.task.specs.Tasks.{wholePiece, taskAt}
 use Rattle.walks.specs.Order.{pack}
-use Rattle.walks.specs.Way.{Way, Ending, walkOver}
+use Rattle.walks.specs.Way.{Way, Placed, Ending, walkOver, placedUntil}
 use Rattle.walks.specs.Halves.{denser, Stand, halving}
 
 abbrev pub wholeOf : Task → Piece
@@ -50,3 +51,6 @@ packed ts = pack (denserAt ts) (upto (length ts))
 
 unfoldable pub walked : Machine → Costs → List Task → Ending Stand ℕ
 walked m c ts = walkOver (placeWay m c ts) (packed ts)
+
+abbrev pub walkedUntil : Machine → Costs → List Task → List (Placed ℕ)
+walkedUntil m c ts = placedUntil (placeWay m c ts) (placeWay m c ts .begin) (packed ts)

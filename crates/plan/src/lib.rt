@@ -26,7 +26,7 @@ use times::tidy;
 use walk::walk_over;
 ghost use mathlib.Core.Path.{_≡_};
 ghost use Rattle.plan.specs.Layout.{tasksOn, keptPiece};
-ghost use Rattle.plan.specs.Plan.{planOf, refused};
+ghost use Rattle.plan.specs.Plan.{planOf, reachedOf, refused};
 
 /// The most pieces of a plan: 64 tasks and 15 splits.
 pub const PIECES_MOST: usize = 79;
@@ -122,10 +122,10 @@ fn refuse(number: u64, carries: usize) -> Reply
     }
 }
 
-/// The plan of a machine, costs and a list of tasks: 1, 2, 6, then at the first bad task 8, 3 or 4, all carrying 0; 7 with the place, from 1, of
-/// the task that the walk sticks at; else the plan.
-pub fn plan_tasks(machine: Machine, costs: Costs, tasks: Tasks) -> Reply
-    ensures exact { λ r. ⌜ r ≡ planOf machine costs (tasks .count) (tasks .list) ⌝ }
+/// The plan of a machine, costs and a list of tasks, and where the walk sticks what it placed before. It is refused as `plan_tasks` is, with the
+/// same numbers; with 7 there is a plan all the same, of the pieces placed before the task that the walk sticks at.
+pub fn plan_reached(machine: Machine, costs: Costs, tasks: Tasks) -> Reply
+    ensures exact { λ r. ⌜ r ≡ reachedOf machine costs (tasks .count) (tasks .list) ⌝ }
 {
     let fault = state_fault(machine, costs, tasks);
     if fault != 0 {
@@ -140,9 +140,6 @@ pub fn plan_tasks(machine: Machine, costs: Costs, tasks: Tasks) -> Reply
     let mut records: [u64; RUN_NUMBERS] = [0; RUN_NUMBERS];
     let end = walk_over(machine, costs, &times, n, &order, &mut placed, &mut records);
     let stuck = end.stuck;
-    if 0 < stuck {
-        return refuse(7, stuck);
-    }
     let count = end.count;
     let clean = tidy(tasks);
     let layout = layout_of(&placed, count);
@@ -152,11 +149,31 @@ pub fn plan_tasks(machine: Machine, costs: Costs, tasks: Tasks) -> Reply
         tasks: clean,
         layout: layout,
     };
+    if 0 < stuck {
+        return Reply {
+            number: 7,
+            carries: stuck,
+            plan: plan,
+        };
+    }
     Reply {
         number: 0,
         carries: 0,
         plan: plan,
     }
+}
+
+/// The plan of a machine, costs and a list of tasks: 1, 2, 6, then at the first bad task 8, 3 or 4, all carrying 0; 7 with the place, from 1, of
+/// the task that the walk sticks at; else the plan.
+pub fn plan_tasks(machine: Machine, costs: Costs, tasks: Tasks) -> Reply
+    ensures exact { λ r. ⌜ r ≡ planOf machine costs (tasks .count) (tasks .list) ⌝ }
+{
+    let reply = plan_reached(machine, costs, tasks);
+    let number = reply.number;
+    if number != 0 {
+        return refuse(number, reply.carries);
+    }
+    reply
 }
 
 fn wide(n: u32) -> u64

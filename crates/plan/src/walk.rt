@@ -29,12 +29,11 @@ ghost use lib.ListN.{take, length};
 ghost use Rattle.demand.specs.Sizes.{Sized, runMost};
 ghost use Rattle.demand.specs.Split.{greatestSplit, firstPiece, lastPiece};
 ghost use Rattle.demand.specs.Verdict.{verdictOf};
-ghost use Rattle.walks.specs.Way.{landed, walkOver};
+ghost use Rattle.walks.specs.Way.{landed};
 ghost use Rattle.walks.specs.Halves.{fromCore};
-ghost use Rattle.plan.specs.Walk.{wayFor};
 ghost use Rattle.plan.specs.ways.TimesArray.{wholeIn};
 ghost use Rattle.plan.specs.ways.PlacedArray.{seatOf, placedIn, Put};
-ghost use Rattle.plan.specs.ways.WalkGoing.{piecesOfRow, firstRecords, AskFits, SeatFits, BothFit, LandFits, seatedOf, nextOf, stickOf, beginOf, Both, Reach, WalkFits};
+ghost use Rattle.plan.specs.ways.WalkGoing.{piecesOfRow, firstRecords, AskFits, SeatFits, BothFit, LandFits, seatedOf, nextOf, stickOf, beginOf, Both, Reach, ReachOver, WalkFits};
 ghost use Rattle.task.specs.Tasks.{coresMost, tasksMost};
 
 // The verdict on the first n records with one piece more, which then lies behind them.
@@ -135,7 +134,7 @@ pub fn seat_both(
     seat(placed, two, k, last_piece(costs, whole, x, w))
 }
 
-// The task at place k, with the whole piece `whole`, from the core on: document 01's four rules.
+// The task at place k, with the whole piece `whole`, from the core on: document 01's four rules. Where it sticks, what was placed is as it was.
 pub fn land<'a>(
     machine: Machine,
     costs: Costs,
@@ -147,7 +146,7 @@ pub fn land<'a>(
 ) -> Going
     requires { ⌜ LandFits (machine .cores) costs (now placed) (now records) going k ⌝ }
     requires { ⌜ Sized whole ⌝ }
-    ensures { λ r. ⌜ Reach (placedIn (now (placed .entry)) (going .count)) (now (placed .exit)) (now (records .exit)) r (landed k (fromCore costs (machine .grain) whole (machine .cores - 1 - going .core) (going .core) (piecesOfRow (now (placed .entry)) (going .row)))) ⌝ }
+    ensures { λ r. ⌜ Reach (placedIn (now (placed .entry)) (going .count)) (placedIn (now (placed .entry)) (going .count)) (now (placed .exit)) (now (records .exit)) r (landed k (fromCore costs (machine .grain) whole (machine .cores - 1 - going .core) (going .core) (piecesOfRow (now (placed .entry)) (going .row)))) ⌝ }
 {
     let mut here = going;
     loop {
@@ -168,7 +167,7 @@ pub fn land<'a>(
     }
 }
 
-// The walk over the first n tasks in packing order.
+// The walk over the first n tasks in packing order. Where it sticks, what was placed before is there.
 pub fn walk_over<'a>(
     machine: Machine,
     costs: Costs,
@@ -179,7 +178,7 @@ pub fn walk_over<'a>(
     records: &'a mut [u64; RUN_NUMBERS],
 ) -> Going
     requires { ⌜ WalkFits machine costs (now times) n (now order) (now placed) (now records) ⌝ }
-    ensures { λ r. ⌜ Reach [] (now (placed .exit)) (now (records .exit)) r (walkOver (wayFor machine costs (wholeIn (now (times .entry)))) (take n (now (order .entry)))) ⌝ }
+    ensures { λ r. ⌜ ReachOver machine costs (wholeIn (now (times .entry))) (now (placed .exit)) (now (records .exit)) r (take n (now (order .entry))) ⌝ }
 {
     let mut going = begin();
     let mut i: usize = 0;

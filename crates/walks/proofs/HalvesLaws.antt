@@ -7,6 +7,7 @@
 --   Right w              the whole piece w is within the sizes
 --   Fine c row           the row is within the sizes and passes
 --   Fit m done s log     the row at the core is the state's, none is begun after it, and there are no more pieces than items and cores before it
+--   refused-last         where an item is refused, the last core, as its row stands, does not pass with it
 --   halves c g m whole   what is claimed of C=D
 --   halving-sound        each placement has it
 --   shared-firsts, shares-firsts  an item has one piece, and another where it has a first piece
@@ -39,7 +40,7 @@ use Rattle.walks.specs.Shares.{Divides, Kinds, Shares, nil, more}
 use Rattle.walks.specs.Kept.{Meet}
 use Rattle.walks.specs.Halves.{Stand, inOne, inTwo, fromCore, halving, Shared, one-piece, two-pieces, splitCount}
 use Rattle.walks.proofs.ListLaws.{sum-append}
-use Rattle.walks.proofs.WayLaws.{IfLands, sticks-at}
+use Rattle.walks.proofs.WayLaws.{IfLands, stuck-where}
 use Rattle.walks.proofs.SoundLaws.{row-append, Claim, Sound}
 
 module _ {A : Type 0} (c : Costs) (g m : ℕ) (whole : A → Piece) where
@@ -109,8 +110,8 @@ module _ (c : Costs) (g : ℕ) (w : Piece) where
 
 pub sticks-seven : {A : Type 0} (c : Costs) (g m : ℕ) (whole : A → Piece) (xs : List A) (a : A) (n : ℕ) → walkOver (halving c g m whole) xs ≡ stuck a n → n ≡ 7
 sticks-seven c g m whole xs a n e =
-    let at = sticks-at (halving c g m whole) xs (halving c g m whole .begin) a n e in
-    from-seven c g (whole a) (m - 1 - at .at .core) (at .at .core) (at .at .row) n (at .here)
+    let at = stuck-where (halving c g m whole) (halving c g m whole .begin) xs a n e in
+    from-seven c g (whole a) (m - 1 - at .at .core) (at .at .core) (at .at .row) n (at .refused)
 
 -- ---- what one placement keeps
 
@@ -139,6 +140,47 @@ pub record Fit {A : Type 0} (m : ℕ) (done : List A) (s : Stand) (log : List (P
   pub ahead : (q : ℕ) → s .core < q → rowOf q log ≡ []
   pub below : s .core < m
   pub count : length log ≤ length done + s .core
+
+-- ---- 7, at the last core
+
+-- what stands on the last core where n come after this one
+abbrev lastRow : ℕ → List Piece → List Piece
+lastRow zero row = row
+lastRow (suc n) row = []
+
+module _ (c : Costs) (g : ℕ) (w : Piece) (j : ℕ) where
+  from-refused : (n p : ℕ) (row : List Piece) → fromCore c g w n p row ≡ refuses j → verdictOf c (lastRow n row ++ (w ∷ [])) ≡ Passes → ⊥
+  from-refused zero p row e fits = by (passes (verdictOf c (row ++ (w ∷ [])))) refl e
+    where
+      by : (t : Bool) → passes (verdictOf c (row ++ (w ∷ []))) ≡ t
+          → _≡_ {A = Landing Stand} (elim t [ true ↦ inOne c g w p row | false ↦ refuses 7 ]) (refuses j) → ⊥
+      by true told h = let z : _≡_ {A = ℕ} 0 1 = cc in omega arith
+      by false told h = passes-not (verdictOf c (row ++ (w ∷ []))) told fits
+  from-refused (suc n) p row e fits =
+      by (passes (verdictOf c (row ++ (w ∷ [])))) (greatestSplit c g row w) e (λ h. from-refused n (suc p) [] h (none n))
+    where
+      none : (k : ℕ) → verdictOf c (lastRow k [] ++ (w ∷ [])) ≡ Passes
+      none zero = fits
+      none (suc k) = fits
+
+      by : (t : Bool) (u : Split)
+          → _≡_ {A = Landing Stand}
+          (elim t [ true ↦ inOne c g w p row | false ↦ (elim u [ Cut x v ↦ inTwo c g w p x v | Nowhere ↦ fromCore c g w n (suc p) [] ]) ]) (refuses j)
+          → (fromCore c g w n (suc p) [] ≡ refuses j → ⊥) → ⊥
+      by true u h rec = let z : _≡_ {A = ℕ} 0 1 = cc in omega arith
+      by false (Cut x v) h rec = let z : _≡_ {A = ℕ} 0 1 = cc in omega arith
+      by false Nowhere h rec = rec h
+
+-- the last core, as its row stands, does not pass with an item that is refused
+pub refused-last : {A : Type 0} (c : Costs) (g m : ℕ) (whole : A → Piece) (done : List A) (s : Stand) (log : List (Placed A)) (a : A) (j : ℕ)
+    → Fit m done s log → halving c g m whole .place s a ≡ refuses j → verdictOf c (rowOf (m - 1) log ++ (whole a ∷ [])) ≡ Passes → ⊥
+refused-last c g m whole done s log a j fit none fits =
+    from-refused c g (whole a) j (m - 1 - s .core) (s .core) (s .row) none (subst (λ (row : List Piece). verdictOf c (row ++ (whole a ∷ [])) ≡ Passes)
+    (last (m - 1 - s .core) refl) fits)
+  where
+    last : (n : ℕ) → m - 1 - s .core ≡ n → rowOf (m - 1) log ≡ lastRow n (s .row)
+    last zero e = (let core : m - 1 ≡ s .core = omega (arith, fit .below) in ap (λ (q : ℕ). rowOf q log) core ∙ fit .here)
+    last (suc n) e = fit .ahead (m - 1) (omega arith)
 
 abbrev pub halves : {A : Type 0} → Costs → ℕ → ℕ → (A → Piece) → Claim A Stand
 halves c g m whole = record {

@@ -5,11 +5,14 @@
 --   walk-append           the walk over xs, then ys, is the walk over ys from where xs ends
 --   Parts, in-parts       a walk that does not stick, in two parts: what is placed only grows
 --   rest-same             equal states have equal rests
---   SticksAt, sticks-at   a walk that sticks does at the first item that has no place, with that one's number
+--   until-fine            where a walk does not stick, what is placed before it does is all that it places
+--   until-stuck           where it sticks, it is what the items ahead of that one place
+--   stuck-where           a walk that sticks does at the first item that has no place, with that one's number
+--   Reaches, until-reaches      stuck or not, it is what some items at the front place, over which the walk does not stick
 --   walk-keeps, over-keeps      what every placement keeps, of the items so far, the state and what is placed, the walk keeps
 --   shares-snoc           the share of one item more
 --   walk-items            what holds of each item holds of each that is placed
---   walk-snoc, walk-stuck one item more, as a loop goes
+--   walk-snoc, walk-stuck, until-still      items more, as a loop goes
 --   walk-map, of-map      the walk over items that stand for others is the walk over those
 use mathlib.Core.Path.{_≡_, refl, sym, ap, _∙_, subst}
 use mathlib.Core.List.{List, [], _∷_, _++_, append-assoc, append-nil, map, map-append}
@@ -18,7 +21,7 @@ use native.Mathlib.Omega.{arith}
 use Rattle.demand.specs.Sizes.{Each}
 use Rattle.walks.specs.Order.{pack}
 use Rattle.walks.specs.Way.{Spot, Placed, placedAs, Landing, lands, refuses, Way, Ending, fine, stuck, behind}
-use Rattle.walks.specs.Way.{onward, landed, walk, walkOver, walkOf, through, relabel, relabelled}
+use Rattle.walks.specs.Way.{onward, landed, walk, walkOver, walkOf, onwardPlaced, placedUntil, SticksAt, through, relabel, relabelled}
 use Rattle.walks.specs.Shares.{Shares, nil, more}
 use Rattle.walks.proofs.ListLaws.{each-join}
 use Rattle.walks.proofs.OrderLaws.{pack-map}
@@ -95,49 +98,90 @@ module _ {A : Type 0} (W : Way A) where
 
   -- ---- where a walk sticks
 
-  -- the item a of xs is the first that has no place: those before it are placed, and where they end it is refused with n
-  pub record SticksAt (s : W .State) (xs : List A) (a : A) (n : ℕ) : Type 0 where
-    pub before : List A
-    pub after : List A
-    pub at : W .State
-    pub past : List (Placed A)
-    pub order : xs ≡ before ++ (a ∷ after)
-    pub reached : walk W s before ≡ fine at past
-    pub here : W .place at a ≡ refuses n
+  -- what is placed before a walk sticks, in two parts
+  until-append : (s t : W .State) (xs ys : List A) (l : List (Placed A)) → walk W s xs ≡ fine t l → placedUntil W s (xs ++ ys) ≡ l ++ placedUntil W t ys
+  until-append s t [] ys l e =
+      let same : s ≡ t = cc in
+      let none : [] ≡ l = cc in
+      ap (λ (z : W .State). placedUntil W z ys) same ∙ ap (λ (z : List (Placed A)). z ++ placedUntil W t ys) none
+  until-append s t (x ∷ xs) ys l e = by (W .place s x) e (λ u k h. until-append u t xs ys k h)
+    where
+      then : (u : W .State) (k : List (Placed A))
+          → ((r : List (Placed A)) → walk W u xs ≡ fine t r → placedUntil W u (xs ++ ys) ≡ r ++ placedUntil W t ys)
+          → (o : Ending (W .State) A) → walk W u xs ≡ o → behind k o ≡ fine t l → k ++ placedUntil W u (xs ++ ys) ≡ l ++ placedUntil W t ys
+      then u k rec (fine v r) is h =
+          let same : v ≡ t = cc in
+          let joins : k ++ r ≡ l = cc in
+          ap (λ (z : List (Placed A)). k ++ z) (rec r (is ∙ ap (λ (z : W .State). fine z r) same))
+          ∙ (sym (append-assoc k r (placedUntil W t ys)) ∙ ap (λ (z : List (Placed A)). z ++ placedUntil W t ys) joins)
+      then u k rec (stuck b n) is h = let z : _≡_ {A = ℕ} 0 1 = cc in absurd (omega arith)
 
-  pub sticks-at : (xs : List A) (s : W .State) (a : A) (n : ℕ) → walk W s xs ≡ stuck a n → SticksAt s xs a n
-  sticks-at [] s a n e = let z : _≡_ {A = ℕ} 0 1 = cc in absurd (omega arith)
-  sticks-at (x ∷ xs) s a n e = by (W .place s x) refl e (λ t h. sticks-at xs t a n h)
+      by : (o : Landing (W .State)) → onward (landed x o) (λ u. walk W u xs) ≡ fine t l
+          → ((u : W .State) (k : List (Placed A)) → walk W u xs ≡ fine t k → placedUntil W u (xs ++ ys) ≡ k ++ placedUntil W t ys)
+          → onwardPlaced (landed x o) (λ u. placedUntil W u (xs ++ ys)) ≡ l ++ placedUntil W t ys
+      by (lands u k) h rec = then u (map (placedAs x) k) (rec u) (walk W u xs) refl h
+      by (refuses n) h rec = let z : _≡_ {A = ℕ} 0 1 = cc in absurd (omega arith)
+
+  pub until-fine : (s t : W .State) (xs : List A) (l : List (Placed A)) → walk W s xs ≡ fine t l → placedUntil W s xs ≡ l
+  until-fine s t xs l e = ap (placedUntil W s) (sym (append-nil xs)) ∙ (until-append s t xs [] l e ∙ append-nil l)
+
+  pub until-stuck : (s t : W .State) (xs ys : List A) (a : A) (n : ℕ) (l : List (Placed A)) → walk W s xs ≡ fine t l → W .place t a ≡ refuses n
+      → placedUntil W s (xs ++ (a ∷ ys)) ≡ l
+  until-stuck s t xs ys a n l e none = until-append s t xs (a ∷ ys) l e
+      ∙ (ap (λ (z : Landing (W .State)). l ++ onwardPlaced (landed a z) (λ u. placedUntil W u ys)) none ∙ append-nil l)
+
+  pub stuck-where : (s : W .State) (xs : List A) (a : A) (n : ℕ) → walk W s xs ≡ stuck a n → SticksAt W s xs a n
+  stuck-where s [] a n e = let z : _≡_ {A = ℕ} 0 1 = cc in absurd (omega arith)
+  stuck-where s (x ∷ xs) a n e = by (W .place s x) refl e (λ t h. stuck-where t xs a n h)
     where
       inside : (k : List (Placed A)) (o : Ending (W .State) A) → behind k o ≡ stuck a n → o ≡ stuck a n
       inside k (fine t l) h = let z : _≡_ {A = ℕ} 0 1 = cc in absurd (omega arith)
       inside k (stuck b j) h = h
 
       by : (o : Landing (W .State)) → W .place s x ≡ o → onward (landed x o) (λ t. walk W t xs) ≡ stuck a n
-          → ((t : W .State) → walk W t xs ≡ stuck a n → SticksAt t xs a n) → SticksAt s (x ∷ xs) a n
+          → ((t : W .State) → walk W t xs ≡ stuck a n → SticksAt W t xs a n) → SticksAt W s (x ∷ xs) a n
       by (lands t k) f h rec =
           let r = rec t (inside (map (placedAs x) k) (walk W t xs) h) in
+          let past = map (placedAs x) k in
+          let until : past ++ placedUntil W t xs ≡ placedUntil W s (x ∷ xs) =
+          ap (λ (z : Landing (W .State)). onwardPlaced (landed x z) (λ u. placedUntil W u xs)) (sym f) in
           record {
-            before = x ∷ r .before;
-            after = r .after;
+            ahead = x ∷ r .ahead;
+            later = r .later;
             at = r .at;
-            past = map (placedAs x) k ++ r .past;
             order = ap (λ (z : List A). x ∷ z) (r .order);
-            reached = ap (λ (z : Landing (W .State)). onward (landed x z) (λ u. walk W u (r .before))) f ∙ ap (behind (map (placedAs x) k)) (r .reached);
-            here = r .here;
+            reached = ap (λ (z : Landing (W .State)). onward (landed x z) (λ u. walk W u (r .ahead))) f
+                ∙ (ap (behind past) (r .reached) ∙ ap (fine (r .at)) until);
+            refused = r .refused;
           }
       by (refuses j) f h rec =
           let own : x ≡ a = cc in
           let number : j ≡ n = cc in
           record {
-            before = [];
-            after = xs;
+            ahead = [];
+            later = xs;
             at = s;
-            past = [];
             order = ap (λ (z : A). z ∷ xs) own;
-            reached = refl;
-            here = ap (W .place s) (sym own) ∙ (f ∙ ap refuses number);
+            reached = ap (λ (z : Landing (W .State)). fine s (onwardPlaced (landed x z) (λ u. placedUntil W u xs))) (sym f);
+            refused = ap (W .place s) (sym own) ∙ (f ∙ ap refuses number);
           }
+
+  -- stuck or not, a walk does not stick over the items ahead of where it does
+  pub record Reaches (s : W .State) (xs : List A) : Type 0 where
+    pub ahead : List A
+    pub rest : List A
+    pub at : W .State
+    pub order : xs ≡ ahead ++ rest
+    pub reached : walk W s ahead ≡ fine at (placedUntil W s xs)
+
+  pub until-reaches : (s : W .State) (xs : List A) → Reaches s xs
+  until-reaches s xs = by (walk W s xs) refl
+    where
+      by : (o : Ending (W .State) A) → walk W s xs ≡ o → Reaches s xs
+      by (fine t l) e =
+          record { ahead = xs; rest = []; at = t; order = sym (append-nil xs); reached = e ∙ ap (fine t) (sym (until-fine s t xs l e)) }
+      by (stuck a n) e =
+          (let h = stuck-where s xs a n e in record { ahead = h .ahead; rest = a ∷ h .later; at = h .at; order = h .order; reached = h .reached })
 
   -- ---- as code goes: one item more
 
@@ -148,6 +192,14 @@ module _ {A : Type 0} (W : Way A) where
 
   pub walk-stuck : (s : W .State) (xs ys : List A) (a : A) (n : ℕ) → walk W s xs ≡ stuck a n → walk W s (xs ++ ys) ≡ stuck a n
   walk-stuck s xs ys a n e = walk-append s xs ys ∙ ap (λ (o : Ending (W .State) A). onward o (λ u. walk W u ys)) e
+
+  pub until-still : (s : W .State) (xs ys : List A) (a : A) (n : ℕ) → walk W s xs ≡ stuck a n → placedUntil W s (xs ++ ys) ≡ placedUntil W s xs
+  until-still s xs ys a n e =
+      let at = stuck-where s xs a n e in
+      let order : xs ++ ys ≡ at .ahead ++ (a ∷ (at .later ++ ys)) =
+      ap (λ (z : List A). z ++ ys) (at .order) ∙ append-assoc (at .ahead) (a ∷ at .later) ys in
+      ap (placedUntil W s) order
+      ∙ until-stuck s (at .at) (at .ahead) (at .later ++ ys) a n (placedUntil W s xs) (at .reached) (at .refused)
 
 -- ---- what a walk keeps
 

@@ -9,10 +9,13 @@
 --   walk W s items     the items in turn, from the state s
 --   walkOver W items   the same from the beginning
 --   walkOf W items     the walk over all items in packing order, from the beginning
+--   placedUntil W s items      what is placed before the first item that is refused, or of all of them, in placement order
+--   SticksAt W s items a n     a is the first of the items that has no place: those ahead of it are placed, and where they end it is refused with n
 --   through f W        the same way for items that stand for others: places in a list for its tasks
 --   relabelled f o     the same ending, of what the items stand for
 --   onCore q log       what is on core q, in placement order
 --   rowOf q log        its row of pieces
+use mathlib.Core.Path.{_≡_}
 use mathlib.Core.Bool.{Bool}
 use mathlib.Core.List.{List, [], _∷_, _++_, map}
 use Prim.Native.Nat.{ℕ}
@@ -63,6 +66,11 @@ abbrev pub onward : {S A : Type 0} → Ending S A → (S → Ending S A) → End
 onward (fine s l) go = behind l (go s)
 onward (stuck a n) go = stuck a n
 
+-- the same of what is placed: where a walk sticks, nothing more is
+abbrev pub onwardPlaced : {S A : Type 0} → Ending S A → (S → List (Placed A)) → List (Placed A)
+onwardPlaced (fine s l) go = l ++ go s
+onwardPlaced (stuck a n) go = []
+
 module _ {A : Type 0} (W : Way A) where
   abbrev pub walk : W .State → List A → Ending (W .State) A
   walk s [] = fine s []
@@ -73,6 +81,18 @@ module _ {A : Type 0} (W : Way A) where
 
   abbrev pub walkOf : List A → Ending (W .State) A
   walkOf items = walkOver (pack (W .beats) items)
+
+  abbrev pub placedUntil : W .State → List A → List (Placed A)
+  placedUntil s [] = []
+  placedUntil s (a ∷ rest) = onwardPlaced (landed a (W .place s a)) (λ t. placedUntil t rest)
+
+  pub record SticksAt (s : W .State) (items : List A) (a : A) (n : ℕ) : Type 0 where
+    pub ahead : List A
+    pub later : List A
+    pub at : W .State
+    pub order : items ≡ ahead ++ (a ∷ later)
+    pub reached : walk s ahead ≡ fine at (placedUntil s items)
+    pub refused : W .place at a ≡ refuses n
 
 -- ---- items that stand for others
 

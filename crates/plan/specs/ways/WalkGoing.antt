@@ -10,9 +10,10 @@
 --   Both a n e f b       e and f were placed behind the first n
 --   LandFits .. k        the task at place k can be placed
 --   WalkFits             the walk over an order can begin
---   Reach base .. o      g with its arrays is what the ending o of a walk is, behind what base has
+--   Reach base until .. o      g with its arrays is what the ending o of a walk is, behind what base has; where it stuck they have until
+--   ReachOver .. ks      g with its arrays is what the walk over the places ks is; where it stuck they have what was placed before
 use mathlib.Core.Path.{_≡_}
-use mathlib.Core.List.{List, _++_, map}
+use mathlib.Core.List.{List, [], _++_, map}
 use Prim.Native.Nat.{ℕ, suc, _+_, _<_, _≤_, _*_}
 use lib.ListN.{length, take, set, replicate}
 use Rattle.demand.specs.declared.Piece.{Piece}
@@ -22,8 +23,9 @@ use Rattle.demand.specs.Sizes.{Sized, SizedCosts, Each, runMost}
 use Rattle.task.specs.declared.Machine.{Machine}
 use Rattle.plan.specs.declared.Row.{Row}
 use Rattle.plan.specs.declared.Going.{Going}
-use Rattle.walks.specs.Way.{Placed, Ending, fine, stuck}
+use Rattle.walks.specs.Way.{Placed, Ending, fine, stuck, walkOver, placedUntil}
 use Rattle.walks.specs.Halves.{Stand}
+use Rattle.plan.specs.Walk.{wayFor}
 use Rattle.plan.specs.ways.TimesArray.{wholeIn}
 use Rattle.plan.specs.ways.PlacedArray.{placedAt, placedIn, Put}
 use Rattle.task.specs.Tasks.{coresMost, tasksMost}
@@ -96,9 +98,12 @@ pub record Reached (base : List (Placed ℕ)) (placed records : List ℕ) (g : G
   pub records-size : length records ≡ 7 * runMost
   pub seated : Seated g
 
-abbrev pub Reach : List (Placed ℕ) → List ℕ → List ℕ → Going → Ending Stand ℕ → Type 0
-Reach base placed records g (fine s l) = Reached base placed records g s l
-Reach base placed records g (stuck k n) = (g .stuck ≡ suc k) × (n ≡ 7)
+abbrev pub Reach : (base until : List (Placed ℕ)) → List ℕ → List ℕ → Going → Ending Stand ℕ → Type 0
+Reach base until placed records g (fine s l) = Reached base placed records g s l
+Reach base until placed records g (stuck k n) = (g .stuck ≡ suc k) × (n ≡ 7) × (placedIn placed (g .count) ≡ until)
+
+abbrev pub ReachOver : Machine → Costs → (ℕ → Piece) → List ℕ → List ℕ → Going → List ℕ → Type 0
+ReachOver m c whole placed records g ks = Reach [] (placedUntil (wayFor m c whole) (wayFor m c whole .begin) ks) placed records g (walkOver (wayFor m c whole) ks)
 
 -- what the walk needs of its input: sizes, and an order of places within them
 pub record WalkFits (m : Machine) (c : Costs) (times : List ℕ) (n : ℕ) (order placed records : List ℕ) : Type 0 where

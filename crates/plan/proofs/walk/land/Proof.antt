@@ -75,7 +75,7 @@ returns c =
     let match = c .before .before .before .before .match in
     rw (c .stick .ensures) (stuck-done (s .machine .cores) (s .costs) (s .machine .grain) (s .k) (s .whole) (s .placed .now) (s .going)
     (now .placed) (now .records) (now .here) (now .inv) _ (lies .0) (lies .1) v (judged .0) _ (judged .1) (judged .2)
-    (not-passes v (match .keys2)) (c .before .if1 .taken) _)
+    (not-passes v (match .keys2)) (c .before .if1 .taken))
 
 split-on-requires : tie.Need-split-on-requires Inv-loop μ-loop
 split-on-requires c κs =

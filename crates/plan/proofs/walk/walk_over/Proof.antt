@@ -1,6 +1,5 @@
 -- `walk::walk_over` meets its contract: after i turns the code stands where the walk over the first i places does, or has stuck as it did.
 use mathlib.Core.Path.{_≡_, sym, ap, _∙_, subst}
-use mathlib.Core.List.{[]}
 use Prim.Native.Nat.{ℕ, _-_, _<_, _≤_, _+_}
 use native.Mathlib.Omega.{arith}
 use lib.ListN.{length, take, getD}
@@ -10,7 +9,7 @@ use Rattle.task.specs.Tasks.{wholePiece}
 use Rattle.plan.specs.ways.TimesArray.{wholeIn}
 use Rattle.walks.specs.Way.{walkOver}
 use Rattle.plan.specs.Walk.{wayFor}
-use Rattle.plan.specs.ways.WalkGoing.{Reach}
+use Rattle.plan.specs.ways.WalkGoing.{ReachOver}
 use Rattle.plan.proofs.OverLaws.{Walking, land-fits, land-reach, still-walking, walk-ended, begins, walking-reach}
 use borrow.Author.Needs.{needs}
 use Rattle.plan.proofs.walk.walk_over.Statement.{statement}
@@ -113,7 +112,7 @@ loop-again c =
     (whole-piece .result) (ap wholePiece (sym (times-at .ensures)) ∙ sym (whole-piece .ensures)) _ _ (land .result) (land .ensures) in (
       omega arith,
       still-walking _ _ (land .result)
-          (walkOver (wayFor (s .machine) (s .costs) (wholeIn (s .times .now))) (take (now .i + 1) (s .order .now))) there (omega arith),
+          (walkOver (wayFor (s .machine) (s .costs) (wholeIn (s .times .now))) (take (now .i + 1) (s .order .now))) _ there (omega arith),
     )
 
 returns-2 : tie.Need-returns-2 Inv-loop μ-loop
@@ -122,9 +121,8 @@ returns-2 c =
     let fits = c .before .before .before .pre in
     let now = c .before .loop in
     let e : now .i ≡ s .n = omega arith in
-    subst (λ (k : ℕ). Reach [] (now .placed) (now .records) (now .going) (walkOver
-    (wayFor (s .machine) (s .costs) (wholeIn (s .times .now))) (take k (s .order .now)))) e (walking-reach (now .placed) (now .records)
-    (now .going) (walkOver (wayFor (s .machine) (s .costs) (wholeIn (s .times .now))) (take (now .i) (s .order .now))) (now .inv .1))
+    subst (λ (k : ℕ). ReachOver (s .machine) (s .costs) (wholeIn (s .times .now)) (now .placed) (now .records) (now .going) (take k (s .order .now))) e
+    (walking-reach (now .placed) (now .records) (now .going) (s .machine) (s .costs) (wholeIn (s .times .now)) (take (now .i) (s .order .now)) (now .inv .1))
 
 pub walk-over-spec : {M : Type 1} → statement M
 walk-over-spec =
