@@ -1,9 +1,12 @@
 // The texts that are written into a lent buffer: a plan's listing (document 01, "Sheet"), and the listing that says why (document 02, E1).
+mod rows;
 mod texts;
 mod whys;
 
 use demand::Costs;
 use demand::Kind;
+use demand::RUN_MOST;
+use demand::RUN_NUMBERS;
 use demand::charged_time;
 use plan::Layout;
 use plan::PIECES_MOST;
@@ -11,26 +14,38 @@ use plan::Plan;
 use plan::ROW_MOST;
 use plan::Stored;
 use plan::stored_piece;
+use rows::lay_seat;
+use rows::lay_seats;
 use task::CORES_MOST;
 use task::NAME_MOST;
 use task::Name;
 use task::TASKS_MOST;
 use task::Tasks;
+use task::Times;
+use task::no_name;
+use task::no_task;
+use task::no_times;
+use task::whole_piece;
 use texts::put_bytes;
 use texts::put_name;
 use texts::put_number;
+use whys::NoRoom;
+use whys::write_why;
 ghost use mathlib.Core.Bool.{cond};
 ghost use mathlib.Core.List.{[], _∷_};
 ghost use mathlib.Core.Path.{_≡_};
 ghost use Prim.Native.Nat.{_+_, _*_, _≤_, _<_};
 ghost use lib.Dec.{ltb};
 ghost use lib.ListN.{length};
-ghost use Rattle.task.specs.Tasks.{tasksMost, coresMost};
+ghost use Rattle.demand.specs.Records.{recordsOf};
+ghost use Rattle.task.specs.Tasks.{tasksMost, coresMost, noTimes};
 ghost use Rattle.plan.specs.Sizes.{piecesMost, rowMost};
 ghost use Rattle.plan.specs.Layout.{blank};
 ghost use Rattle.lines.specs.Lines.{bytesOf};
 ghost use Rattle.listing.specs.Text.{Wrote, endedBy, textLine, decimal, over};
 ghost use Rattle.listing.specs.Listing.{spelling, kindWord, figuresLine, entryWith, listingOf, planWith, listedOn, entryLine};
+ghost use Rattle.listing.specs.Papers.{noteOf, left};
+ghost use Rattle.listing.specs.Why.{whyRun, whyOf};
 
 /// What is said of a text that is asked for in a lent buffer: a refusal's number and what it carries, or 0 and the text's length.
 pub struct Note {
@@ -91,6 +106,16 @@ fn named(place: usize, name: Name) -> Name
         len: 0,
         bytes: [0u8; NAME_MOST],
     }
+}
+
+// The times of the task at a place; zeros past the list.
+fn timed(place: usize, times: Times) -> Times
+    ensures { λ r. ⌜ r ≡ cond (ltb place tasksMost) times noTimes ⌝ }
+{
+    if place < TASKS_MOST {
+        return times;
+    }
+    no_times()
 }
 
 fn wide(n: usize) -> u64
@@ -203,4 +228,78 @@ pub fn write_listing(plan: Plan, buf: &mut [u8]) -> usize
         return n;
     }
     put_plan(buf, plan.costs, plan.tasks, plan.layout)
+}
+
+// No task found no room.
+fn room_for_all() -> NoRoom
+    ensures { λ r. ⌜ r .place ≡ 0 ⌝ }
+{
+    NoRoom {
+        place: 0,
+        name: no_name(),
+        cores: 0,
+    }
+}
+
+/// What is said of a run of records that is lent as numbers, its first `count`, each called by its place from 1: the length of the listing that says why its verdict is as it is, which is written; or
+/// its refusal: 6, then 2, then 3 with the record's place, then 10 with the length needed, and then no byte is written.
+pub fn why_run<'a>(
+    costs: Costs,
+    records: &'a [u64; RUN_NUMBERS],
+    count: usize,
+    buf: &'a mut [u8],
+) -> Note
+    ensures exact { λ r. ⌜ (r ≡ noteOf (whyRun costs count (recordsOf (now (records .entry)))) (length (now (buf .entry)))) × (now (buf .exit) ≡ left (whyRun costs count (recordsOf (now (records .entry)))) (now (buf .entry))) × (r .number ≤ 10) × (r .carries ≤ 10000) ⌝ }
+{
+    let places: [usize; RUN_MOST] = [0; RUN_MOST];
+    let tasks = Tasks {
+        count: 0,
+        list: [no_task(); TASKS_MOST],
+    };
+    let fine = room_for_all();
+    write_why(buf, fine, costs, false, tasks, &places, records, count)
+}
+
+/// The same of a core, from 1, of a plan, its pieces called by the names of their tasks: first 1 where the machine has no such core, then as a run of these pieces is refused. Where `stuck` is not 0, the
+/// task at that place, from 1, found no room: then it is the last core, whichever was asked for, with the whole task added, and a line in front tells of it.
+pub fn why_plan(plan: Plan, stuck: usize, core: usize, buf: &mut [u8]) -> Note
+    ensures exact { λ r. ⌜ (r ≡ noteOf (whyOf plan stuck core) (length (now (buf .entry)))) × (now (buf .exit) ≡ left (whyOf plan stuck core) (now (buf .entry))) × (r .number ≤ 10) × (r .carries ≤ 10000) ⌝ }
+{
+    let machine = plan.machine;
+    let cores = machine.cores;
+    if core == 0 {
+        return Note {
+            number: 1,
+            carries: 0,
+        };
+    }
+    if cores < core {
+        return Note {
+            number: 1,
+            carries: 0,
+        };
+    }
+    let costs = plan.costs;
+    let tasks = plan.tasks;
+    let layout = plan.layout;
+    let mut records: [u64; RUN_NUMBERS] = [0; RUN_NUMBERS];
+    let mut places: [usize; RUN_MOST] = [0; RUN_MOST];
+    if stuck == 0 {
+        let n = lay_seats(&mut records, &mut places, layout, core - 1);
+        let fine = room_for_all();
+        return write_why(buf, fine, costs, true, tasks, &places, &records, n);
+    }
+    let n = lay_seats(&mut records, &mut places, layout, cores - 1);
+    let k = stuck - 1;
+    let t = within(k, TASKS_MOST);
+    let task = tasks.list[t];
+    let name = named(k, task.name);
+    let whole = whole_piece(timed(k, task.times));
+    lay_seat(&mut records, &mut places, n, k, whole);
+    let none = NoRoom {
+        place: wide(stuck),
+        name: name,
+        cores: wide(cores),
+    };
+    write_why(buf, none, costs, true, tasks, &places, &records, n + 1)
 }

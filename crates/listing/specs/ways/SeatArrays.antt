@@ -1,12 +1,16 @@
 -- How the pieces of a core lie in arrays: their records, and beside them the places of their tasks.
 --
 --   seatsIn q ks a n      the first n, on core q: the records of a, of the tasks at the places ks
+--   SeatLaid ks a i k p ls b      the piece p of the task at place k was laid behind the first i of ks and a, which gives ls and b
 --   titledIn b ts ks a n  the same, called by the names of these tasks in ts; or, where b is false, by their own places from 1
 --   frontOf k n m         the line in front of a listing: none where k is 0
 use mathlib.Core.Bool.{Bool, true, false}
-use mathlib.Core.List.{List, []}
-use Prim.Native.Nat.{ℕ, zero, suc, _+_}
-use lib.ListN.{getD}
+use mathlib.Core.Path.{_≡_}
+use mathlib.Core.List.{List, [], _∷_, _++_}
+use Prim.Native.Nat.{ℕ, zero, suc, _+_, _*_}
+use lib.ListN.{length, getD}
+use Rattle.demand.specs.declared.Piece.{Piece}
+use Rattle.demand.specs.Sizes.{runMost}
 use Rattle.demand.specs.Lists.{firsts}
 use Rattle.demand.specs.Records.{recordAt}
 use Rattle.task.specs.declared.Task.{Task}
@@ -35,3 +39,8 @@ titledIn b ts ks a n = firsts (titledAt b ts ks a) n
 abbrev pub frontOf : ℕ → List ℕ → ℕ → List ℕ
 frontOf zero n m = []
 frontOf (suc k) n m = noRoomLine (suc k) n m
+
+pub record SeatLaid (ks a : List ℕ) (i k : ℕ) (p : Piece) (ls b : List ℕ) : Type 0 where
+  pub seats : (q : ℕ) → seatsIn q ls b (i + 1) ≡ seatsIn q ks a i ++ (record { on = q; item = k; piece = p } ∷ [])
+  pub records-size : length b ≡ 7 * runMost
+  pub places-size : length ls ≡ runMost
