@@ -116,7 +116,7 @@ ask-adds b qs Undecided t = omega (arith, total-same (askSum Undecided t) (busyL
 
 -- ---- what each verdict shows
 
-least-live-is : (qs : List Charged) (t : ℕ) → Least (Live qs) t → leastLive qs ≡ t
+pub least-live-is : (qs : List Charged) (t : ℕ) → Least (Live qs) t → leastLive qs ≡ t
 unfolding Live
 least-live-is [] t least = absurd (least .here)
 least-live-is (q ∷ qs) t least = least-unique (least-live-least q qs) least

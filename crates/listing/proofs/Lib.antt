@@ -1,5 +1,6 @@
 -- Laws that belong to no one function.
 pub mod TextLaws
+pub mod WhyTextLaws
 pub mod EntryLaws
 pub mod DigitLaws
 pub mod ReadLaws

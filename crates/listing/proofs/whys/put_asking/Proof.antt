@@ -1,3 +1,7 @@
+-- `whys::put_asking` meets its contract: its fields, one behind another.
+use native.Mathlib.Omega.{arith}
+use Rattle.listing.proofs.TextLaws.{wrote-both}
+use Rattle.listing.specs.Why.{askLine}
 use borrow.Author.Needs.{needs}
 use Rattle.listing.proofs.whys.put_asking.Statement.{statement}
 use Rattle.listing.proofs.whys.put_asking.Tie as tie
@@ -8,33 +12,34 @@ use Rattle.listing.proofs.texts.put_bytes.Reads as put-bytes-reads
 use Rattle.listing.proofs.whys.put_ask.Reads as put-ask-reads
 use Rattle.listing.proofs.whys.put_title.Reads as put-title-reads
 
--- src/whys.rt:129:32
 slice-aggregate-put-bytes : tie.Need-slice-aggregate-put-bytes
 slice-aggregate-put-bytes c = search needs
 
--- src/whys.rt:129:9
 put-bytes-requires : tie.Need-put-bytes-requires
 put-bytes-requires c κs = search needs
 
--- src/whys.rt:130:9
 put-title-requires : tie.Need-put-title-requires
 put-title-requires c κs = search needs
 
--- src/whys.rt:131:9
 put-kind-requires : tie.Need-put-kind-requires
 put-kind-requires c κs = search needs
 
--- src/whys.rt:132:5
 put-ask-requires : tie.Need-put-ask-requires
 put-ask-requires c κs = search needs
 
--- src/whys.rt:117:1
 same-length : tie.Need-same-length
 same-length c = search needs
 
--- src/whys.rt:117:1
 returns : tie.Need-returns
-returns c = ?
+unfolding askLine
+returns c = 
+    let a = c .before .before .before .before .before .before .before .before .before .before .before .before .before .before .put-bytes in
+    let t = c .before .before .before .before .before .before .before .before .before .before .put-title in
+    let k = c .before .before .before .before .before .before .put-kind in
+    let d = c .before .before .put-ask in (
+      wrote-both (a .ensures) (wrote-both (t .ensures .0) (wrote-both (k .ensures .0) (d .ensures .0))),
+      omega (arith, a .ensures .place, t .ensures .1, k .ensures .1, d .ensures .1),
+    )
 
 pub put-asking-spec : {M : Type 1} → statement M
 put-asking-spec =

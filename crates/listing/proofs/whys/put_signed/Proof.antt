@@ -1,3 +1,8 @@
+-- `whys::put_signed` meets its contract: the test parts the two signs.
+use native.Mathlib.Omega.{arith}
+use Rattle.listing.proofs.TextLaws.{wrote-both}
+use borrow.Author.Tests.{le-leb, lt-leb}
+use Rattle.listing.specs.Why.{signed}
 use borrow.Author.Needs.{needs}
 use Rattle.listing.proofs.whys.put_signed.Statement.{statement}
 use Rattle.listing.proofs.whys.put_signed.Tie as tie
@@ -6,37 +11,36 @@ use Rattle.listing.proofs.whys.put_signed.Lts as lts
 use Rattle.listing.proofs.texts.put_byte.Reads as put-byte-reads
 use Rattle.listing.proofs.texts.put_number.Reads as put-number-reads
 
--- src/whys.rt:68:9
 put-number-requires : tie.Need-put-number-requires
 put-number-requires c κs = search needs
 
--- src/whys.rt:68:9
 same-length : tie.Need-same-length
 same-length c = search needs
 
--- src/whys.rt:68:9
 returns : tie.Need-returns
-returns c = ?
+unfolding signed
+returns c = 
+    let s = c .before .before .before .before .before .before .args in
+    rw (le-leb (s .b) (s .a) (c .before .before .before .before .if1 .taken)) (c .before .before .put-number .ensures .0, omega (arith, c .before .before .put-number .ensures .1))
 
--- src/whys.rt:70:9
 put-byte-requires : tie.Need-put-byte-requires
 put-byte-requires c κs = search needs
 
--- src/whys.rt:71:24
 sub-put-number : tie.Need-sub-put-number
 sub-put-number c = search needs
 
--- src/whys.rt:71:5
 put-number-requires-2 : tie.Need-put-number-requires-2
 put-number-requires-2 c κs = search needs
 
--- src/whys.rt:63:1
 same-length-2 : tie.Need-same-length-2
 same-length-2 c = search needs
 
--- src/whys.rt:63:1
 returns-2 : tie.Need-returns-2
-returns-2 c = ?
+unfolding signed
+returns-2 c = 
+    let s = c .before .before .before .before .before .before .before .before .before .before .args in
+    rw (lt-leb (s .b) (s .a) (omega (arith, c .before .before .before .before .before .before .before .before .if1 .left)))
+    (wrote-both (c .before .before .before .before .before .before .put-byte .ensures) (c .before .before .put-number2 .ensures .0), omega (arith, c .before .before .before .before .before .before .put-byte .ensures .place, c .before .before .put-number2 .ensures .1))
 
 pub put-signed-spec : {M : Type 1} → statement M
 put-signed-spec =

@@ -1,3 +1,5 @@
+-- `whys::put_verdict` meets its contract: each case has its word.
+use native.Mathlib.Omega.{arith}
 use borrow.Author.Needs.{needs}
 use Rattle.listing.proofs.whys.put_verdict.Statement.{statement}
 use Rattle.listing.proofs.whys.put_verdict.Tie as tie
@@ -5,65 +7,56 @@ use Rattle.listing.proofs.whys.put_verdict.Reads as reads
 use Rattle.listing.proofs.whys.put_verdict.Lts as lts
 use Rattle.listing.proofs.texts.put_bytes.Reads as put-bytes-reads
 
--- src/whys.rt:56:38
 enum-told : tie.Need-enum-told
 enum-told c = search needs
 
--- src/whys.rt:56:47
 slice-aggregate-put-bytes : tie.Need-slice-aggregate-put-bytes
 slice-aggregate-put-bytes c = search needs
 
--- src/whys.rt:56:28
 put-bytes-requires : tie.Need-put-bytes-requires
 put-bytes-requires c κs = search needs
 
--- src/whys.rt:57:45
 enum-told-2 : tie.Need-enum-told-2
 enum-told-2 c = search needs
 
--- src/whys.rt:57:54
 slice-aggregate-put-bytes-2 : tie.Need-slice-aggregate-put-bytes-2
 slice-aggregate-put-bytes-2 c = search needs
 
--- src/whys.rt:57:35
 put-bytes-requires-2 : tie.Need-put-bytes-requires-2
 put-bytes-requires-2 c κs = search needs
 
--- src/whys.rt:58:41
 enum-told-3 : tie.Need-enum-told-3
 enum-told-3 c = search needs
 
--- src/whys.rt:58:50
 slice-aggregate-put-bytes-3 : tie.Need-slice-aggregate-put-bytes-3
 slice-aggregate-put-bytes-3 c = search needs
 
--- src/whys.rt:58:31
 put-bytes-requires-3 : tie.Need-put-bytes-requires-3
 put-bytes-requires-3 c κs = search needs
 
--- src/whys.rt:51:1
 same-length : tie.Need-same-length
 same-length c = search needs
 
--- src/whys.rt:51:1
 returns : tie.Need-returns
-returns c = ?
+returns c = 
+    let w = c .before .before .put-bytes .ensures in
+    rw (c .before .before .before .before .before .enum-told .given .1) (w, omega (arith, w .place))
 
--- src/whys.rt:51:1
 same-length-2 : tie.Need-same-length-2
 same-length-2 c = search needs
 
--- src/whys.rt:51:1
 returns-2 : tie.Need-returns-2
-returns-2 c = ?
+returns-2 c = 
+    let w = c .before .before .put-bytes2 .ensures in
+    rw (c .before .before .before .before .before .enum-told2 .given .1) (w, omega (arith, w .place))
 
--- src/whys.rt:51:1
 same-length-3 : tie.Need-same-length-3
 same-length-3 c = search needs
 
--- src/whys.rt:51:1
 returns-3 : tie.Need-returns-3
-returns-3 c = ?
+returns-3 c = 
+    let w = c .before .before .put-bytes3 .ensures in
+    rw (c .before .before .before .before .before .enum-told3 .given .1) (w, omega (arith, w .place))
 
 pub put-verdict-spec : {M : Type 1} → statement M
 put-verdict-spec =

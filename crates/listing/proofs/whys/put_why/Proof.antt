@@ -1,3 +1,23 @@
+-- `whys::put_why` meets its contract: behind the first line, place by place, the lines of the pieces before are written; then the last two.
+use borrow.Author.Needs.{needs}
+use mathlib.Core.Path.{_≡_, refl, sym, ap, subst, _∙_}
+use mathlib.Core.List.{List, [], _∷_, _++_, append-nil, append-assoc}
+use Prim.Native.Nat.{ℕ, _+_, _*_, _-_, _≤_, _<_}
+use native.Mathlib.Omega.{arith}
+use lib.ListN.{length, getD, take}
+use Rattle.demand.proofs.RunLaws.{length-mapped}
+use Rattle.demand.specs.declared.Shown.{Shown}
+use Rattle.demand.specs.Records.{recordsOf}
+use Rattle.demand.specs.Why.{shownOf}
+use Rattle.task.specs.declared.Task.{Task}
+use Rattle.task.specs.Tasks.{past}
+use Rattle.listing.specs.Text.{Wrote}
+use Rattle.listing.specs.Listing.{spelling}
+use Rattle.listing.specs.Why.{askLines, whyHead, whyBody, whyFoot, whyText}
+use Rattle.listing.specs.ways.SeatArrays.{titledAt, titledIn, frontOf}
+use Rattle.listing.proofs.TextLaws.{wrote-none, wrote-both, wrote-length}
+use Rattle.listing.proofs.EntryLaws.{at-within}
+use Rattle.listing.proofs.WhyTextLaws.{title-is, asks-more, more-titled, line-is, why-none, why-some}
 use Rattle.listing.proofs.whys.put_why.Statement.{statement}
 use Rattle.listing.proofs.whys.put_why.Tie as tie
 use Rattle.listing.proofs.whys.put_why.Reads as reads
@@ -13,94 +33,121 @@ use Rattle.listing.proofs.within.Reads as within-reads
 use Rattle.verdicts.proofs.ask_of.Reads as ask-of-reads
 
 abbrev Inv-loop : tie.InvT-loop
-Inv-loop buf₀ costs by-name places records n shown tasks front head verdict k₀ i₀ buf k i = ?
+Inv-loop buf₀ costs by-name places records n shown tasks front head verdict k₀ i₀ buf k i = (i ≤ n) × (k ≤ 131 + 100 * i)
+    × Wrote buf₀ k₀ (askLines costs shown (titledIn by-name (tasks .list) places records i)) k buf
 
 abbrev μ-loop : tie.MeasureT-loop
-μ-loop buf₀ costs by-name places records n shown tasks front head verdict k₀ i₀ buf k i = ?
+μ-loop buf₀ costs by-name places records n shown tasks front head verdict k₀ i₀ buf k i = n - i
 
--- src/whys.rt:164:9
+tasks-long : (c : tie.Start Inv-loop μ-loop) → length (c .args .t5 .list) ≡ 64
+tasks-long c = search (needs, length-mapped)
+
 put-no-room-requires : tie.Need-put-no-room-requires Inv-loop μ-loop
-put-no-room-requires c κs = ?
+put-no-room-requires c κs = search needs
 
--- src/whys.rt:165:9
 put-head-requires : tie.Need-put-head-requires Inv-loop μ-loop
-put-head-requires c κs = ?
+put-head-requires c κs = omega (arith, c .before .before .before .put-no-room .ensures .1)
 
--- src/whys.rt:167:9
 same-length : tie.Need-same-length Inv-loop μ-loop
-same-length c = ?
+same-length c = search needs
 
--- src/whys.rt:167:9
 returns : tie.Need-returns Inv-loop μ-loop
-returns c = ?
+returns c = 
+    let s = c .before .before .before .before .before .before .before .before .before .before .args in
+    let front = c .before .before .before .before .before .before .before .put-no-room in
+    let head = c .before .before .before .put-head in
+    let none : s .n ≡ 0 = c .if1 .taken in (
+      subst (λ (t : List ℕ). Wrote (s .buf .now) 0 t (head .result) (head .last .0))
+          (ap (λ (t : List ℕ). frontOf (s .stuck .place) (spelling (s .stuck .name)) (s .stuck .cores) ++ t)
+          (why-none (s .costs) (s .by-name) (s .t5 .list) (s .places .now) (s .records .now) (s .n) (s .shown) none (c .before .before .before .before .before .before .before .before .before .before .pre .1))) (wrote-both (front .ensures .0) (head .ensures .0)),
+      omega (arith, front .ensures .1, head .ensures .1),
+    )
 
--- src/whys.rt:172:5
 loop-holds : tie.Need-loop-holds Inv-loop μ-loop
-loop-holds c = ?
+loop-holds c = (search needs, omega (arith, c .before .before .before .before .before .before .before .put-no-room .ensures .1, c .before .before .before .put-head .ensures .1), wrote-none _ _)
 
--- src/whys.rt:173:21
 mul-place : tie.Need-mul-place Inv-loop μ-loop
-mul-place c = ?
+mul-place c = search needs
 
--- src/whys.rt:173:21
 element-copy-out-place : tie.Need-element-copy-out-place Inv-loop μ-loop
-element-copy-out-place c = ?
+element-copy-out-place c = omega (arith, c .before .before .before .before .before .before .before .before .before .before .before .before .pre .0 .few)
 
--- src/whys.rt:174:13
 within-requires : tie.Need-within-requires Inv-loop μ-loop
-within-requires c κs = ?
+within-requires c κs = search needs
 
--- src/whys.rt:175:20
 mul-task : tie.Need-mul-task Inv-loop μ-loop
-mul-task c = ?
+mul-task c = search needs
 
--- src/whys.rt:175:20
 element-copy-out-task : tie.Need-element-copy-out-task Inv-loop μ-loop
-element-copy-out-task c = ?
+element-copy-out-task c = search needs
 
--- src/whys.rt:176:13
 named-requires : tie.Need-named-requires Inv-loop μ-loop
-named-requires c κs = ?
+named-requires c κs = search needs
 
--- src/whys.rt:177:13
 record-at-requires : tie.Need-record-at-requires Inv-loop μ-loop
-record-at-requires c κs = ?
+record-at-requires c κs = search needs
 
--- src/whys.rt:179:28
 charged-piece-requires : tie.Need-charged-piece-requires Inv-loop μ-loop
-charged-piece-requires c κs = ?
+charged-piece-requires c κs = search needs
 
--- src/whys.rt:179:13
 ask-of-requires : tie.Need-ask-of-requires Inv-loop μ-loop
-ask-of-requires c κs = ?
+ask-of-requires c κs = search needs
 
--- src/whys.rt:180:9
 put-asking-requires : tie.Need-put-asking-requires Inv-loop μ-loop
-put-asking-requires c κs = ?
+put-asking-requires c κs = (omega (arith, c .before .before .before .before .before .before .before .before .before .loop .inv .1, c .before .before .before .before .before .before .before .before .before .before .before .before .before .before .before .before .before .before .before .before .pre .0 .few), omega (arith, c .before .before .before .before .before .before .before .before .before .before .before .before .before .before .before .before .before .before .before .before .pre .0 .few))
 
--- src/whys.rt:181:9
 add-i : tie.Need-add-i Inv-loop μ-loop
-add-i c = ?
+add-i c = record { fits = omega (arith, c .before .before .before .before .before .before .before .before .before .before .before .loop-test .taken, c .before .before .before .before .before .before .before .before .before .before .before .before .before .before .before .before .before .before .before .before .before .before .before .pre .0 .few) }
 
--- src/whys.rt:172:5
 loop-less : tie.Need-loop-less Inv-loop μ-loop
-loop-less c = ?
+loop-less c = search needs
 
--- src/whys.rt:172:5
 loop-again : tie.Need-loop-again Inv-loop μ-loop
-loop-again c = ?
+loop-again c = 
+    let s = c .before .before .before .before .before .before .before .before .before .before .before .before .before .before .before .before .before .before .before .before .before .before .before .args in
+    let pre = c .before .before .before .before .before .before .before .before .before .before .before .before .before .before .before .before .before .before .before .before .before .before .before .pre in
+    let taken = pre .0 in
+    let now = c .before .before .before .before .before .before .before .before .before .before .before .before .loop in
+    let head = c .before .before .before .before .before .before .before .before .before .before .before .before .before .before .before .before .put-head in
+    let f = c .before .before .put-asking in
+    let low : now .i < s .n = c .before .before .before .before .before .before .before .before .before .before .before .loop-test .taken in
+    let name = c .before .before .before .before .before .before .before .named .ensures ∙ at-within (λ (t : Task). spelling (t .name)) (s .t5 .list) 64 _ _ _ past (tasks-long (c .before .before .before .before .before .before .before .before .before .before .before .before .before .before .before .before .before .before .before .before .before .before .before)) (c .before .before .before .before .before .before .before .before .before .within .ensures .1) in
+    let title = title-is (s .by-name) (s .t5 .list) (s .places .now) (now .i) _ (name) in
+    let line = line-is (s .costs) (s .n) (s .records .now) taken (s .shown) (pre .1) (now .i) low (c .before .before .before .before .before .before .record-at .result) (c .before .before .before .before .before .before .record-at .ensures) (c .before .before .before .before .before .charged-piece .result) (c .before .before .before .before .before .charged-piece .ensures) (c .before .before .before .before .ask-of .result) (c .before .before .before .before .ask-of .ensures)
+    (s .by-name) (s .t5 .list) (s .places .now) _ title in (
+      omega arith,
+      omega (arith, f .ensures .1, now .inv .1),
+      subst (λ (t : List ℕ). Wrote (head .last .0) (head .result) t (f .result) (f .last .0))
+          (sym (asks-more (s .costs) (s .shown) (titledIn (s .by-name) (s .t5 .list) (s .places .now) (s .records .now) (now .i)) (titledAt (s .by-name) (s .t5 .list) (s .places .now) (s .records .now) (now .i))) ∙ more-titled (s .costs) (s .shown) (s .by-name) (s .t5 .list) (s .places .now) (s .records .now) (now .i))
+          (wrote-both (now .inv .2) (subst (λ (t : List ℕ). Wrote (now .buf) (now .k) t (f .result) (f .last .0)) line (f .ensures .0))),
+    )
 
--- src/whys.rt:183:5
 put-foot-requires : tie.Need-put-foot-requires Inv-loop μ-loop
-put-foot-requires c κs = ?
+put-foot-requires c κs = omega (arith, c .before .before .loop .inv .1, c .before .before .before .before .before .before .before .before .before .before .before .before .before .pre .0 .few, c .before .before .loop .inv .0)
 
--- src/whys.rt:150:1
 same-length-2 : tie.Need-same-length-2 Inv-loop μ-loop
-same-length-2 c = ?
+same-length-2 c =
+    let front = c .before .before .before .before .before .before .before .before .before .before .before .before .before .put-no-room in
+    let head = c .before .before .before .before .before .before .before .before .before .put-head in
+    wrote-length _ _ _ _ _ (c .before .before .put-foot .ensures .0) ∙ (wrote-length _ _ _ _ _ (c .before .before .before .before .before .loop .inv .2) ∙ (wrote-length _ _ _ _ _ (head .ensures .0) ∙ wrote-length _ _ _ _ _ (front .ensures .0)))
 
--- src/whys.rt:150:1
 returns-2 : tie.Need-returns-2 Inv-loop μ-loop
-returns-2 c = ?
+returns-2 c = 
+    let s = c .before .before .before .before .before .before .before .before .before .before .before .before .before .before .before .before .args in
+    let pre = c .before .before .before .before .before .before .before .before .before .before .before .before .before .before .before .before .pre in
+    let taken = pre .0 in
+    let now = c .before .before .before .before .before .loop in
+    let head = c .before .before .before .before .before .before .before .before .before .put-head in
+    let front = c .before .before .before .before .before .before .before .before .before .before .before .before .before .put-no-room in
+    let foot = c .before .before .put-foot in
+    let all : now .i ≡ s .n = omega arith in
+    let lines : Wrote (head .last .0) (head .result) (askLines (s .costs) (s .shown) (titledIn (s .by-name) (s .t5 .list) (s .places .now) (s .records .now) (s .n))) (now .k) (now .buf) = rw all at (now .inv .2) in (
+      subst (λ (t : List ℕ). Wrote (s .buf .now) 0 t (foot .result) (foot .last .0))
+          (ap (λ (t : List ℕ). frontOf (s .stuck .place) (spelling (s .stuck .name)) (s .stuck .cores) ++ t)
+          (why-some (s .costs) (s .by-name) (s .t5 .list) (s .places .now) (s .records .now) (s .n) (s .shown) (omega (arith, c .before .before .before .before .before .before .if1 .left)) (pre .0 .few) (pre .1)))
+          (wrote-both (front .ensures .0) (wrote-both (head .ensures .0) (wrote-both lines (foot .ensures .0)))),
+      omega (arith, foot .ensures .1, now .inv .1, now .inv .0, pre .0 .few),
+    )
 
 pub put-why-spec : {M : Type 1} → statement M
 put-why-spec =

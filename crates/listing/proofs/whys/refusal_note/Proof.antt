@@ -1,32 +1,27 @@
+-- `whys::refusal_note` meets its contract: each refusal has its number.
 use borrow.Author.Needs.{needs}
 use Rattle.listing.proofs.whys.refusal_note.Statement.{statement}
 use Rattle.listing.proofs.whys.refusal_note.Tie as tie
 use Rattle.listing.proofs.whys.refusal_note.Reads as reads
 use Rattle.listing.proofs.whys.refusal_note.Lts as lts
 
--- src/whys.rt:191:29
 enum-told : tie.Need-enum-told
 enum-told c = search needs
 
--- src/whys.rt:195:30
 enum-told-2 : tie.Need-enum-told-2
 enum-told-2 c = search needs
 
--- src/whys.rt:199:28
 enum-known-why : tie.Need-enum-known-why
 enum-known-why c = search needs
 
--- src/whys.rt:187:1
 returns : tie.Need-returns
-returns c = ?
+returns c = rw (c .enum-told .given .1)
 
--- src/whys.rt:187:1
 returns-2 : tie.Need-returns-2
-returns-2 c = ?
+returns-2 c = rw (c .enum-told2 .given .1)
 
--- src/whys.rt:187:1
 returns-3 : tie.Need-returns-3
-returns-3 c = ?
+returns-3 c = rw (c .before .why .given .1)
 
 pub refusal-note-spec : {M : Type 1} → statement M
 refusal-note-spec =
