@@ -3,6 +3,7 @@ pub mod TextLaws
 pub mod EntryLaws
 pub mod DigitLaws
 pub mod ReadLaws
+pub mod SeatLaws
 pub mod PlacedLaws
 pub mod PlainLaws
 pub mod Theorems
