@@ -5,6 +5,8 @@
 --   piece-line             a piece's line, from the fields as they are worked out
 --   entry-line             it is the line of the piece's entry
 --   entry-lines-append     the lines of two runs of entries
+--   rowNumbers rows q      the piece numbers that core q has places for
+--   number-at, numbers-all        each by its place; and the first r of them, where r is a row's length cut to 64
 --   rowRun p q i           the entries of the first i places of core q's row
 --   seat-more, row-over    one more, behind the cores before it; and where all that are listed are there, the core is
 --   listing-with           a plan's listing does not tell its machine
@@ -62,23 +64,36 @@ entry-lines-append (e ∷ es) fs = ap (λ (l : List ℕ). entryLine e ++ l) (ent
 cores-more : (p : Plan) (q : ℕ) → entryLines (entriesOn p (q + 1)) ≡ entryLines (entriesOn p q) ++ entryLines (rowEntries p q)
 cores-more p q = rw (add-one q) (entry-lines-append (entriesOn p q) (rowEntries p q))
 
+-- ---- the piece numbers of a row
+
+abbrev pub rowNumbers : List ℕ → ℕ → List ℕ
+rowNumbers rows q = take 64 (drop (q * 64) rows)
+
+module _ (rows : List ℕ) (q : ℕ) (long : length rows ≡ 1024) (low : q < 16) where
+  pub numbers-long : length (rowNumbers rows q) ≡ 64
+  numbers-long = length-take-le 64 (drop (q * 64) rows) (omega (arith, length-drop (q * 64) rows))
+
+  pub number-at : (i : ℕ) → i < 64 → getD (rowNumbers rows q) i 0 ≡ getD rows (q * 64 + i) 0
+  number-at i h = getD-take 64 (drop (q * 64) rows) i 0 h ∙ getD-drop (q * 64) rows i 0
+
+  pub numbers-all : (r n : ℕ) → r ≤ n → (r < n → r ≡ 64) → take r (rowNumbers rows q) ≡ take n (rowNumbers rows q)
+  numbers-all r n h f =
+      ⊎-elim (λ e. ap (λ (k : ℕ). take k (rowNumbers rows q)) e) (λ s. take-all r (rowNumbers rows q) (omega (arith, f s, numbers-long))
+      ∙ sym (take-all n (rowNumbers rows q) (omega (arith, f s, numbers-long)))) (eq-or-lt-of-le h)
+
+-- ---- the entries of a row
+
 abbrev pub rowRun : Plan → ℕ → ℕ → List Entry
-rowRun p q i = map (λ j. entryOf p q (getD (p .layout .pieces) j blank)) (take i (take 64 (drop (q * 64) (p .layout .rows))))
+rowRun p q i = map (λ j. entryOf p q (getD (p .layout .pieces) j blank)) (take i (rowNumbers (p .layout .rows) q))
 
 module _ (p : Plan) (q : ℕ) (long : length (p .layout .rows) ≡ 1024) (low : q < 16) where
-  abbrev seatsOf : List ℕ
-  seatsOf = take 64 (drop (q * 64) (p .layout .rows))
-
-  seats-long : length seatsOf ≡ 64
-  seats-long = length-take-le 64 (drop (q * 64) (p .layout .rows)) (omega (arith, length-drop (q * 64) (p .layout .rows)))
-
   row-more : (i : ℕ) → i < 64 → entryLines (rowRun p q (i + 1))
       ≡ entryLines (rowRun p q i) ++ entryLine (entryOf p q (getD (p .layout .pieces) (getD (p .layout .rows) (q * 64 + i) 0) blank))
   row-more i h =
       let f : ℕ → Entry = (λ j. entryOf p q (getD (p .layout .pieces) j blank)) in
-      let here : getD seatsOf i 0 ≡ getD (p .layout .rows) (q * 64 + i) 0 = getD-take 64 (drop (q * 64) (p .layout .rows)) i 0 h
-      ∙ getD-drop (q * 64) (p .layout .rows) i 0 in
-      ap entryLines (map-more f seatsOf i 0 (omega (arith, seats-long)) ∙ ap (λ (j : ℕ). rowRun p q i ++ (f j ∷ [])) here)
+      let numbers = rowNumbers (p .layout .rows) q in
+      let here : getD numbers i 0 ≡ getD (p .layout .rows) (q * 64 + i) 0 = number-at (p .layout .rows) q long low i h in
+      ap entryLines (map-more f numbers i 0 (omega (arith, numbers-long (p .layout .rows) q long low)) ∙ ap (λ (j : ℕ). rowRun p q i ++ (f j ∷ [])) here)
       ∙ (entry-lines-append (rowRun p q i) (f (getD (p .layout .rows) (q * 64 + i) 0) ∷ [])
       ∙ ap (λ (l : List ℕ). entryLines (rowRun p q i) ++ l) (append-nil (entryLine (f (getD (p .layout .rows) (q * 64 + i) 0)))))
 
@@ -86,10 +101,9 @@ module _ (p : Plan) (q : ℕ) (long : length (p .layout .rows) ≡ 1024) (low : 
   unfolding rowPieces
   row-whole r h f =
       let n = getD (p .layout .lens) q 0 in
-      let same : take r seatsOf ≡ take n seatsOf =
-      ⊎-elim (λ e. ap (λ (k : ℕ). take k seatsOf) e) (λ s. take-all r seatsOf (omega (arith, f s, seats-long))
-      ∙ sym (take-all n seatsOf (omega (arith, f s, seats-long)))) (eq-or-lt-of-le h) in
-      ap (map (λ j. entryOf p q (getD (p .layout .pieces) j blank))) same ∙ sym (map-map (entryOf p q) (λ j. getD (p .layout .pieces) j blank) (take n seatsOf))
+      let numbers = rowNumbers (p .layout .rows) q in
+      ap (map (λ j. entryOf p q (getD (p .layout .pieces) j blank))) (numbers-all (p .layout .rows) q long low r n h f)
+      ∙ sym (map-map (entryOf p q) (λ j. getD (p .layout .pieces) j blank) (take n numbers))
 
   -- one place more of the row is written
   pub seat-more : (i : ℕ) (s : Stored) (name : List ℕ) → i < 64 → s ≡ getD (p .layout .pieces) (getD (p .layout .rows) (q * 64 + i) 0) blank

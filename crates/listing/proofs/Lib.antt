@@ -4,6 +4,7 @@ pub mod WhyTextLaws
 pub mod EntryLaws
 pub mod DigitLaws
 pub mod ReadLaws
+pub mod SeatLaws
 pub mod PlacedLaws
 pub mod PlainLaws
 pub mod Theorems
