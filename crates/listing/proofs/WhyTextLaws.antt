@@ -5,7 +5,6 @@
 --   title-is              what a piece is called by
 --   asks-more, more-titled    one line more
 --   body-some             the lines of some pieces
---   titled-pieces         the pieces that lie in arrays
 --   why-none, why-some    their listing, of none and of some
 --   line-is               the line of one of them, as the code comes to it
 use mathlib.Core.Path.{_≡_, refl, sym, ap, _∙_}
@@ -23,13 +22,12 @@ use Rattle.demand.specs.declared.Ask.{Ask}
 use Rattle.demand.specs.declared.Shown.{Shown}
 use Rattle.demand.specs.Answer.{Taken}
 use Rattle.demand.specs.Charge.{charged}
-use Rattle.demand.specs.Lists.{firsts}
 use Rattle.demand.specs.Records.{recordAt, recordWithin, recordsOf}
 use Rattle.demand.specs.Sizes.{Sized, runMost, lengthMost}
 use Rattle.demand.specs.Why.{ask, shownOf}
 use Rattle.demand.specs.ways.Ranges.{chargedWithin}
 use Rattle.demand.proofs.ArrayLaws.{firsts-length}
-use Rattle.demand.proofs.ChargeLaws.{map-snoc, sized-countable, charged-ranged, charged-within}
+use Rattle.demand.proofs.ChargeLaws.{sized-countable, charged-ranged, charged-within}
 use Rattle.demand.proofs.RecordLaws.{records-length, records-at, records-take, record-within}
 use Rattle.demand.proofs.Sums.{each-at}
 use Rattle.verdicts.specs.Asks.{askWithin}
@@ -40,6 +38,7 @@ use Rattle.listing.specs.Text.{decimal}
 use Rattle.listing.specs.Listing.{spelling}
 use Rattle.listing.specs.Why.{Titled, piecesIn, askLine, askLines, whyHead, whyFoot, whyBody, whyText, noRoomLine}
 use Rattle.listing.specs.ways.SeatArrays.{titleIn, titledAt, titledIn, frontOf}
+use Rattle.listing.proofs.SeatLaws.{titled-pieces}
 
 pub front-some : (k : ℕ) (n : List ℕ) (m : ℕ) → (k ≡ 0 → ⊥) → frontOf k n m ≡ noRoomLine k n m
 front-some zero n m some = absurd (some refl)
@@ -69,12 +68,6 @@ module _ (c : Costs) (s : Shown) where
   body-some (l ∷ ls) some = refl
 
 -- ---- the pieces in the arrays
-
-titled-pieces : (b : Bool) (ts : List Task) (ks a : List ℕ) (n : ℕ) → piecesIn (titledIn b ts ks a n) ≡ firsts (recordAt a) n
-titled-pieces b ts ks a zero = refl
-titled-pieces b ts ks a (suc n) =
-    map-snoc (λ (l : Titled). l .piece) (titledIn b ts ks a n) (titledAt b ts ks a n)
-    ∙ ap (λ (ps : List Piece). ps ++ (recordAt a n ∷ [])) (titled-pieces b ts ks a n)
 
 -- what is shown of them
 module _ (c : Costs) (b : Bool) (ts : List Task) (ks a : List ℕ) (n : ℕ) (s : Shown) where

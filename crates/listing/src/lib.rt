@@ -38,6 +38,7 @@ ghost use Prim.Native.Nat.{_+_, _*_, _≤_, _<_};
 ghost use lib.Dec.{ltb};
 ghost use lib.ListN.{length};
 ghost use Rattle.demand.specs.Records.{recordsOf};
+ghost use Rattle.demand.specs.Sizes.{lengthMost};
 ghost use Rattle.task.specs.Tasks.{tasksMost, coresMost, noTimes};
 ghost use Rattle.plan.specs.Sizes.{piecesMost, rowMost};
 ghost use Rattle.plan.specs.Layout.{blank};
@@ -249,7 +250,7 @@ pub fn why_run<'a>(
     count: usize,
     buf: &'a mut [u8],
 ) -> Note
-    ensures exact { λ r. ⌜ (r ≡ noteOf (whyRun costs count (recordsOf (now (records .entry)))) (length (now (buf .entry)))) × (now (buf .exit) ≡ left (whyRun costs count (recordsOf (now (records .entry)))) (now (buf .entry))) × (r .number ≤ 10) × (r .carries ≤ 10000) ⌝ }
+    ensures exact { λ r. ⌜ (r ≡ noteOf (whyRun costs count (recordsOf (now (records .entry)))) (length (now (buf .entry)))) × (now (buf .exit) ≡ left (whyRun costs count (recordsOf (now (records .entry)))) (now (buf .entry))) × (r .number ≤ 10) × (r .carries ≤ lengthMost) ⌝ }
 {
     let places: [usize; RUN_MOST] = [0; RUN_MOST];
     let tasks = Tasks {
@@ -263,7 +264,7 @@ pub fn why_run<'a>(
 /// The same of a core, from 1, of a plan, its pieces called by the names of their tasks: first 1 where the machine has no such core, then as a run of these pieces is refused. Where `stuck` is not 0, the
 /// task at that place, from 1, found no room: then it is the last core, whichever was asked for, with the whole task added, and a line in front tells of it.
 pub fn why_plan(plan: Plan, stuck: usize, core: usize, buf: &mut [u8]) -> Note
-    ensures exact { λ r. ⌜ (r ≡ noteOf (whyOf plan stuck core) (length (now (buf .entry)))) × (now (buf .exit) ≡ left (whyOf plan stuck core) (now (buf .entry))) × (r .number ≤ 10) × (r .carries ≤ 10000) ⌝ }
+    ensures exact { λ r. ⌜ (r ≡ noteOf (whyOf plan stuck core) (length (now (buf .entry)))) × (now (buf .exit) ≡ left (whyOf plan stuck core) (now (buf .entry))) × (r .number ≤ 10) × (r .carries ≤ lengthMost) ⌝ }
 {
     let machine = plan.machine;
     let cores = machine.cores;

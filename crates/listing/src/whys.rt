@@ -32,7 +32,7 @@ ghost use lib.ListN.{length, take};
 ghost use Rattle.demand.specs.declared.Check.the-variants.{Bad};
 ghost use Rattle.demand.specs.Answer.{Taken};
 ghost use Rattle.demand.specs.Records.{recordsOf};
-ghost use Rattle.demand.specs.Sizes.{runMost};
+ghost use Rattle.demand.specs.Sizes.{runMost, lengthMost};
 ghost use Rattle.demand.specs.Why.{shownOf};
 ghost use Rattle.listing.specs.Text.{Wrote, endedBy, decimal};
 ghost use Rattle.listing.specs.Listing.{spelling};
@@ -215,7 +215,7 @@ pub fn write_why<'a>(
     n: usize,
 ) -> Note
     ensures { λ r. ⌜ (r ≡ noteOf (whyPaper (frontOf (stuck .place) (spelling (stuck .name)) (stuck .cores)) costs n (titledIn «by_name» (tasks .list) (now (places .entry)) (now (records .entry)) runMost)) (length (now (buf .entry)))) × (now (buf .exit) ≡ left (whyPaper (frontOf (stuck .place) (spelling (stuck .name)) (stuck .cores)) costs n (titledIn «by_name» (tasks .list) (now (places .entry)) (now (records .entry)) runMost)) (now (buf .entry))) ⌝ }
-    ensures { λ r. ⌜ (r .number ≤ 10) × (r .carries ≤ 10000) ⌝ }
+    ensures { λ r. ⌜ (r .number ≤ 10) × (r .carries ≤ lengthMost) ⌝ }
 {
     match show_records(costs, records, n) {
         Showing::Unshown(why) => refusal_note(why),

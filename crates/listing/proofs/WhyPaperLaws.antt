@@ -1,0 +1,97 @@
+-- Laws of what is answered where a listing that says why is asked for.
+-- Assumes nothing.
+--
+--   showing-shows, showing-unshown        what is shown, or refused, by the check
+--   why-written, why-barred               so the paper is the listing, or the refusal
+--   note-long, note-short, left-written   what is said of a listing, and what the buffer then holds
+use mathlib.Core.Path.{_≡_, refl, sym, ap, subst, _∙_}
+use mathlib.Core.Bool.{Bool}
+use mathlib.Core.List.{List, [], _++_}
+use Prim.Native.Nat.{ℕ, _≤_, _<_}
+use native.Mathlib.Omega.{arith}
+use borrow.Author.Tests.{le-leb, lt-leb}
+use lib.ListN.{length, take}
+use Rattle.demand.specs.declared.Piece.{Piece}
+use Rattle.demand.specs.declared.Costs.{Costs}
+use Rattle.demand.specs.declared.Shown.{Shown}
+use Rattle.demand.specs.declared.Showing.{Showing}
+use Rattle.demand.specs.declared.Showing.the-variants.{Shows, Unshown}
+use Rattle.demand.specs.declared.Answer.{Answer}
+use Rattle.demand.specs.declared.Answer.the-variants.{Refused}
+use Rattle.demand.specs.declared.Refusal.{Refusal}
+use Rattle.demand.specs.declared.Refusal.the-variants.{TooMany, BadCosts, BadRecord}
+use Rattle.demand.specs.declared.Check.{Check}
+use Rattle.demand.specs.declared.Check.the-variants.{Fine, Bad}
+use Rattle.demand.specs.Answer.{checkRun, showing, showingOf, told}
+use Rattle.demand.specs.Records.{recordAt, recordsOf}
+use Rattle.demand.specs.Sizes.{runMost, lengthMost}
+use Rattle.demand.specs.Why.{shownOf}
+use Rattle.demand.proofs.AnswerLaws.{answer-carries}
+use Rattle.demand.proofs.RunLaws.{answer-bad, check-taken}
+use Rattle.task.specs.declared.Task.{Task}
+use Rattle.listing.specs.declared.Note.{Note}
+use Rattle.listing.specs.Text.{over}
+use Rattle.listing.specs.Papers.{Paper, refused, written, noteOf, left}
+use Rattle.listing.specs.Why.{piecesIn, whyText, unlessBad, whyPaper}
+use Rattle.listing.specs.ways.SeatArrays.{titledIn}
+use Rattle.listing.proofs.SeatLaws.{titled-pieces, titled-take}
+
+-- ---- by the check
+
+module _ (c : Costs) (n : ℕ) (ps : List Piece) where
+  pub showing-shows : (s : Shown) → showingOf c n ps ≡ Shows s → (checkRun c n ps ≡ Fine) × (s ≡ shownOf c (take n ps))
+  unfolding showingOf
+  showing-shows s = by (checkRun c n ps) refl
+    where
+      by : (k : Check) → checkRun c n ps ≡ k → showing k (shownOf c (take n ps)) ≡ Shows s → (checkRun c n ps ≡ Fine) × (s ≡ shownOf c (take n ps))
+      by Fine fine e = (fine, sym (let same : Shows (shownOf c (take n ps)) ≡ Shows s = e in cc))
+      by (Bad r) bad e = absurd (let z : _≡_ {A = ℕ} 0 1 = cc in omega arith)
+
+  pub showing-unshown : (r : Refusal) → showingOf c n ps ≡ Unshown r → checkRun c n ps ≡ Bad r
+  unfolding showingOf
+  showing-unshown r = by (checkRun c n ps) refl
+    where
+      by : (k : Check) → checkRun c n ps ≡ k → showing k (shownOf c (take n ps)) ≡ Unshown r → checkRun c n ps ≡ Bad r
+      by Fine fine e = absurd (let z : _≡_ {A = ℕ} 0 1 = cc in omega arith)
+      by (Bad q) bad e = bad ∙ ap Bad (let same : Unshown q ≡ Unshown r = e in cc)
+
+-- ---- the paper
+
+module _ (f : List ℕ) (c : Costs) (n : ℕ) (b : Bool) (ts : List Task) (ks a : List ℕ) where
+  pieces-all : piecesIn (titledIn b ts ks a runMost) ≡ recordsOf a
+  unfolding recordsOf
+  pieces-all = titled-pieces b ts ks a runMost
+
+  pub why-written : checkRun c n (recordsOf a) ≡ Fine → whyPaper f c n (titledIn b ts ks a runMost) ≡ written (f ++ whyText c (titledIn b ts ks a n))
+  unfolding whyPaper
+  why-written fine =
+      let few : n ≤ runMost = check-taken c n (recordsOf a) fine .few in
+      rw (pieces-all, fine, titled-take b ts ks a n few)
+
+  pub why-barred : (r : Refusal) → checkRun c n (recordsOf a) ≡ Bad r → (room : ℕ) (old : List ℕ)
+      → (noteOf (unlessBad (Bad r) (written [])) 0 ≡ noteOf (whyPaper f c n (titledIn b ts ks a runMost)) room)
+      × (old ≡ left (whyPaper f c n (titledIn b ts ks a runMost)) old)
+      × (noteOf (unlessBad (Bad r) (written [])) 0 .number ≤ 10) × (noteOf (unlessBad (Bad r) (written [])) 0 .carries ≤ lengthMost)
+  unfolding whyPaper
+  why-barred r bad room old =
+      let small : told (Refused r) .carries ≤ lengthMost =
+      subst (λ (x : Answer). told x .carries ≤ lengthMost) (answer-bad c n (recordsOf a) r bad) (answer-carries c n (recordsOf a)) in
+      rw (pieces-all, bad) (by r small)
+    where
+      by : (r : Refusal) → told (Refused r) .carries ≤ lengthMost
+          → (noteOf (unlessBad (Bad r) (written [])) 0 ≡ noteOf (unlessBad (Bad r) (written (f ++ whyText c (take n (titledIn b ts ks a runMost))))) room)
+          × (old ≡ left (unlessBad (Bad r) (written (f ++ whyText c (take n (titledIn b ts ks a runMost))))) old)
+          × (noteOf (unlessBad (Bad r) (written [])) 0 .number ≤ 10) × (noteOf (unlessBad (Bad r) (written [])) 0 .carries ≤ lengthMost)
+      by TooMany small = (refl, refl, omega arith, omega arith)
+      by BadCosts small = (refl, refl, omega arith, omega arith)
+      by (BadRecord k) small = (refl, refl, omega arith, small)
+
+module _ (p : Paper) (text : List ℕ) (room : ℕ) (is : p ≡ written text) where
+  pub note-long : length text ≤ room → _≡_ {A = Note} (record { number = 0; carries = length text }) (noteOf p room)
+  note-long fits = rw (is, le-leb (length text) room fits)
+
+  pub note-short : room < length text → _≡_ {A = Note} (record { number = 10; carries = length text }) (noteOf p room)
+  note-short short = rw (is, lt-leb (length text) room short)
+
+pub left-written : (p : Paper) (text old : List ℕ) → p ≡ written text → over text old ≡ left p old
+left-written p text old is = rw is
