@@ -6,4 +6,5 @@ pub mod ReadLaws
 pub mod SeatLaws
 pub mod PlacedLaws
 pub mod PlainLaws
+pub mod WhyPlacedLaws
 pub mod Theorems
