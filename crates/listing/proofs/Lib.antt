@@ -8,4 +8,5 @@ pub mod SeatLaws
 pub mod WhyPaperLaws
 pub mod PlacedLaws
 pub mod PlainLaws
+pub mod WhyPlacedLaws
 pub mod Theorems

@@ -5,6 +5,7 @@
 --   all-seated             so is all that the walk placed
 --   each-on                what holds of each that is placed holds of each on a core, and that is on it
 --   placed-text            the listing of what was placed, by entries; lines-placed: equal entries have equal lines
+--   row-pieces             a core's row of at most 64 is listed whole
 --   plan-is                the plan, from what was placed
 --   row-placed             the entries of a core are those of what was placed there
 --   entries-placed, listing-is      so are all entries, and the listing is that of what was placed
@@ -111,7 +112,7 @@ each-on P q (e ∷ l) ok = by (eqb (e .on) q) refl (each-on P q l (ok .1))
     by true h others = ((ok .0, eqb-true (e .on) q h), others)
     by false h others = others
 
-map-same : {A B : Type 0} (P : A → Type 0) (f g : A → B) → ((a : A) → P a → f a ≡ g a) → (x : List A) → Each P x → map f x ≡ map g x
+pub map-same : {A B : Type 0} (P : A → Type 0) (f g : A → B) → ((a : A) → P a → f a ≡ g a) → (x : List A) → Each P x → map f x ≡ map g x
 map-same P f g same [] ok = refl
 map-same P f g same (a ∷ x) ok = cc (same a (ok .0), map-same P f g same x (ok .1))
 
@@ -128,7 +129,7 @@ entry-placed p c ts q e costs few list sizes seat on =
     cc (on, task, time, kind)
 
 -- a row of at most 64 is listed whole
-row-pieces : (y : Layout) (l : List (Placed ℕ)) (q : ℕ) → LayoutShows y l → q < 16 → length (rowOf q l) ≤ 64 → rowPieces y q ≡ map storedOf (onCore q l)
+pub row-pieces : (y : Layout) (l : List (Placed ℕ)) (q : ℕ) → LayoutShows y l → q < 16 → length (rowOf q l) ≤ 64 → rowPieces y q ≡ map storedOf (onCore q l)
 unfolding rowPieces
 row-pieces y l q shows low short =
     let few : getD (y .lens) q 0 ≤ 64 = omega (arith, shows .lens q low) in

@@ -3,6 +3,8 @@
 --
 --   name-plain             a name of the form has no tab
 --   names-formed           tasks that break no rule have such names
+--   each-task              what holds of each task, of the one at a place
+--   word-short             no kind's word has more than five bytes
 --   placed-readable        the entry of what was placed can be read back
 --   entries-readable       so can all entries
 --   listing-few            tasks with names of at most 24 bytes have a listing of at most 20,000
@@ -69,12 +71,15 @@ names-formed above (t ∷ ts) e = (by-form (formed (t .name)) refl, names-formed
     by-form true h = refl
     by-form false h = let z : _≡_ {A = ℕ} 8 0 = rw (fault-form above t h) at e in absurd (omega arith)
 
-each-task : (P : Task → Type 0) (ts : List Task) → Each P ts → (i : ℕ) → i < length ts → P (taskAt ts i)
+pub each-task : (P : Task → Type 0) (ts : List Task) → Each P ts → (i : ℕ) → i < length ts → P (taskAt ts i)
 each-task P [] ok i low = absurd (not-suc-le-zero low)
 each-task P (t ∷ ts) ok zero low = ok .0
 each-task P (t ∷ ts) ok (suc i) low = each-task P ts (ok .1) i (le-of-suc-le-suc low)
 
 -- ---- how long lines are
+
+pub word-short : (k : Kind) → length (kindWord k) ≤ 5
+word-short k = leb-true (length (kindWord k)) 5 (every-kind (λ k. leb (length (kindWord k)) 5) refl k)
 
 line-short : (e : Entry) → length (e .task) ≤ 24 → length (entryLine e) ≤ 142
 unfolding entryLine
@@ -109,9 +114,6 @@ line-short e short =
       decimal-few (e .jitter),
       decimal-few (e .charged),
     )
-  where
-    word-short : (k : Kind) → length (kindWord k) ≤ 5
-    word-short k = leb-true (length (kindWord k)) 5 (every-kind (λ k. leb (length (kindWord k)) 5) refl k)
 
 lines-short : (es : List Entry) → Each (λ e. length (e .task) ≤ 24) es → length (entryLines es) ≤ 142 * length es
 lines-short [] short = omega arith

@@ -2,6 +2,7 @@
 -- Assumes nothing.
 --
 --   seat-laid             a record put, and the place of its task beside it, lie behind those before
+--   seatOf q t            a stored piece on core q
 --   rowTo s q i           what the layout s has at the first i places of core q's row
 --   seats-more, seats-all         one place more is laid; and where all that count are, it is the core's row
 --   seats-past            a core past the sixteen has nothing
@@ -75,7 +76,7 @@ seat-laid ks a i k p b low long wide put = record {
 
 -- ---- a row, place by place
 
-abbrev seatOf : ℕ → Stored → Placed ℕ
+abbrev pub seatOf : ℕ → Stored → Placed ℕ
 seatOf q t = record { on = q; item = t .task; piece = keptPiece t }
 
 abbrev pub rowTo : Layout → ℕ → ℕ → List (Placed ℕ)
