@@ -3,11 +3,13 @@
 --
 --   showing-shows, showing-unshown        what is shown, or refused, by the check
 --   why-written, why-barred               so the paper is the listing, or the refusal
+--   run-asked, row-asked, stuck-asked     what is answered for the arrays is what was asked for
 --   note-long, note-short, left-written   what is said of a listing, and what the buffer then holds
 use mathlib.Core.Path.{_≡_, refl, sym, ap, subst, _∙_}
-use mathlib.Core.Bool.{Bool}
-use mathlib.Core.List.{List, [], _++_}
-use Prim.Native.Nat.{ℕ, _≤_, _<_}
+use mathlib.Core.Bool.{Bool, true, false}
+use mathlib.Core.List.{List, [], _∷_, _++_}
+use Prim.Native.Nat.{ℕ, suc, _+_, _-_, _≤_, _<_}
+use native.Mathlib.Numerals.{add-one}
 use native.Mathlib.Omega.{arith}
 use borrow.Author.Tests.{le-leb, lt-leb}
 use lib.ListN.{length, take}
@@ -29,12 +31,16 @@ use Rattle.demand.specs.Why.{shownOf}
 use Rattle.demand.proofs.AnswerLaws.{answer-carries}
 use Rattle.demand.proofs.RunLaws.{answer-bad, check-taken}
 use Rattle.task.specs.declared.Task.{Task}
+use Rattle.task.specs.Tasks.{taskAt}
+use Rattle.plan.specs.declared.Plan.{Plan}
 use Rattle.listing.specs.declared.Note.{Note}
 use Rattle.listing.specs.Text.{over}
 use Rattle.listing.specs.Papers.{Paper, refused, written, noteOf, left}
-use Rattle.listing.specs.Why.{piecesIn, whyText, unlessBad, whyPaper}
-use Rattle.listing.specs.ways.SeatArrays.{titledIn}
-use Rattle.listing.proofs.SeatLaws.{titled-pieces, titled-take}
+use Rattle.listing.specs.Listing.{spelling}
+use Rattle.listing.specs.Why.{piecesIn, noRoomLine, whyText, unlessBad, whyPaper, whyRun, rowSeats, whyRow, wholeSeat, whyStuck, whyAsked, whyOf}
+use Rattle.listing.specs.ways.SeatArrays.{seatsIn, titledIn, frontOf}
+use Rattle.listing.proofs.SeatLaws.{titled-pieces, titled-take, run-paper, seats-paper}
+use Rattle.listing.proofs.WhyPlacedLaws.{asked-inside}
 
 -- ---- by the check
 
@@ -95,3 +101,33 @@ module _ (p : Paper) (text : List ℕ) (room : ℕ) (is : p ≡ written text) wh
 
 pub left-written : (p : Paper) (text old : List ℕ) → p ≡ written text → over text old ≡ left p old
 left-written p text old is = rw is
+
+-- ---- as the code comes to it
+
+pub front-none : (k : ℕ) (n : List ℕ) (m : ℕ) → k ≡ 0 → frontOf k n m ≡ []
+front-none k n m none = rw none
+
+pub run-asked : (f : List ℕ) → f ≡ [] → (c : Costs) (n : ℕ) (ts : List Task) (ks a : List ℕ)
+    → whyPaper f c n (titledIn false ts ks a runMost) ≡ whyRun c n (recordsOf a)
+run-asked f none c n ts ks a = ap (λ (g : List ℕ). whyPaper g c n (titledIn false ts ks a runMost)) none ∙ run-paper c n ts ks a
+
+module _ (p : Plan) (stuck core : ℕ) (some : 1 ≤ core) (within : core ≤ p .machine .cores) (f : List ℕ) (n : ℕ) (ks a : List ℕ) where
+  pub row-asked : stuck ≡ 0 → f ≡ [] → n ≤ runMost → seatsIn (core - 1) ks a n ≡ rowSeats (p .layout) (core - 1)
+      → whyPaper f (p .costs) n (titledIn true (p .tasks .list) ks a runMost) ≡ whyOf p stuck core
+  unfolding whyRow
+  row-asked none front few laid =
+      ap (λ (g : List ℕ). whyPaper g (p .costs) n (titledIn true (p .tasks .list) ks a runMost)) front
+      ∙ (seats-paper [] (p .costs) (p .tasks .list) (core - 1) n ks a (rowSeats (p .layout) (core - 1)) few laid
+      ∙ sym (asked-inside p stuck core some within ∙ ap (λ (k : ℕ). whyAsked p k core) none))
+
+  pub stuck-asked : (k : ℕ) → stuck ≡ suc k → f ≡ noRoomLine stuck (spelling (taskAt (p .tasks .list) k .name)) (p .machine .cores) → n ≤ runMost
+      → seatsIn (p .machine .cores - 1) ks a n ≡ rowSeats (p .layout) (p .machine .cores - 1) ++ (wholeSeat (p .tasks .list) (p .machine .cores - 1) k ∷ [])
+      → whyPaper f (p .costs) n (titledIn true (p .tasks .list) ks a runMost) ≡ whyOf p stuck core
+  unfolding whyStuck
+  stuck-asked k is front few laid =
+      let there : f ≡ noRoomLine (k + 1) (spelling (taskAt (p .tasks .list) k .name)) (p .machine .cores) =
+      front ∙ ap (λ (j : ℕ). noRoomLine j (spelling (taskAt (p .tasks .list) k .name)) (p .machine .cores)) (is ∙ sym (add-one k)) in
+      ap (λ (g : List ℕ). whyPaper g (p .costs) n (titledIn true (p .tasks .list) ks a runMost)) there
+      ∙ (seats-paper (noRoomLine (k + 1) (spelling (taskAt (p .tasks .list) k .name)) (p .machine .cores)) (p .costs) (p .tasks .list)
+      (p .machine .cores - 1) n ks a (rowSeats (p .layout) (p .machine .cores - 1) ++ (wholeSeat (p .tasks .list) (p .machine .cores - 1) k ∷ [])) few laid
+      ∙ sym (asked-inside p stuck core some within ∙ ap (λ (j : ℕ). whyAsked p j core) is))

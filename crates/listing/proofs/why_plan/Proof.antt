@@ -1,3 +1,24 @@
+-- `why_plan` meets its contract: no such core; else the core's row, or the last core's with the whole task behind it, is laid out and written.
+use mathlib.Core.Path.{_≡_, refl, sym, ap, subst, _∙_}
+use mathlib.Core.List.{List, [], _∷_, _++_}
+use Prim.Native.Nat.{ℕ, suc, _+_, _-_, _≤_}
+use native.Mathlib.Omega.{arith}
+use lib.ListN.{length}
+use Rattle.demand.specs.declared.Piece.{Piece}
+use Rattle.demand.proofs.RunLaws.{length-mapped}
+use Rattle.task.specs.declared.Task.{Task}
+use Rattle.task.specs.declared.Times.{Times}
+use Rattle.task.specs.Tasks.{taskAt, past, wholePiece}
+use Rattle.walks.specs.Way.{Placed}
+use Rattle.plan.specs.Walk.{wholeAt}
+use Rattle.listing.specs.Papers.{Paper, noteOf, left}
+use Rattle.listing.specs.Listing.{spelling}
+use Rattle.listing.specs.Why.{noRoomLine, rowSeats, whyOf}
+use Rattle.listing.specs.ways.SeatArrays.{seatsIn, frontOf}
+use Rattle.listing.proofs.EntryLaws.{at-within}
+use Rattle.listing.proofs.WhyTextLaws.{front-some}
+use Rattle.listing.proofs.WhyPlacedLaws.{asked-outside}
+use Rattle.listing.proofs.WhyPaperLaws.{front-none, row-asked, stuck-asked}
 use borrow.Author.Needs.{needs}
 use Rattle.listing.proofs.why_plan.Statement.{statement}
 use Rattle.listing.proofs.why_plan.Tie as tie
@@ -13,101 +34,115 @@ use Rattle.listing.proofs.wide.Reads as wide-reads
 use Rattle.listing.proofs.within.Reads as within-reads
 use Rattle.task.proofs.whole_piece.Reads as whole-piece-reads
 
--- src/lib.rt:271:9
+tasks-long : (c : tie.Start) → length (c .args .plan .tasks .list) ≡ 64
+tasks-long c = search (needs, length-mapped)
+
 returns : tie.Need-returns
-returns c = ?
+returns c =
+    let s = c .before .before .before .args in
+    let e = asked-outside (s .plan) (s .stuck) (s .core) (λ some within. omega (arith, c .if1 .taken)) in
+    rw e (refl, refl, omega arith, omega arith)
 
--- src/lib.rt:277:9
 returns-2 : tie.Need-returns-2
-returns-2 c = ?
+returns-2 c =
+    let s = c .before .before .before .before .args in
+    let e = asked-outside (s .plan) (s .stuck) (s .core) (λ some within. omega (arith, c .if2 .taken)) in
+    rw e (refl, refl, omega arith, omega arith)
 
--- src/lib.rt:288:62
 sub-lay-seats : tie.Need-sub-lay-seats
 sub-lay-seats c = search needs
 
--- src/lib.rt:288:13
 lay-seats-requires : tie.Need-lay-seats-requires
 lay-seats-requires c κs = search needs
 
--- src/lib.rt:289:13
 room-for-all-requires : tie.Need-room-for-all-requires
 room-for-all-requires c κs = search needs
 
--- src/lib.rt:290:9
 write-why-requires : tie.Need-write-why-requires
 write-why-requires c κs = search needs
 
--- src/lib.rt:290:9
 same-length : tie.Need-same-length
 same-length c = search needs
 
--- src/lib.rt:290:9
 returns-3 : tie.Need-returns-3
-returns-3 c = ?
+returns-3 c =
+    let s = c .before .before .before .before .before .before .before .before .before .before .before .before .before .before .before .before .before .before .args in
+    let old = s .buf .now in
+    let w = c .before .before .write-why in
+    let none = c .before .before .before .before .before .before .room-for-all in
+    let laid = c .before .before .before .before .before .before .before .lay-seats .ensures in
+    let same = row-asked (s .plan) (s .stuck) (s .core) (omega (arith, c .before .before .before .before .before .before .before .before .before .before .before .before .before .before .before .if1 .left)) (omega (arith, c .before .before .before .before .before .before .before .before .before .before .before .before .before .before .if2 .left)) _ (c .before .before .before .before .before .before .before .lay-seats .result) (c .before .before .before .before .before .before .before .lay-seats .last .1 .0) (c .before .before .before .before .before .before .before .lay-seats .last .0) (c .before .before .before .before .before .before .before .before .before .before .if3 .taken)
+    (front-none (none .result .place) (spelling (none .result .name)) (none .result .cores) (none .ensures)) (omega (arith, laid .1)) (laid .0) in
+    (w .ensures .0 .0 ∙ ap (λ (p : Paper). noteOf p (length old)) same, w .ensures .0 .1 ∙ ap (λ (p : Paper). left p old) same, w .ensures .1 .0, w .ensures .1 .1)
 
--- src/lib.rt:292:58
 sub-lay-seats-2 : tie.Need-sub-lay-seats-2
 sub-lay-seats-2 c = search needs
 
--- src/lib.rt:292:9
 lay-seats-requires-2 : tie.Need-lay-seats-requires-2
 lay-seats-requires-2 c κs = search needs
 
--- src/lib.rt:293:13
 sub-k : tie.Need-sub-k
 sub-k c = search needs
 
--- src/lib.rt:294:9
 within-requires : tie.Need-within-requires
 within-requires c κs = search needs
 
--- src/lib.rt:295:16
 mul-task : tie.Need-mul-task
 mul-task c = search needs
 
--- src/lib.rt:295:16
 element-copy-out-task : tie.Need-element-copy-out-task
 element-copy-out-task c = search needs
 
--- src/lib.rt:296:9
 named-requires : tie.Need-named-requires
 named-requires c κs = search needs
 
--- src/lib.rt:297:29
 timed-requires : tie.Need-timed-requires
 timed-requires c κs = search needs
 
--- src/lib.rt:297:9
 whole-piece-requires : tie.Need-whole-piece-requires
 whole-piece-requires c κs = search needs
 
--- src/lib.rt:298:5
 lay-seat-requires : tie.Need-lay-seat-requires
 lay-seat-requires c κs = search needs
 
--- src/lib.rt:300:16
 wide-requires : tie.Need-wide-requires
 wide-requires c κs = search needs
 
--- src/lib.rt:302:16
 wide-requires-2 : tie.Need-wide-requires-2
 wide-requires-2 c κs = search needs
 
--- src/lib.rt:304:65
 add-write-why : tie.Need-add-write-why
 add-write-why c = search needs
 
--- src/lib.rt:304:5
 write-why-requires-2 : tie.Need-write-why-requires-2
 write-why-requires-2 c κs = search needs
 
--- src/lib.rt:265:1
 same-length-2 : tie.Need-same-length-2
 same-length-2 c = search needs
 
--- src/lib.rt:265:1
 returns-4 : tie.Need-returns-4
-returns-4 c = ?
+returns-4 c =
+    let s = c .before .before .before .before .before .before .before .before .before .before .before .before .before .before .before .before .before .before .before .before .before .before .before .before .before .before .before .args in
+    let old = s .buf .now in
+    let w = c .before .before .write-why2 in
+    let laid = c .before .before .before .before .before .before .before .before .before .before .before .before .before .before .before .before .lay-seats2 .ensures in
+    let seat = c .before .before .before .before .before .before .before .before .lay-seat .ensures in
+    let k = s .stuck - 1 in
+    let ts = s .plan .tasks .list in
+    let q = s .plan .machine .cores - 1 in
+    let long : length ts ≡ 64 = tasks-long (c .before .before .before .before .before .before .before .before .before .before .before .before .before .before .before .before .before .before .before .before .before .before .before .before .before .before .before) in
+    let is : s .stuck ≡ suc k = omega (arith, c .before .before .before .before .before .before .before .before .before .before .before .before .before .before .before .before .before .before .before .if3 .left) in
+    let name : spelling (c .before .before .before .before .before .before .before .before .before .before .before .before .before .named .result) ≡ spelling (taskAt ts k .name) =
+    c .before .before .before .before .before .before .before .before .before .before .before .before .before .named .ensures ∙ at-within (λ (t : Task). spelling (t .name)) ts 64 k _ _ past long (c .before .before .before .before .before .before .before .before .before .before .before .before .before .before .before .within .ensures .1) in
+    let whole : c .before .before .before .before .before .before .before .before .before .before .before .whole-piece .result ≡ wholeAt ts k =
+    c .before .before .before .before .before .before .before .before .before .before .before .whole-piece .ensures ∙ (ap wholePiece (c .before .before .before .before .before .before .before .before .before .before .before .before .timed .ensures) ∙ ap wholePiece (at-within (λ (t : Task). t .times) ts 64 k _ _ past long (c .before .before .before .before .before .before .before .before .before .before .before .before .before .before .before .within .ensures .1))) in
+    let front = front-some (c .before .before .before .before .before .before .before .wide .result) (spelling (c .before .before .before .before .before .before .before .before .before .before .before .before .before .named .result)) (c .before .before .before .before .before .before .wide2 .result) (λ e. omega (arith, c .before .before .before .before .before .before .before .wide .ensures, c .before .before .before .before .before .before .before .before .before .before .before .before .before .before .before .before .before .before .before .if3 .left))
+    ∙ ((λ i. noRoomLine (c .before .before .before .before .before .before .before .wide .ensures i) (name i) (c .before .before .before .before .before .before .wide2 .ensures i))) in
+    let seats = seat .seats q
+    ∙ (ap (λ (es : List (Placed ℕ)). es ++ (record { on = q; item = k; piece = c .before .before .before .before .before .before .before .before .before .before .before .whole-piece .result } ∷ [])) (laid .0)
+    ∙ ap (λ (x : Piece). rowSeats (s .plan .layout) q ++ (record { on = q; item = k; piece = x } ∷ [])) whole) in
+    let same = stuck-asked (s .plan) (s .stuck) (s .core) (omega (arith, c .before .before .before .before .before .before .before .before .before .before .before .before .before .before .before .before .before .before .before .before .before .before .before .before .if1 .left)) (omega (arith, c .before .before .before .before .before .before .before .before .before .before .before .before .before .before .before .before .before .before .before .before .before .before .before .if2 .left)) _ (c .before .before .before .before .before .before .before .before .before .before .before .before .before .before .before .before .lay-seats2 .result + 1) (c .before .before .before .before .before .before .before .before .lay-seat .last .1 .0) (c .before .before .before .before .before .before .before .before .lay-seat .last .0) k is front (omega (arith, laid .1)) seats in
+    (w .ensures .0 .0 ∙ ap (λ (p : Paper). noteOf p (length old)) same, w .ensures .0 .1 ∙ ap (λ (p : Paper). left p old) same, w .ensures .1 .0, w .ensures .1 .1)
 
 pub why-plan-spec : {M : Type 1} → statement M
 why-plan-spec =

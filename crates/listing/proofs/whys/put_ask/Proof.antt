@@ -21,7 +21,7 @@ same-length : tie.Need-same-length
 same-length c = search needs
 
 returns : tie.Need-returns
-returns c = 
+returns c =
     let a = c .before .before .before .before .before .before .before .before .before .before .put-number in
     let b = c .before .before .before .before .before .before .put-number2 in
     let d = c .before .before .put-number3 in

@@ -32,7 +32,7 @@ same-length c = search needs
 
 returns : tie.Need-returns
 unfolding askLine
-returns c = 
+returns c =
     let a = c .before .before .before .before .before .before .before .before .before .before .before .before .before .before .put-bytes in
     let t = c .before .before .before .before .before .before .before .before .before .before .put-title in
     let k = c .before .before .before .before .before .before .put-kind in

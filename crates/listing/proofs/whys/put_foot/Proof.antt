@@ -37,7 +37,7 @@ same-length c = search needs
 
 returns : tie.Need-returns
 unfolding whyFoot
-returns c = 
+returns c =
     let a = c .before .before .before .before .before .before .before .before .before .before .before .before .before .before .before .put-bytes in
     let b = c .before .before .before .before .before .before .before .before .before .before .before .put-number in
     let d = c .before .before .before .before .before .before .put-bytes2 in

@@ -31,7 +31,7 @@ same-length c = search needs
 
 returns : tie.Need-returns
 unfolding whyHead
-returns c = 
+returns c =
     let a = c .before .before .before .before .before .before .before .before .before .before .before .before .before .before .put-bytes in
     let v = c .before .before .before .before .before .before .before .before .before .before .put-verdict in
     let b = c .before .before .before .before .before .before .put-number in

@@ -20,7 +20,7 @@ use Rattle.listing.proofs.texts.put_name.Reads as put-name-reads
 use Rattle.listing.proofs.texts.put_number.Reads as put-number-reads
 
 returns : tie.Need-returns
-returns c = 
+returns c =
     let s = c .before .before .before .args in
     let none : s .stuck .place ≡ 0 = c .if1 .taken in
     rw none (wrote-none (s .buf .now) 0, omega arith)
@@ -45,7 +45,7 @@ same-length c = search needs
 
 returns-2 : tie.Need-returns-2
 unfolding noRoomLine
-returns-2 c = 
+returns-2 c =
     let s = c .before .before .before .before .before .before .before .before .before .before .before .before .before .before .before .before .before .before .before .before .before .args in
     let a = c .before .before .before .before .before .before .before .before .before .before .before .before .before .before .put-bytes in
     let b = c .before .before .before .before .before .before .before .before .before .before .put-number in

@@ -19,7 +19,7 @@ same-length c = search needs
 
 returns : tie.Need-returns
 unfolding signed
-returns c = 
+returns c =
     let s = c .before .before .before .before .before .before .args in
     rw (le-leb (s .b) (s .a) (c .before .before .before .before .if1 .taken)) (c .before .before .put-number .ensures .0, omega (arith, c .before .before .put-number .ensures .1))
 
@@ -37,7 +37,7 @@ same-length-2 c = search needs
 
 returns-2 : tie.Need-returns-2
 unfolding signed
-returns-2 c = 
+returns-2 c =
     let s = c .before .before .before .before .before .before .before .before .before .before .args in
     rw (lt-leb (s .b) (s .a) (omega (arith, c .before .before .before .before .before .before .before .before .if1 .left)))
     (wrote-both (c .before .before .before .before .before .before .put-byte .ensures) (c .before .before .put-number2 .ensures .0), omega (arith, c .before .before .before .before .before .before .put-byte .ensures .place, c .before .before .put-number2 .ensures .1))

@@ -17,7 +17,7 @@ same-length : tie.Need-same-length
 same-length c = search needs
 
 returns : tie.Need-returns
-returns c = 
+returns c =
     rw (c .before .before .before .before .if1 .taken) (c .before .before .put-name .ensures .0, omega (arith, c .before .before .put-name .ensures .1))
 
 add-wide : tie.Need-add-wide
@@ -33,7 +33,7 @@ same-length-2 : tie.Need-same-length-2
 same-length-2 c = search needs
 
 returns-2 : tie.Need-returns-2
-returns-2 c = 
+returns-2 c =
     rw (c .before .before .before .before .before .if1 .left, sym (c .before .before .before .wide .ensures)) (c .before .before .put-number .ensures .0, omega (arith, c .before .before .put-number .ensures .1))
 
 pub put-title-spec : {M : Type 1} → statement M

@@ -38,7 +38,7 @@ same-length : tie.Need-same-length
 same-length c = search needs
 
 returns : tie.Need-returns
-returns c = 
+returns c =
     let w = c .before .before .put-bytes .ensures in
     rw (c .before .before .before .before .before .enum-told .given .1) (w, omega (arith, w .place))
 
@@ -46,7 +46,7 @@ same-length-2 : tie.Need-same-length-2
 same-length-2 c = search needs
 
 returns-2 : tie.Need-returns-2
-returns-2 c = 
+returns-2 c =
     let w = c .before .before .put-bytes2 .ensures in
     rw (c .before .before .before .before .before .enum-told2 .given .1) (w, omega (arith, w .place))
 
@@ -54,7 +54,7 @@ same-length-3 : tie.Need-same-length-3
 same-length-3 c = search needs
 
 returns-3 : tie.Need-returns-3
-returns-3 c = 
+returns-3 c =
     let w = c .before .before .put-bytes3 .ensures in
     rw (c .before .before .before .before .before .enum-told3 .given .1) (w, omega (arith, w .place))
 

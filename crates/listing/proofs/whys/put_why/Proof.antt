@@ -52,7 +52,7 @@ same-length : tie.Need-same-length Inv-loop μ-loop
 same-length c = search needs
 
 returns : tie.Need-returns Inv-loop μ-loop
-returns c = 
+returns c =
     let s = c .before .before .before .before .before .before .before .before .before .before .args in
     let front = c .before .before .before .before .before .before .before .put-no-room in
     let head = c .before .before .before .put-head in
@@ -103,7 +103,7 @@ loop-less : tie.Need-loop-less Inv-loop μ-loop
 loop-less c = search needs
 
 loop-again : tie.Need-loop-again Inv-loop μ-loop
-loop-again c = 
+loop-again c =
     let s = c .before .before .before .before .before .before .before .before .before .before .before .before .before .before .before .before .before .before .before .before .before .before .before .args in
     let pre = c .before .before .before .before .before .before .before .before .before .before .before .before .before .before .before .before .before .before .before .before .before .before .before .pre in
     let taken = pre .0 in
@@ -132,7 +132,7 @@ same-length-2 c =
     wrote-length _ _ _ _ _ (c .before .before .put-foot .ensures .0) ∙ (wrote-length _ _ _ _ _ (c .before .before .before .before .before .loop .inv .2) ∙ (wrote-length _ _ _ _ _ (head .ensures .0) ∙ wrote-length _ _ _ _ _ (front .ensures .0)))
 
 returns-2 : tie.Need-returns-2 Inv-loop μ-loop
-returns-2 c = 
+returns-2 c =
     let s = c .before .before .before .before .before .before .before .before .before .before .before .before .before .before .before .before .args in
     let pre = c .before .before .before .before .before .before .before .before .before .before .before .before .before .before .before .before .pre in
     let taken = pre .0 in

@@ -41,7 +41,7 @@ slice-aggregate-put-why : tie.Need-slice-aggregate-put-why
 slice-aggregate-put-why c = search needs
 
 put-why-requires : tie.Need-put-why-requires
-put-why-requires c κs = 
+put-why-requires c κs =
     let s = c .before .before .before .before .before .before .args in
     let ps = recordsOf (s .records .now) in
     let so = showing-shows (s .costs) (s .n) ps (c .before .before .shown .given .0 .0) (sym (c .before .before .before .before .show-records .ensures) ∙ c .before .before .shown .given .1) in
@@ -52,7 +52,7 @@ same-length : tie.Need-same-length
 same-length c = search needs
 
 returns : tie.Need-returns
-returns c = 
+returns c =
     let s = c .before .before .before .before .before .before .before .before .before .before .args in
     let ps = recordsOf (s .records .now) in
     let so = showing-shows (s .costs) (s .n) ps (c .before .before .before .before .before .before .shown .given .0 .0) (sym (c .before .before .before .before .before .before .before .before .show-records .ensures) ∙ c .before .before .before .before .before .before .shown .given .1) in
@@ -69,7 +69,7 @@ returns c =
     ((rw j (note-short (whyPaper front (s .costs) (s .n) all) text (length old) paper short), e ∙ (sym (over-short text old short) ∙ left-written (whyPaper front (s .costs) (s .n) all) text old paper)), (omega arith, omega (arith, r .ensures .1)))
 
 put-why-requires-2 : tie.Need-put-why-requires-2
-put-why-requires-2 c κs = 
+put-why-requires-2 c κs =
     let s = c .before .before .before .before .before .before .before .before .before .before .before .args in
     let ps = recordsOf (s .records .now) in
     let so = showing-shows (s .costs) (s .n) ps (c .before .before .before .before .before .before .before .shown .given .0 .0) (sym (c .before .before .before .before .before .before .before .before .before .show-records .ensures) ∙ c .before .before .before .before .before .before .before .shown .given .1) in
@@ -77,7 +77,7 @@ put-why-requires-2 c κs =
     (taken, so .1)
 
 returns-2 : tie.Need-returns-2
-returns-2 c = 
+returns-2 c =
     let s = c .before .before .before .before .before .before .args in
     let ps = recordsOf (s .records .now) in
     let bad = showing-unshown (s .costs) (s .n) ps (c .before .before .why .given .0 .0) (sym (c .before .before .before .before .show-records .ensures) ∙ c .before .before .why .given .1) in
@@ -89,7 +89,7 @@ same-length-2 : tie.Need-same-length-2
 same-length-2 c = search needs
 
 returns-3 : tie.Need-returns-3
-returns-3 c = 
+returns-3 c =
     let s = c .before .before .before .before .before .before .before .before .before .before .before .before .before .before .args in
     let ps = recordsOf (s .records .now) in
     let so = showing-shows (s .costs) (s .n) ps (c .before .before .before .before .before .before .before .before .before .before .shown .given .0 .0) (sym (c .before .before .before .before .before .before .before .before .before .before .before .before .show-records .ensures) ∙ c .before .before .before .before .before .before .before .before .before .before .shown .given .1) in
