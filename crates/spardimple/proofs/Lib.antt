@@ -3,6 +3,7 @@ pub mod HoldingLaws
 pub mod ByteLaws
 pub mod NumberLaws
 pub mod SheetLaws
+pub mod WhySteps
 pub mod PaperLaws
 pub mod JudgedLaws
 pub mod HeldPlans

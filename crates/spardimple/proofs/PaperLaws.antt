@@ -54,7 +54,8 @@ use Rattle.listing.proofs.TextLaws.{over-short, over-fits}
 use Rattle.listing.proofs.PlainLaws.{listing-few}
 use Rattle.listing.proofs.Theorems.{listing-placed, listing-determines}
 use Rattle.spardimple.specs.Sheets.{machineIn, costsIn, tasksIn, placedBy, placedOf, textOf}
-use Rattle.spardimple.specs.Sheets.{Paper, refused, written, planSheet, paperOf, refusal, toldPaper, left, listingLeft}
+use Rattle.listing.specs.Papers.{Paper, refused, written, left}
+use Rattle.spardimple.specs.Sheets.{planSheet, paperOf, refusal, toldPaper, listingLeft}
 use Rattle.spardimple.proofs.SheetLaws.{paper-unread, paper-stuck, paper-written, reply-small, told-long, told-short}
 
 -- ---- what a sheet that is read says

@@ -46,7 +46,8 @@ use Rattle.edits.specs.Refusals.{editTable}
 use Rattle.edits.proofs.RefusalLaws.{edit-refused-exactly as refused-exactly, edit-accepted as accepted-exactly}
 use Rattle.spardimple.specs.Bytes.{piecesOf, costsSpelt}
 use Rattle.spardimple.specs.Numbers.{number, Reply, malformed, said, toldReply, replyOf, verdictNumber}
-use Rattle.spardimple.specs.Sheets.{written, paperOf, machineIn, costsIn, tasksIn, placedOf, textOf, refusal, toldPaper, listingNumber, listingLeft}
+use Rattle.listing.specs.Papers.{written}
+use Rattle.spardimple.specs.Sheets.{paperOf, machineIn, costsIn, tasksIn, placedOf, textOf, refusal, toldPaper, listingNumber, listingLeft}
 use Rattle.spardimple.specs.Refusals.{lentTable, sheetTable}
 use Rattle.spardimple.proofs.NumberLaws.{told-one, reply-records, reply-costs, reply-formed, reply-carries}
 use Rattle.spardimple.proofs.PaperLaws.{walkIn, walksIn, said-sane, paper-cases, told-cases, paper-carries}

@@ -36,8 +36,10 @@ use Rattle.sheet.proofs.RuleLaws.{breaks-no-rule}
 use Rattle.listing.specs.Text.{over}
 use Rattle.listing.specs.Listing.{listingOf}
 use Rattle.spardimple.specs.Numbers.{number}
-use Rattle.spardimple.specs.Sheets.{Paper, refused, written, unless, planSheet, listed, planned, paperOf}
-use Rattle.spardimple.specs.Sheets.{refusal, toldPaper, listingNumber, left, listingLeft}
+use Rattle.listing.specs.Papers.{Paper, refused, written}
+use Rattle.spardimple.specs.Sheets.{unless, planSheet, listed, planned, paperOf}
+use Rattle.listing.specs.Papers.{left}
+use Rattle.spardimple.specs.Sheets.{refusal, toldPaper, listingNumber, listingLeft}
 
 unless-some : (n k : ℕ) (rest : Paper) → (n ≡ 0 → ⊥) → unless n k rest ≡ refused n k
 unless-some zero k rest some = absurd (some refl)

@@ -2,6 +2,7 @@
 pub mod Bytes
 pub mod Numbers
 pub mod Sheets
+pub mod Whys
 pub mod Refusals
 pub mod Spelling
 pub mod ways

@@ -5,7 +5,6 @@
 --   placedOf sheet        what the walk over its tasks places, where it ends well
 --   textOf sheet          the listing of that
 -- And as it is worked out, which `proofs/PaperLaws.antt` ties to it:
---   Paper                 what a sheet comes to: a refusal's number with what it carries, or a listing
 --   planned r             the paper of what was read: the sheet's own refusal; else 7 with the task; else the plan's listing
 --   paperOf sheet         the paper of a sheet's bytes
 --   toldPaper p n         document 01's number for it, where the lent buffer has n bytes: 10 with the length needed, where it is shorter
@@ -29,8 +28,8 @@ use Rattle.sheet.specs.declared.Sheet.{Sheet}
 use Rattle.sheet.specs.declared.Read.{Read}
 use Rattle.sheet.specs.Sheet.{readOf}
 use Rattle.sheet.specs.Refusals.{saidBy}
-use Rattle.listing.specs.Text.{over}
 use Rattle.listing.specs.Listing.{listingOf}
+use Rattle.listing.specs.Papers.{Paper, refused, written, left}
 use Rattle.listing.specs.Placed.{placedListing}
 use Rattle.spardimple.specs.Numbers.{number}
 
@@ -56,10 +55,6 @@ unfoldable pub textOf : List ℕ → List ℕ
 textOf sheet = placedListing (costsIn sheet) (tasksIn sheet) (placedOf sheet)
 
 -- ---- reading, then the walk, then the listing
-
-pub data Paper : Type 0 where
-  refused : (number carries : ℕ) → Paper
-  written : List ℕ → Paper
 
 abbrev pub unless : (number carries : ℕ) → Paper → Paper
 unless zero k rest = rest
@@ -88,10 +83,6 @@ toldPaper (written text) room = cond (leb (length text) room) (record { which = 
 
 unfoldable pub listingNumber : List ℕ → ℕ → ℕ
 listingNumber sheet room = number (toldPaper (paperOf sheet) room)
-
-abbrev pub left : Paper → List ℕ → List ℕ
-left (refused n k) old = old
-left (written text) old = over text old
 
 unfoldable pub listingLeft : List ℕ → List ℕ → List ℕ
 listingLeft sheet old = left (paperOf sheet) old

@@ -2,8 +2,12 @@
 use demand::Answer;
 use demand::Refusal;
 use demand::Verdict;
+use listing::Note;
+ghost use mathlib.Core.Bool.{cond};
 ghost use mathlib.Core.Path.{_≡_};
 ghost use Prim.Native.Nat.{_+_, _*_, _^_, _≤_, _<_};
+ghost use lib.Dec.{eqb};
+ghost use Rattle.demand.specs.Sizes.{lengthMost};
 ghost use Rattle.demand.specs.Answer.{told};
 ghost use Rattle.spardimple.specs.Numbers.{number};
 
@@ -31,4 +35,15 @@ pub fn number_of(answer: Answer) -> u64
             Refusal::BadRecord(place) => numbered(103, place),
         },
     }
+}
+
+// What is said of a text: the refusal, or its length.
+pub fn note_number(note: Note) -> u64
+    requires { ⌜ (note .number ≤ 10) × (note .carries ≤ lengthMost) ⌝ }
+    ensures { λ r. ⌜ r ≡ 2 ^ 32 * cond (eqb (note .number) 0) 0 (100 + note .number) + note .carries ⌝ }
+{
+    if note.number == 0 {
+        return numbered(0, note.carries);
+    }
+    numbered(100 + note.number, note.carries)
 }
