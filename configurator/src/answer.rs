@@ -8,10 +8,12 @@
 //! | 2 | undecided | 0 |
 //! | 100 + N | refusal N | what it carries |
 //!
-//! | which | answer to `plan_listing` | detail |
+//! | which | answer to `plan_listing`, `why_records`, `why_core` | detail |
 //! |---|---|---|
-//! | 0 | the listing is written | its length |
+//! | 0 | the text is written | its length |
 //! | 100 + N | refusal N | what it carries |
+//!
+//! What `demand_at` gives back is a plain number.
 
 use crate::refusals;
 use std::error::Error;
@@ -77,12 +79,14 @@ impl fmt::Display for Answer {
     }
 }
 
-/// The answer to a listing asked for in a lent buffer: document 01, "Sheet" and "Refusal numbers".
+/// The answer to a text asked for in a lent buffer, a sheet's listing or the reasons for a verdict:
+/// document 01, "Sheet" and "Refusal numbers", and document 02, E1.
 #[derive(Clone, Copy, Debug, PartialEq, Eq)]
 pub enum Listed {
-    /// The listing stands in the buffer's first bytes, this many; those beyond it are as they were.
+    /// The text stands in the buffer's first bytes, this many; those beyond it are as they were.
     Written(usize),
-    /// The sheet breaks a rule, the walk sticks, or the buffer is too short. No byte is written.
+    /// What was lent breaks a rule, the walk of a listing sticks, or the buffer is too short. No byte
+    /// is written.
     Refused(Refusal),
 }
 

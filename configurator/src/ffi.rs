@@ -30,6 +30,34 @@ mod imports {
             listing_len: usize,
         ) -> u64;
 
+        /// `#[no_mangle] pub extern "C" fn why_records(records: &[u8], costs: &[u8], out: &mut [u8]) -> u64`
+        pub fn why_records(
+            records: *const u8,
+            records_len: usize,
+            costs: *const u8,
+            costs_len: usize,
+            out: *mut u8,
+            out_len: usize,
+        ) -> u64;
+
+        /// `#[no_mangle] pub extern "C" fn why_core(sheet: &[u8], core: u64, out: &mut [u8]) -> u64`
+        pub fn why_core(
+            sheet: *const u8,
+            sheet_len: usize,
+            core: u64,
+            out: *mut u8,
+            out_len: usize,
+        ) -> u64;
+
+        /// `#[no_mangle] pub extern "C" fn demand_at(records: &[u8], costs: &[u8], length: u64) -> u64`
+        pub fn demand_at(
+            records: *const u8,
+            records_len: usize,
+            costs: *const u8,
+            costs_len: usize,
+            length: u64,
+        ) -> u64;
+
         /// The C library's `int isatty(int fd)`
         pub fn isatty(fd: i32) -> i32;
 
@@ -78,6 +106,88 @@ pub fn plan_listing(sheet: &[u8], listing: &mut [u8]) -> u64 {
             sheet.len(),
             listing.as_mut_ptr(),
             listing.len(),
+        )
+    }
+}
+
+/// The number that the library's `why_records` gives back for lent records, costs and buffer. The
+/// buffer then begins with the reasons for the verdict. [`crate::Listed::decode`] reads the number.
+///
+/// ```
+/// let mut buffer = [b'.'; 17];
+/// assert_eq!(configurator::ffi::why_records(&[], &[0; 36], &mut buffer), 15);
+/// assert_eq!(&buffer, b"why\tpasses\t0\t0\n..");
+/// assert_eq!(configurator::ffi::why_records(&[], &[], &mut buffer), 108 << 32);
+/// ```
+#[must_use]
+pub fn why_records(records: &[u8], costs: &[u8], out: &mut [u8]) -> u64 {
+    // SAFETY: each pointer and length come from one live slice, so they name bytes that may be
+    // read, and those of `out` be written; the slices outlive the call, and being lent by `&` and
+    // `&mut` those that are read don't overlap the one that is written. The library only reads
+    // records and costs, writes `out` within its length, keeps none, and its contract asks nothing
+    // of what they hold.
+    unsafe {
+        imports::why_records(
+            records.as_ptr(),
+            records.len(),
+            costs.as_ptr(),
+            costs.len(),
+            out.as_mut_ptr(),
+            out.len(),
+        )
+    }
+}
+
+/// The number that the library's `why_core` gives back for a lent sheet, a core from 1 and a lent
+/// buffer. The buffer then begins with the reasons for the core's verdict. [`crate::Listed::decode`]
+/// reads the number.
+///
+/// ```
+/// let mut buffer = [b'.'; 17];
+/// let sheet = b"machine\t1\t1\ncost\t0\t0\t0\t0\t0\t0\t0\t0\t0\n";
+/// assert_eq!(configurator::ffi::why_core(sheet, 1, &mut buffer), 15);
+/// assert_eq!(&buffer, b"why\tpasses\t0\t0\n..");
+/// assert_eq!(configurator::ffi::why_core(sheet, 2, &mut buffer), 101 << 32);
+/// ```
+#[must_use]
+pub fn why_core(sheet: &[u8], core: u64, out: &mut [u8]) -> u64 {
+    // SAFETY: each pointer and length come from one live slice, so they name bytes that may be
+    // read, and those of `out` be written; both slices outlive the call, and being lent by `&` and
+    // `&mut` they don't overlap. The library only reads the sheet, writes `out` within its length,
+    // keeps neither, and its contract asks nothing of what they hold, nor of the core.
+    unsafe {
+        imports::why_core(
+            sheet.as_ptr(),
+            sheet.len(),
+            core,
+            out.as_mut_ptr(),
+            out.len(),
+        )
+    }
+}
+
+/// The demand g(length) of lent records, taken as one core. It is 0 where `verdict` refuses the
+/// records or the costs, and where the length is above 101,000,000.
+///
+/// ```
+/// let piece = [0u32, 1, 5, 10, 0, 0, 0]; // one tick in five, every ten
+/// let record: Vec<u8> = piece.iter().flat_map(|n| n.to_le_bytes()).collect();
+/// let demand = |length| configurator::ffi::demand_at(&record, &[0; 36], length);
+/// assert_eq!([4, 5, 14, 15].map(demand), [0, 1, 1, 2]);
+/// assert_eq!(demand(101_000_001), 0);
+/// ```
+#[must_use]
+pub fn demand_at(records: &[u8], costs: &[u8], length: u64) -> u64 {
+    // SAFETY: each pointer and length come from one live slice, so they name bytes that may be
+    // read, and both slices outlive the call. The library only reads them, keeps neither, and its
+    // contract asks nothing of what they hold, nor of the length.
+    unsafe {
+        imports::demand_at(
+            records.as_ptr(),
+            records.len(),
+            costs.as_ptr(),
+            costs.len(),
+            length,
         )
     }
 }

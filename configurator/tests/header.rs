@@ -7,9 +7,48 @@ use common::command::{folder, text};
 use std::env;
 use std::process::Command;
 
-/// What `tests/c/calls.c` prints: K7's verdict, the second piece alone, the refusals 8 and 3, a
-/// sheet's listing with the byte behind it, and two refusals that write nothing.
-const CALLS: &str = "K7\t1\t11\nthe second alone\t0\t0\n27 bytes\t108\t0\nanother kind\t103\t2\na sheet\t0\t33\nplan\t1\t1\npiece\t1\tt\twhole\t1\t2\t0\t1\n.\na short buffer\t110\t33\na cut sheet\t108\t4\n........\n";
+/// What `tests/c/calls.c` prints. Of K7: its verdict, that of the second piece alone, the refusal 8, two
+/// refusals that write nothing, the reasons with the byte behind them, the demand from 9 to 12 and
+/// beyond the sizes, and the refusal 3. Of a sheet: its listing with the byte behind it, two refusals
+/// that write nothing, three more, and the reasons of its core with the byte behind them.
+const CALLS: &str = "\
+K7\t1\t11
+the second alone\t0\t0
+27 bytes\t108\t0
+why, a short buffer\t110\t78
+why, 35 bytes\t108\t0
+........
+why\t0\t78
+why\toverloaded\t11\t4
+piece\t1\twhole\t1\t8\t0
+piece\t2\twhole\t0\t0\t0
+total\t12
+slack\t-1
+.
+demand\t0\t4
+demand\t0\t12
+demand\t0\t12
+demand\t0\t9
+demand, too long\t0\t0
+another kind\t103\t2
+a sheet\t0\t33
+plan\t1\t1
+piece\t1\tt\twhole\t1\t2\t0\t1
+.
+a short buffer\t110\t33
+a cut sheet\t108\t4
+........
+no such core\t101\t0
+why, a cut sheet\t108\t4
+why, a short buffer\t110\t51
+........
+why\t0\t51
+why\tpasses\t2\t0
+piece\tt\twhole\t1\t1\t0
+total\t1
+slack\t1
+.
+";
 
 #[test]
 fn a_c_program_calls_the_library_by_its_header() {
