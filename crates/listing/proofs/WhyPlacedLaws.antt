@@ -1,7 +1,7 @@
 -- What is answered for a core of a plan that the walk gave, or where it stuck: the listing of what was placed there. The machine, costs and first n tasks break no rule.
 -- Assumes nothing.
 --
---   row-seats             what a plan's layout has on a core is what was placed there
+--   kept-seats, row-seats             what a plan's layout has on a core is what was placed there
 --   paper-fine            for at most 79 pieces within the sizes the answer is their listing
 --   asked-inside, asked-outside   a core that the machine has, and one that it has not
 --   why-fine              where the walk is fine, each core is answered with the listing of what was placed there
@@ -53,7 +53,7 @@ use Rattle.plan.proofs.PlanLaws.{sized-at}
 use Rattle.plan.proofs.Theorems.{no-room-place, reached-ended, reached-stuck, reached-shows, reached-sized, reached-places, reached-counts}
 use Rattle.lines.specs.Lines.{bytesOf, newline, tab}
 use Rattle.listing.specs.Text.{endedBy, decimal}
-use Rattle.listing.specs.Listing.{spelling, kindWord}
+use Rattle.listing.specs.Listing.{rowPieces, spelling, kindWord}
 use Rattle.listing.specs.Papers.{refused, written}
 use Rattle.listing.specs.Why.{Titled, piecesIn, verdictWord, minus, signed, whyHead, askLine, whyFoot, noRoomLine, askLines, whyBody, whyText}
 use Rattle.listing.specs.Why.{unlessBad, whyPaper, titledPlaced, rowSeats, whySeats, whyRow, wholeSeat, whyStuck, whyAsked, whyOf}
@@ -76,10 +76,13 @@ seats-own q (e ∷ l) = by (eqb (e .on) q) refl (seats-own q l)
     by true h others = cc (seat-own q e (eqb-true (e .on) q h), others)
     by false h others = others
 
-pub row-seats : (y : Layout) (l : List (Placed ℕ)) (q : ℕ) → LayoutShows y l → q < 16 → length (rowOf q l) ≤ 64 → rowSeats y q ≡ onCore q l
+-- a row that keeps what was placed there has just that
+pub kept-seats : (y : Layout) (l : List (Placed ℕ)) (q : ℕ) → rowPieces y q ≡ map storedOf (onCore q l) → rowSeats y q ≡ onCore q l
 unfolding rowSeats
-row-seats y l q shows low short =
-    ap (map (seatOf q)) (row-pieces y l q shows low short) ∙ (map-map (seatOf q) storedOf (onCore q l) ∙ seats-own q l)
+kept-seats y l q row = ap (map (seatOf q)) row ∙ (map-map (seatOf q) storedOf (onCore q l) ∙ seats-own q l)
+
+pub row-seats : (y : Layout) (l : List (Placed ℕ)) (q : ℕ) → LayoutShows y l → q < 16 → length (rowOf q l) ≤ 64 → rowSeats y q ≡ onCore q l
+row-seats y l q shows low short = kept-seats y l q (row-pieces y l q shows low short)
 
 -- ---- what is answered
 

@@ -9,4 +9,6 @@ pub mod JudgedLaws
 pub mod HeldPlans
 pub mod Agreement
 pub mod RefusalLaws
+pub mod WhyLaws
+pub mod WhyHeld
 pub mod Promises

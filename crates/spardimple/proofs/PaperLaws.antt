@@ -75,22 +75,22 @@ pub data Ends (sheet : List ℕ) : Type 1 where
   ends-stuck : (k : ℕ) → walkIn sheet ≡ stuck k 7 → Comes (walksIn sheet) 7 (suc k) → plansIn sheet .number ≡ 7 → plansIn sheet .carries ≡ suc k → Ends sheet
 
 module _ (sheet : List ℕ) (whole : readOf sheet .number ≡ 0) where
-  abbrev sheetRead : Sheet
+  abbrev pub sheetRead : Sheet
   sheetRead = readOf sheet .sheet
 
-  machine-said : sheetRead .machine ≡ machineIn sheet
+  pub machine-said : sheetRead .machine ≡ machineIn sheet
   machine-said = read-said sheet whole .0
 
-  costs-said : sheetRead .costs ≡ costsIn sheet
+  pub costs-said : sheetRead .costs ≡ costsIn sheet
   costs-said = read-said sheet whole .1
 
-  tasks-said : listOf (sheetRead .tasks) ≡ tasksIn sheet
+  pub tasks-said : listOf (sheetRead .tasks) ≡ tasksIn sheet
   tasks-said = read-said sheet whole .2
 
-  good : stateFault (sheetRead .machine) (sheetRead .costs) (sheetRead .tasks .count) (sheetRead .tasks .list) ≡ 0
+  pub good : stateFault (sheetRead .machine) (sheetRead .costs) (sheetRead .tasks .count) (sheetRead .tasks .list) ≡ 0
   good = breaks-no-rule sheet whole
 
-  counted : sheetRead .tasks .count ≡ length (tasksIn sheet)
+  pub counted : sheetRead .tasks .count ≡ length (tasksIn sheet)
   counted = ap (λ (q : Tasks). q .count) (read-array sheet whole)
 
   pub said-sane : stateFault (machineIn sheet) (costsIn sheet) (length (tasksIn sheet)) (tasksIn sheet) ≡ 0
@@ -101,10 +101,10 @@ module _ (sheet : List ℕ) (whole : readOf sheet .number ≡ 0) where
       (rule (sizedCosts (sym costs-said i)) 2 (rule (leb (sym counted i) tasksMost) 6 (firstFault [] (items i))))) ∙ good
 
   -- the walk over what was read
-  abbrev walkRead : Ending Stand ℕ
+  abbrev pub walkRead : Ending Stand ℕ
   walkRead = walked (sheetRead .machine) (sheetRead .costs) (listOf (sheetRead .tasks))
 
-  said-walk : walkRead ≡ walkIn sheet
+  pub said-walk : walkRead ≡ walkIn sheet
   said-walk = λ i. walked (machine-said i) (costs-said i) (tasks-said i)
 
   said-comes : Comes (walksIn sheet) (plansIn sheet .number) (plansIn sheet .carries)
@@ -149,7 +149,7 @@ unfolding nameOf
 name-short f = omega (arith, length-take (length f) (nameOf f .bytes), padded-length 0 nameMost f)
 
 module _ (sheet : List ℕ) (whole : readOf sheet .number ≡ 0) where
-  abbrev Short : Task → Type 0
+  abbrev pub Short : Task → Type 0
   Short t = length (spelling (t .name)) ≤ 24
 
   pub names-short : Each Short (tasksIn sheet)

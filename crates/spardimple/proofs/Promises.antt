@@ -6,6 +6,11 @@
 --                                   listingLeft sheet old
 --   plan_tasks                      answers planOf m c n ts, for the first n of the tasks ts; write_listing lists a plan s as listingOf s
 --   add, withdraw, retime           answer editOf e s, from any state s
+--   why_records(records, costs, out)    answers whyRecordsNumber records costs room, and the buffer then holds whyRecordsLeft records costs old
+--   why_core(sheet, core, out)      answers whyCoreNumber sheet core room, and the buffer then holds whyCoreLeft sheet core old
+--   why_run, why_plan               write the paper whyRun c n ps, or whyOf s k core of a state s; show_records shows what showingOf has, ask_of what a piece asks for
+--   plan_reached                    answers reachedOf m c n ts: planOf, and with 7 what was placed before the walk stuck
+--   demand_at(records, costs, t)    answers demandNumber records costs t
 --
 -- Each of these is an equation for any input, with nothing asked of the caller: so one input has one answer, and one content for what was lent.
 --
@@ -18,9 +23,17 @@
 --   no-room                         7 comes exactly where the walk sticks, with the task
 --   refused-buffer, refused-state   a refusal changes no lent byte and no held plan
 --   written-buffer                  a listing that is written stands at the front of the buffer, and the bytes beyond stay
+--   why-records-answered, why-core-answered     so do the answers of `why_records` and `why_core`, by their tables, in every buffer
 -- Demand 2, verdict and plan:
 --   passes, overloaded, undecided   each verdict comes exactly where no rule is broken and its meaning holds; `-told`: on lent bytes, by the number given back
 --   overloaded-shows                an overloaded length is one at which a job is due, and asks for more than itself
+--   why-verdict, why-adds           what is shown of a verdict names it, and its terms add up to its total
+--   why-overloaded, why-passes, why-undecided, why-empty     at the overloaded length, which asks for more than itself; at a live length of the judged span with the least
+--                                   slack, the shortest if several; with the busy sum at the limit, which is above it; with nothing
+--   why-records-shown, why-core-shown, why-stuck-shown       the listing of lent records, of a core, and of the last core of a walk that stuck, with that task added
+--   why-stuck-where                 where that is: what was placed by the walk over the tasks ahead of it, which ends well, and then the task is refused
+--   why-plan-shown                  the same of a core of a held plan
+--   demand-told                     the demand at a length, of lent records that break no rule
 --   split                           and so does a split
 --   verdict-means, split-means      the verdict and the split that the walk goes by are those that are meant
 --   packing, packing-ranked         the packing order has each task once, greater C/D first, ties by earlier task
@@ -53,6 +66,11 @@
 --   planOf            plan-refused, plan-taken, plan-none, plan-made, plan-counted
 --   editOf            edit-refused, edit-taken, refused-state, edit-afresh
 --   listingOf         plan-listed
+--   whyRecordsNumber, whyRecordsLeft     why-records-answered
+--   whyCoreNumber, whyCoreLeft           why-core-answered
+--   shownOf           why-verdict, why-adds, why-overloaded, why-passes, why-undecided, why-empty
+--   whyOf             why-plan-shown
+--   demandNumber      demand-told
 --   verdictOf         verdict-means
 --   greatestSplit     split-means
 --   packed            packing, packing-ranked, packing-one
@@ -64,11 +82,11 @@
 --   formed            name-formed
 --
 -- Assumes nothing.
-use mathlib.Core.Path.{_≡_, ap, _∙_, subst}
+use mathlib.Core.Path.{_≡_, refl, ap, _∙_, subst}
 use mathlib.Core.Bool.{true}
 use mathlib.Core.Logic.{_↔_, _⊎_}
-use mathlib.Core.List.{List, [], _∷_, _++_}
-use Prim.Native.Nat.{ℕ, suc, _+_, _*_, _^_, _<_}
+use mathlib.Core.List.{List, [], _∷_, _++_, map}
+use Prim.Native.Nat.{ℕ, suc, _+_, _*_, _-_, _^_, _≤_, _<_}
 use lib.ListN.{length, take, drop}
 use lib.Seq.{take-length}
 use Rattle.demand.specs.declared.Piece.{Piece}
@@ -78,11 +96,14 @@ use Rattle.demand.specs.declared.Split.{Split}
 use Rattle.demand.specs.declared.Splitting.the-variants.{Best, Denied}
 use Rattle.demand.specs.declared.Verdict.{Verdict}
 use Rattle.demand.specs.declared.Verdict.the-variants.{Passes, Overloaded, Undecided}
-use Rattle.demand.specs.declared.Answer.the-variants.{Judged, Refused}
-use Rattle.demand.specs.Sizes.{SizedCosts, sizedCosts, Each}
+use Rattle.demand.specs.declared.Answer.the-variants.{Judged as JudgedAs, Refused}
+use Rattle.demand.specs.Sizes.{SizedCosts, sizedCosts, Each, busyMost, lengthMost}
 use Rattle.demand.specs.Charge.{coreOf, stall}
-use Rattle.demand.specs.Demand.{demand, Live}
-use Rattle.demand.specs.Verdict.{Means, Bounded, KeepsUp, verdictOf}
+use Rattle.demand.specs.Demand.{total, demand, Live}
+use Rattle.demand.specs.Busy.{busySum}
+use Rattle.demand.specs.Verdict.{Judged, Means, Bounded, KeepsUp, verdictOf}
+use Rattle.demand.specs.Why.{LeastSlack, askSum, shownAt, shownOf}
+use Rattle.demand.proofs.WhyLaws.{shown-verdict, shown-adds, shown-overloaded, shown-passes, shown-undecided, shown-empty}
 use Rattle.demand.specs.Split.{Splits, greatestSplit, passes as passing}
 use Rattle.demand.specs.Answer.{answerOf, splitOf}
 use Rattle.demand.specs.Tables.{Not, Gives, Kept}
@@ -101,12 +122,13 @@ use Rattle.task.proofs.NameLaws.{formed-exact, same-bytes-exact, same-name-exac
 use Rattle.task.proofs.RefusalLaws.{state-kept}
 use Rattle.walks.specs.Lists.{Chain, sumBy}
 use Rattle.walks.specs.Order.{Precedes}
-use Rattle.walks.specs.Way.{Placed, fine, stuck, walkOver, onCore, rowOf}
+use Rattle.walks.specs.Way.{Placed, fine, stuck, walkOver, onCore, rowOf, SticksAt}
+use Rattle.walks.proofs.WayLaws.{stuck-where}
 use Rattle.walks.specs.Edits.{edited}
 use Rattle.walks.specs.Kept.{Among, Behind}
 use Rattle.walks.specs.Halves.{Stand}
 use Rattle.plan.specs.declared.Plan.{Plan}
-use Rattle.plan.specs.Walk.{placeWay, taskWay, denserAt, packed, walked}
+use Rattle.plan.specs.Walk.{placeWay, taskWay, denserAt, packed, walked, walkedUntil}
 use Rattle.plan.specs.Layout.{tasksOn}
 use Rattle.plan.specs.Plan.{planOf}
 use Rattle.plan.specs.Refusals.{planTable}
@@ -115,7 +137,9 @@ use Rattle.plan.proofs.Theorems.{packing-order, packing-ranked as ranked, packi
 use Rattle.plan.proofs.Theorems.{all-placed, budgets-add, windows-add, plan-counts}
 use Rattle.plan.proofs.RefusalLaws.{plan-refused as told-plan, plan-kept}
 use Rattle.sheet.specs.Refusals.{readTable}
-use Rattle.listing.specs.Listing.{listingOf}
+use Rattle.listing.specs.Listing.{spelling, listingOf}
+use Rattle.listing.specs.Papers.{written}
+use Rattle.listing.specs.Why.{noRoomLine, whyText, byPlace, titledPlaced, wholeSeat, whyOf}
 use Rattle.listing.specs.Placed.{placedLines, placedListing}
 use Rattle.edits.specs.Edits.{byName, TaskEdit, tasksHeld, editOf, accepted, Afresh, Held, played}
 use Rattle.edits.specs.Refusals.{editTable}
@@ -125,13 +149,16 @@ use Rattle.edits.proofs.Theorems.{edit-refused as gives-back, after-edits-afres
 use Rattle.edits.proofs.HeldTheorems.{edit-relies, afresh-held, after-held, held-before, held-after}
 use Rattle.spardimple.specs.Bytes.{piecesOf, costsSpelt}
 use Rattle.spardimple.specs.Numbers.{verdictNumber}
-use Rattle.spardimple.specs.Refusals.{lentTable, sheetTable}
+use Rattle.spardimple.specs.Refusals.{lentTable, sheetTable, whyRecordsTable, whyCoreTable, Answered}
+use Rattle.spardimple.specs.Whys.{whyRecordsText, whyEnding, whyCoreText, whyRecordsNumber, whyRecordsLeft, whyCoreNumber, whyCoreLeft, demandNumber}
 use Rattle.spardimple.specs.Sheets.{machineIn, costsIn, tasksIn, placedOf, textOf, listingNumber, listingLeft}
 use Rattle.spardimple.proofs.NumberLaws.{one-number as one-number-each}
 use Rattle.spardimple.proofs.RefusalLaws.{verdict-refused as told-verdict, verdict-comes as some-verdict, edit-refused-exactly, edit-accepted}
 use Rattle.spardimple.proofs.RefusalLaws.{listing-refused as told-listing, listing-taken as taken-listing, listing-comes as some-listing}
 use Rattle.spardimple.proofs.RefusalLaws.{no-room as told-seven, buffer-kept, buffer-listed, sheet-sane as state-sane, sheet-walks as state-walks}
 use Rattle.spardimple.proofs.RefusalLaws.{sheet-read as kept-read, told-apart as lines-apart}
+use Rattle.spardimple.proofs.WhyLaws.{why-records-answered as records-answered, why-core-answered as core-answered, demand-told as told-demand}
+use Rattle.spardimple.proofs.WhyHeld.{plan-shown}
 use Rattle.spardimple.proofs.JudgedLaws.{run-passes, run-overloaded, run-undecided, run-split, verdict-passes, verdict-overloaded, verdict-undecided}
 use Rattle.spardimple.proofs.HeldPlans.{plan-none as nothing-planned, plan-counted as counts-planned, plan-listed as listed-planned}
 use Rattle.spardimple.proofs.HeldPlans.{walk-order as in-packing-order, cores-bounded, held-ones as ones-held, plan-made as made-held, edit-yields as yields-held}
@@ -196,13 +223,13 @@ refused-state e s = gives-back e s
 
 -- on the first n of the records ps, at the costs c, for every asker
 module _ (c : Costs) (n : ℕ) (ps : List Piece) where
-  pub passes : (answerOf c n ps ≡ Judged Passes) ↔ (Kept (recordTable c n ps) × Bounded (coreOf c (take n ps)) × KeepsUp (stall c) (coreOf c (take n ps)))
+  pub passes : (answerOf c n ps ≡ JudgedAs Passes) ↔ (Kept (recordTable c n ps) × Bounded (coreOf c (take n ps)) × KeepsUp (stall c) (coreOf c (take n ps)))
   passes = run-passes c n ps
 
-  pub overloaded : (t : ℕ) → (answerOf c n ps ≡ Judged (Overloaded t)) ↔ (Kept (recordTable c n ps) × Means (stall c) (coreOf c (take n ps)) (Overloaded t))
+  pub overloaded : (t : ℕ) → (answerOf c n ps ≡ JudgedAs (Overloaded t)) ↔ (Kept (recordTable c n ps) × Means (stall c) (coreOf c (take n ps)) (Overloaded t))
   overloaded = run-overloaded c n ps
 
-  pub undecided : (answerOf c n ps ≡ Judged Undecided) ↔ (Kept (recordTable c n ps) × Means (stall c) (coreOf c (take n ps)) Undecided)
+  pub undecided : (answerOf c n ps ≡ JudgedAs Undecided) ↔ (Kept (recordTable c n ps) × Means (stall c) (coreOf c (take n ps)) Undecided)
   undecided = run-undecided c n ps
 
   pub split : (p : Piece) (g : ℕ) (s : Split) → (splitOf c n ps p g ≡ Best s) ↔ (Kept (recordTable c (n + 1) (take n ps ++ (p ∷ []))) × Splits c g (take n ps) p s)
@@ -221,6 +248,79 @@ module _ (rs cs : List ℕ) where
   pub undecided-told : (verdictNumber rs cs ≡ 2 ^ 32 * 2 + 0)
       ↔ (Kept (lentTable rs cs) × Means (stall (costsSpelt cs)) (coreOf (costsSpelt cs) (piecesOf rs)) Undecided)
   undecided-told = verdict-undecided rs cs
+
+-- ---- demand 2: why (document 02, E1)
+
+-- what is shown of the pieces ps at the costs c: the verdict, and at one length the blocking, what each piece asks for, and the total
+module _ (c : Costs) (ps : List Piece) where
+  pub why-verdict : shownOf c ps .verdict ≡ verdictOf c ps
+  unfolding shownOf verdictOf
+  why-verdict = shown-verdict (stall c) (coreOf c ps)
+
+  pub why-adds : shownOf c ps .blocking + total (askSum (verdictOf c ps) (shownOf c ps .length)) (coreOf c ps) ≡ shownOf c ps .total
+  unfolding shownOf verdictOf
+  why-adds = shown-adds (stall c) (coreOf c ps)
+
+  pub why-overloaded : (t : ℕ) → verdictOf c ps ≡ Overloaded t
+      → (shownOf c ps ≡ shownAt (stall c) (coreOf c ps) (Overloaded t) t) × (t < demand (stall c) (coreOf c ps) t)
+  unfolding shownOf verdictOf
+  why-overloaded = shown-overloaded (stall c) (coreOf c ps)
+
+  pub why-passes : verdictOf c ps ≡ Passes → Not (coreOf c ps ≡ []) → (t : ℕ) × (t₀ : ℕ) × (l : ℕ) × Judged (coreOf c ps) t₀ l
+      × LeastSlack (demand (stall c) (coreOf c ps)) t₀ l t × Live (coreOf c ps) t × (demand (stall c) (coreOf c ps) t ≤ t)
+      × (shownOf c ps ≡ shownAt (stall c) (coreOf c ps) Passes t)
+  unfolding shownOf verdictOf
+  why-passes = shown-passes (stall c) (coreOf c ps)
+
+  pub why-undecided : verdictOf c ps ≡ Undecided
+      → (shownOf c ps ≡ shownAt (stall c) (coreOf c ps) Undecided busyMost) × (busyMost < busySum (coreOf c ps) busyMost)
+  unfolding shownOf verdictOf
+  why-undecided = shown-undecided (stall c) (coreOf c ps)
+
+pub why-empty : (c : Costs) → shownOf c [] ≡ record { verdict = Passes; length = 0; blocking = 0; total = 0 }
+unfolding shownOf coreOf
+why-empty c = shown-empty (stall c)
+
+pub why-records-answered : (rs cs : List ℕ) → Answered (whyRecordsTable rs cs) (whyRecordsText rs cs) (whyRecordsNumber rs cs) (whyRecordsLeft rs cs)
+why-records-answered = records-answered
+
+pub why-core-answered : (sheet : List ℕ) (core : ℕ) → Answered (whyCoreTable sheet core) (whyCoreText sheet core) (whyCoreNumber sheet core) (whyCoreLeft sheet core)
+why-core-answered = core-answered
+
+pub why-records-shown : (rs cs : List ℕ) → whyRecordsText rs cs ≡ whyText (costsSpelt cs) (byPlace 1 (piecesOf rs))
+unfolding whyRecordsText
+why-records-shown rs cs = refl
+
+module _ (sheet : List ℕ) (core : ℕ) where
+  pub why-core-shown : (s : Stand) (log : List (Placed ℕ)) → walked (machineIn sheet) (costsIn sheet) (tasksIn sheet) ≡ fine s log
+      → whyCoreText sheet core ≡ whyText (costsIn sheet) (map (titledPlaced (tasksIn sheet)) (onCore (core - 1) log))
+  unfolding whyCoreText
+  why-core-shown s log so = ap (whyEnding (machineIn sheet) (costsIn sheet) (tasksIn sheet) core) so
+
+  -- whichever core was asked for
+  pub why-stuck-shown : (k n : ℕ) → walked (machineIn sheet) (costsIn sheet) (tasksIn sheet) ≡ stuck k n
+      → whyCoreText sheet core
+      ≡ noRoomLine (k + 1) (spelling (taskAt (tasksIn sheet) k .name)) (machineIn sheet .cores)
+      ++ whyText (costsIn sheet)
+      (map (titledPlaced (tasksIn sheet)) (onCore (machineIn sheet .cores - 1) (walkedUntil (machineIn sheet) (costsIn sheet) (tasksIn sheet))
+      ++ (wholeSeat (tasksIn sheet) (machineIn sheet .cores - 1) k ∷ [])))
+  unfolding whyCoreText
+  why-stuck-shown k n so = ap (whyEnding (machineIn sheet) (costsIn sheet) (tasksIn sheet) core) so
+
+-- of any tasks: what was placed until then is what the walk over those ahead placed
+pub why-stuck-where : (m : Machine) (c : Costs) (ts : List Task) (k n : ℕ) → walked m c ts ≡ stuck k n
+    → SticksAt (placeWay m c ts) (placeWay m c ts .begin) (packed ts) k n
+unfolding walked
+why-stuck-where m c ts k n so = stuck-where (placeWay m c ts) (placeWay m c ts .begin) (packed ts) k n so
+
+-- a core of a held plan
+pub why-plan-shown : (s : Plan) (held : Held s) (core : ℕ) → 1 ≤ core → core ≤ s .machine .cores
+    → whyOf s 0 core ≡ written (whyText (s .costs) (map (titledPlaced (tasksHeld s)) (onCore (core - 1) (held .log))))
+why-plan-shown = plan-shown
+
+pub demand-told : (rs cs : List ℕ) (t : ℕ) → Kept (lentTable rs cs) → t ≤ lengthMost
+    → demandNumber rs cs t ≡ demand (stall (costsSpelt cs)) (coreOf (costsSpelt cs) (piecesOf rs)) t
+demand-told = told-demand
 
 -- ---- demand 2: the plan
 

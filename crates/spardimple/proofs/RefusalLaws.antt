@@ -56,7 +56,7 @@ use Rattle.spardimple.proofs.PaperLaws.{paper-seven, text-one, buffer-r
 -- ---- what is told, by a table
 
 -- t tells the refusals that the table gives, and no other
-abbrev TellsRefusals : List Rule → Told → Type 0
+abbrev pub TellsRefusals : List Rule → Told → Type 0
 TellsRefusals rules t = (n k : ℕ) → (t ≡ refusal n k) ↔ Gives rules n k
 
 -- a refusal that comes
@@ -68,13 +68,13 @@ refusal-told {rules} {n} {k} comes some m d = (
 )
 
 -- and 0 is told exactly where it is kept
-abbrev Answers : List Rule → Told → Type 0
+abbrev pub Answers : List Rule → Told → Type 0
 Answers rules t = TellsRefusals rules t × ((t .which ≡ 0) ↔ Kept rules)
 
-refusal-answers : {rules : List Rule} {n k : ℕ} → Comes rules n k → (n ≡ 0 → ⊥) → Answers rules (refusal n k)
+pub refusal-answers : {rules : List Rule} {n k : ℕ} → Comes rules n k → (n ≡ 0 → ⊥) → Answers rules (refusal n k)
 refusal-answers comes some = (refusal-told comes some, ((λ e. absurd (omega arith)), (λ kept. absurd (some (comes-kept comes .1 kept)))))
 
-accepted-answers : {rules : List Rule} {k : ℕ} → Comes rules 0 k → (c : ℕ) → Answers rules (record { which = 0; carries = c })
+pub accepted-answers : {rules : List Rule} {k : ℕ} → Comes rules 0 k → (c : ℕ) → Answers rules (record { which = 0; carries = c })
 accepted-answers comes c = (
   (λ m d. (
     (λ is. absurd (let which : 0 ≡ 100 + m = ap (λ (t : Told). t .which) is in omega arith)),
@@ -84,7 +84,7 @@ accepted-answers comes c = (
 )
 
 -- and then by the number
-number-refuses : (rules : List Rule) (t : Told) → t .carries < 2 ^ 32 → TellsRefusals rules t → (n k : ℕ) → k < 2 ^ 32
+pub number-refuses : (rules : List Rule) (t : Told) → t .carries < 2 ^ 32 → TellsRefusals rules t → (n k : ℕ) → k < 2 ^ 32
     → (number t ≡ 2 ^ 32 * (100 + n) + k) ↔ Gives rules n k
 unfolding number
 number-refuses rules t small by n k fits = ((λ e. by n k .0 (told-one t (refusal n k) small fits e)), (λ gives. ap number (by n k .1 gives)))
@@ -108,11 +108,11 @@ module _ (rs cs : List ℕ) where
   abbrev answered : Answer
   answered = answerOf (costsSpelt cs) (length (piecesOf rs)) (piecesOf rs)
 
-  odd-records : Not (length rs % 28 ≡ 0) → Comes (lentTable rs cs) 8 0
+  pub odd-records : Not (length rs % 28 ≡ 0) → Comes (lentTable rs cs) 8 0
   unfolding lentTable
   odd-records odd = here odd refl refl
 
-  odd-costs : length rs % 28 ≡ 0 → Not (length cs ≡ 36) → Comes (lentTable rs cs) 8 0
+  pub odd-costs : length rs % 28 ≡ 0 → Not (length cs ≡ 36) → Comes (lentTable rs cs) 8 0
   unfolding lentTable
   odd-costs whole odd = comes-behind (8 if Not (length rs % 28 ≡ 0) carrying 0 ∷ []) ((λ never. never whole), tt) (here odd refl refl)
 

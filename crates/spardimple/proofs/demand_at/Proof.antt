@@ -49,7 +49,7 @@ enum-told-2 : tie.Need-enum-told-2
 enum-told-2 c = search needs
 
 returns-3 : tie.Need-returns-3
-returns-3 c = 
+returns-3 c =
     let s = c .before .before .before .before .before .before .before .before .before .before .before .args in
     let rs = s .records .now in
     let cs = s .costs .now in
@@ -62,7 +62,7 @@ returns-3 c =
     ap figureNumber (sym (c .enum-told .given .1)) ∙ is
 
 returns-4 : tie.Need-returns-4
-returns-4 c = 
+returns-4 c =
     let s = c .before .before .before .before .before .before .before .before .before .before .before .before .before .before .before .args in
     let rs = s .records .now in
     let cs = s .costs .now in
@@ -75,7 +75,7 @@ returns-4 c =
     ap figureNumber (sym (c .before .before .before .before .figure .given .1 ∙ ap (λ (f : Found). Of f) (c .before .found .given .1))) ∙ is
 
 returns-5 : tie.Need-returns-5
-returns-5 c = 
+returns-5 c =
     let s = c .before .before .before .before .before .before .before .before .before .before .before .before .before .before .args in
     let rs = s .records .now in
     let cs = s .costs .now in

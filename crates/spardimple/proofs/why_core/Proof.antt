@@ -27,21 +27,21 @@ read-sheet-requires : tie.Need-read-sheet-requires
 read-sheet-requires c κs = search needs
 
 add-numbered : tie.Need-add-numbered
-add-numbered c = 
+add-numbered c =
     let r = c .before .before .before .read-sheet in
     let small = subst (λ (t : Read). (t .number ≤ 9) × (t .carries ≤ 16385)) (sym (r .ensures)) (read-small (c .before .before .before .before .before .before .args .sheet .now)) in
     let n : r .result .number ≤ 9 = small .0 in
     search needs
 
 numbered-requires : tie.Need-numbered-requires
-numbered-requires c κs = 
+numbered-requires c κs =
     let r = c .before .before .before .read-sheet in
     let small = subst (λ (t : Read). (t .number ≤ 9) × (t .carries ≤ 16385)) (sym (r .ensures)) (read-small (c .before .before .before .before .before .before .args .sheet .now)) in
     (omega (arith, small .0), omega (arith, small .1))
 
 returns : tie.Need-returns
 unfolding whyCoreNumber whyCoreLeft
-returns c = 
+returns c =
     let s = c .before .before .before .before .before .before .before .args in
     let r = c .before .before .before .before .read-sheet in
     let paper = unread-core (s .sheet .now) (r .result) (r .ensures) (s .core) (c .before .before .if1 .taken) in (
@@ -63,7 +63,7 @@ same-length c = search needs
 
 returns-2 : tie.Need-returns-2
 unfolding whyCoreNumber whyCoreLeft
-returns-2 c = 
+returns-2 c =
     let s = c .before .before .before .before .before .before .before .before .before .before .before .before .before .args in
     let old = s .out .now in
     let r = c .before .before .before .before .before .before .before .before .before .before .read-sheet in

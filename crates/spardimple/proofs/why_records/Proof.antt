@@ -29,7 +29,7 @@ numbered-requires c κs = search needs
 
 returns : tie.Need-returns
 unfolding whyRecordsNumber whyRecordsLeft
-returns c = 
+returns c =
     let s = c .before .before .before .before .before .args in
     let rs = s .records .now in
     let cs = s .costs .now in
@@ -41,7 +41,7 @@ numbered-requires-2 c κs = search needs
 
 returns-2 : tie.Need-returns-2
 unfolding whyRecordsNumber whyRecordsLeft
-returns-2 c = 
+returns-2 c =
     let s = c .before .before .before .before .before .before .args in
     let rs = s .records .now in
     let cs = s .costs .now in
@@ -65,7 +65,7 @@ same-length c = search needs
 
 returns-3 : tie.Need-returns-3
 unfolding whyRecordsNumber whyRecordsLeft
-returns-3 c = 
+returns-3 c =
     let s = c .before .before .before .before .before .before .before .before .before .before .before .before .before .before .args in
     let rs = s .records .now in
     let cs = s .costs .now in
