@@ -24,6 +24,7 @@
 --   refused-buffer, refused-state   a refusal changes no lent byte and no held plan
 --   written-buffer                  a listing that is written stands at the front of the buffer, and the bytes beyond stay
 --   why-records-answered, why-core-answered     so do the answers of `why_records` and `why_core`, by their tables, in every buffer
+--   why-records-left, why-core-left             and what the buffer then holds
 -- Demand 2, verdict and plan:
 --   passes, overloaded, undecided   each verdict comes exactly where no rule is broken and its meaning holds; `-told`: on lent bytes, by the number given back
 --   overloaded-shows                an overloaded length is one at which a job is due, and asks for more than itself
@@ -66,8 +67,12 @@
 --   planOf            plan-refused, plan-taken, plan-none, plan-made, plan-counted
 --   editOf            edit-refused, edit-taken, refused-state, edit-afresh
 --   listingOf         plan-listed
---   whyRecordsNumber, whyRecordsLeft     why-records-answered
---   whyCoreNumber, whyCoreLeft           why-core-answered
+--   whyRecordsNumber  why-records-answered
+--   whyRecordsLeft    why-records-left
+--   whyCoreNumber     why-core-answered
+--   whyCoreLeft       why-core-left
+--   whyRecordsText    why-records-shown
+--   whyCoreText       why-core-shown, why-stuck-shown
 --   shownOf           why-verdict, why-adds, why-overloaded, why-passes, why-undecided, why-empty
 --   whyOf             why-plan-shown
 --   demandNumber      demand-told
@@ -149,7 +154,7 @@ use Rattle.edits.proofs.Theorems.{edit-refused as gives-back, after-edits-afres
 use Rattle.edits.proofs.HeldTheorems.{edit-relies, afresh-held, after-held, held-before, held-after}
 use Rattle.spardimple.specs.Bytes.{piecesOf, costsSpelt}
 use Rattle.spardimple.specs.Numbers.{verdictNumber}
-use Rattle.spardimple.specs.Refusals.{lentTable, sheetTable, whyRecordsTable, whyCoreTable, Answered}
+use Rattle.spardimple.specs.Refusals.{lentTable, sheetTable, whyRecordsTable, whyCoreTable, Answered, Leaves}
 use Rattle.spardimple.specs.Whys.{whyRecordsText, whyEnding, whyCoreText, whyRecordsNumber, whyRecordsLeft, whyCoreNumber, whyCoreLeft, demandNumber}
 use Rattle.spardimple.specs.Sheets.{machineIn, costsIn, tasksIn, placedOf, textOf, listingNumber, listingLeft}
 use Rattle.spardimple.proofs.NumberLaws.{one-number as one-number-each}
@@ -157,7 +162,8 @@ use Rattle.spardimple.proofs.RefusalLaws.{verdict-refused as told-verdi
 use Rattle.spardimple.proofs.RefusalLaws.{listing-refused as told-listing, listing-taken as taken-listing, listing-comes as some-listing}
 use Rattle.spardimple.proofs.RefusalLaws.{no-room as told-seven, buffer-kept, buffer-listed, sheet-sane as state-sane, sheet-walks as state-walks}
 use Rattle.spardimple.proofs.RefusalLaws.{sheet-read as kept-read, told-apart as lines-apart}
-use Rattle.spardimple.proofs.WhyLaws.{why-records-answered as records-answered, why-core-answered as core-answered, demand-told as told-demand}
+use Rattle.spardimple.proofs.WhyLaws.{why-records-answered as records-answered, why-records-left as records-left, demand-told as told-demand}
+use Rattle.spardimple.proofs.WhyLaws.{why-core-answered as core-answered, why-core-left as core-left}
 use Rattle.spardimple.proofs.WhyHeld.{plan-shown}
 use Rattle.spardimple.proofs.JudgedLaws.{run-passes, run-overloaded, run-undecided, run-split, verdict-passes, verdict-overloaded, verdict-undecided}
 use Rattle.spardimple.proofs.HeldPlans.{plan-none as nothing-planned, plan-counted as counts-planned, plan-listed as listed-planned}
@@ -281,11 +287,17 @@ pub why-empty : (c : Costs) → shownOf c [] ≡ record { verdict = Passes; leng
 unfolding shownOf coreOf
 why-empty c = shown-empty (stall c)
 
-pub why-records-answered : (rs cs : List ℕ) → Answered (whyRecordsTable rs cs) (whyRecordsText rs cs) (whyRecordsNumber rs cs) (whyRecordsLeft rs cs)
+pub why-records-answered : (rs cs : List ℕ) → Answered (whyRecordsTable rs cs) (whyRecordsText rs cs) (whyRecordsNumber rs cs)
 why-records-answered = records-answered
 
-pub why-core-answered : (sheet : List ℕ) (core : ℕ) → Answered (whyCoreTable sheet core) (whyCoreText sheet core) (whyCoreNumber sheet core) (whyCoreLeft sheet core)
+pub why-records-left : (rs cs : List ℕ) → Leaves (whyRecordsTable rs cs) (whyRecordsText rs cs) (whyRecordsLeft rs cs)
+why-records-left = records-left
+
+pub why-core-answered : (sheet : List ℕ) (core : ℕ) → Answered (whyCoreTable sheet core) (whyCoreText sheet core) (whyCoreNumber sheet core)
 why-core-answered = core-answered
+
+pub why-core-left : (sheet : List ℕ) (core : ℕ) → Leaves (whyCoreTable sheet core) (whyCoreText sheet core) (whyCoreLeft sheet core)
+why-core-left = core-left
 
 pub why-records-shown : (rs cs : List ℕ) → whyRecordsText rs cs ≡ whyText (costsSpelt cs) (byPlace 1 (piecesOf rs))
 unfolding whyRecordsText

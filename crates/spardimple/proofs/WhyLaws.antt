@@ -2,9 +2,9 @@
 -- Assumes nothing.
 --
 --   Settled B p text      the rules B, but for 10, and the paper p say the same: a refusal, or the text
---   settled-answered      so it is answered by the rules and then by 10
+--   settled-answered, settled-left      so it is answered by the rules and then by 10, and so is what the buffer holds
 --   records-settled, core-settled       lent records; a sheet and a core
---   why-records-answered, why-core-answered     so their answers come by their tables
+--   why-records-answered, -left, why-core-answered, -left       so their answers come by their tables
 --   demand-told           g(t) of lent records, where they are judged
 use mathlib.Core.Path.{_≡_, refl, sym, ap, subst, _∙_}
 use mathlib.Core.Bool.{Bool, true, false, cond}
@@ -59,7 +59,7 @@ use Rattle.listing.proofs.TextLaws.{decimal-few, over-short, over-fits}
 use Rattle.listing.proofs.WhyPlacedLaws.{why-fine, why-stuck, why-outside, why-few, front-few, titles-few}
 use Rattle.spardimple.specs.Bytes.{piecesOf, costsSpelt}
 use Rattle.spardimple.specs.Numbers.{number, measured}
-use Rattle.spardimple.specs.Refusals.{lentTable, roomTable, whyRecordsTable, whyCoreTable, Answered}
+use Rattle.spardimple.specs.Refusals.{lentTable, roomTable, whyRecordsTable, whyCoreTable, Answered, Leaves}
 use Rattle.spardimple.specs.Sheets.{machineIn, costsIn, tasksIn, refusal, toldPaper}
 use Rattle.spardimple.specs.Whys.{whyRecordsText, whyEnding, whyCoreText, whyRecords, whyCore, whyRecordsNumber, whyRecordsLeft, whyCoreNumber, whyCoreLeft, figureNumber, demandNumber}
 use Rattle.spardimple.proofs.NumberLaws.{told-one}
@@ -78,26 +78,34 @@ module _ (B : List Rule) (text : List ℕ) where
   abbrev rules : ℕ → List Rule
   rules room = B ++ roomTable text room
 
+  -- what a function that writes the paper p does
+  abbrev Does : Paper → Type 0
+  Does p = Answered rules text (λ room. number (toldPaper p room)) × Leaves rules text (λ old. left p old)
+
   -- what every paper owes, from its answer in each buffer
   owes : (p : Paper) → ((room : ℕ) → Answers (rules room) (toldPaper p room)) → ((room : ℕ) → toldPaper p room .carries < 2 ^ 32)
       → ((room : ℕ) → toldPaper p room .which ≡ 0 → p ≡ written text)
       → ((room : ℕ) → (n : ℕ) × ((toldPaper p room .which ≡ 0) ⊎ (toldPaper p room .which ≡ 100 + n)))
-      → Answered rules text (λ room. number (toldPaper p room)) (λ old. left p old)
+      → Does p
   unfolding number
-  owes p answers small text-is which = record {
-    comes = λ room. by-which room (which room);
-    refused = λ room. number-refuses (rules room) (toldPaper p room) (small room) (answers room .0);
-    taken = λ room k fits. (
-      (λ is. (let so = told-one (toldPaper p room) (record { which = 0; carries = k }) (small room) fits is in
-          let zero-is : toldPaper p room .which ≡ 0 = ap (λ (t : Told). t .which) so in
-          (answers room .1 .0 zero-is, sym (long room zero-is) ∙ ap (λ (t : Told). t .carries) so))),
-      (λ h. (let zero-is = answers room .1 .1 (h .0) in
-          ap number (told-zero room zero-is) ∙ ap (λ (n : ℕ). 2 ^ 32 * 0 + n) (h .1))),
-    );
-    kept-buffer = λ old broken. kept-by p old (λ z. broken (answers (length old) .1 .0 z));
-    written-buffer = λ old kept. (let zero-is = answers (length old) .1 .1 kept in
-        ap (λ (q : Paper). left q old) (text-is (length old) zero-is) ∙ over-fits text old (fits-by (length old) zero-is));
-  }
+  owes p answers small text-is which = (
+    record {
+      comes = λ room. by-which room (which room);
+      refused = λ room. number-refuses (rules room) (toldPaper p room) (small room) (answers room .0);
+      taken = λ room k fits. (
+        (λ is. (let so = told-one (toldPaper p room) (record { which = 0; carries = k }) (small room) fits is in
+            let zero-is : toldPaper p room .which ≡ 0 = ap (λ (t : Told). t .which) so in
+            (answers room .1 .0 zero-is, sym (long room zero-is) ∙ ap (λ (t : Told). t .carries) so))),
+        (λ h. (let zero-is = answers room .1 .1 (h .0) in
+            ap number (told-zero room zero-is) ∙ ap (λ (n : ℕ). 2 ^ 32 * 0 + n) (h .1))),
+      );
+    },
+    record {
+      refused = λ old broken. kept-by p old (λ z. broken (answers (length old) .1 .0 z));
+      written = λ old kept. (let zero-is = answers (length old) .1 .1 kept in
+          ap (λ (q : Paper). left q old) (text-is (length old) zero-is) ∙ over-fits text old (fits-by (length old) zero-is));
+    },
+  )
     where
       by-which : (room : ℕ) → (n : ℕ) × ((toldPaper p room .which ≡ 0) ⊎ (toldPaper p room .which ≡ 100 + n))
           → (n : ℕ) × (k : ℕ) × (k < 2 ^ 32) × ((number (toldPaper p room) ≡ 2 ^ 32 * 0 + k) ⊎ (number (toldPaper p room) ≡ 2 ^ 32 * (100 + n) + k))
@@ -125,12 +133,12 @@ module _ (B : List Rule) (text : List ℕ) where
       ]
 
   answered-bad : (n k : ℕ) → (n ≡ 0 → ⊥) → k < 2 ^ 32 → Comes B n k
-      → Answered rules text (λ room. number (toldPaper (refused n k) room)) (λ old. left (refused n k) old)
+      → Does (refused n k)
   answered-bad n k some small comes =
       owes (refused n k) (λ room. refusal-answers (comes-before some comes (roomTable text room)) some) (λ room. small) (λ room z. absurd (omega arith))
       (λ room. (n, inr refl))
 
-  answered-good : Kept B → length text < 2 ^ 32 → Answered rules text (λ room. number (toldPaper (written text) room)) (λ old. left (written text) old)
+  answered-good : Kept B → length text < 2 ^ 32 → Does (written text)
   answered-good kept small =
       owes (written text) (λ room. by-room room (leb (length text) room) refl)
       (λ room. told-cases text room (λ t. t .carries < 2 ^ 32) small small) (λ room z. refl)
@@ -141,11 +149,15 @@ module _ (B : List Rule) (text : List ℕ) where
       by-room room true fits = accepted-answers {k = 0} (comes-behind B kept (next (breaks-kept (breaks-leb (length text) room) fits) none)) (length text)
       by-room room false short = refusal-answers (comes-behind B kept (here (breaks-leb (length text) room .breaks short) refl refl)) (λ e. omega arith)
 
-  pub settled-answered : (p : Paper) → Settled B p text → Answered rules text (λ room. number (toldPaper p room)) (λ old. left p old)
-  settled-answered p (settled-bad n k some small comes is) =
-      subst (λ (q : Paper). Answered rules text (λ room. number (toldPaper q room)) (λ old. left q old)) (sym is) (answered-bad n k some small comes)
-  settled-answered p (settled-good kept small is) =
-      subst (λ (q : Paper). Answered rules text (λ room. number (toldPaper q room)) (λ old. left q old)) (sym is) (answered-good kept small)
+  settled-does : (p : Paper) → Settled B p text → Does p
+  settled-does p (settled-bad n k some small comes is) = subst Does (sym is) (answered-bad n k some small comes)
+  settled-does p (settled-good kept small is) = subst Does (sym is) (answered-good kept small)
+
+  pub settled-answered : (p : Paper) → Settled B p text → Answered rules text (λ room. number (toldPaper p room))
+  settled-answered p settled = settled-does p settled .0
+
+  pub settled-left : (p : Paper) → Settled B p text → Leaves rules text (λ old. left p old)
+  settled-left p settled = settled-does p settled .1
 
 -- ---- lent records
 
@@ -244,9 +256,13 @@ module _ (rs cs : List ℕ) where
           let odd = eqb-false (length rs % 28) 0 e in
           settled-bad 8 0 (λ z. omega arith) (omega arith) (odd-records-come rs cs odd) (odd-records rs cs odd)
 
-  pub why-records-answered : Answered (whyRecordsTable rs cs) (whyRecordsText rs cs) (whyRecordsNumber rs cs) (whyRecordsLeft rs cs)
-  unfolding whyRecordsTable whyRecordsNumber whyRecordsLeft
+  pub why-records-answered : Answered (whyRecordsTable rs cs) (whyRecordsText rs cs) (whyRecordsNumber rs cs)
+  unfolding whyRecordsTable whyRecordsNumber
   why-records-answered = settled-answered (lentTable rs cs) (whyRecordsText rs cs) (whyRecords rs cs) records-settled
+
+  pub why-records-left : Leaves (whyRecordsTable rs cs) (whyRecordsText rs cs) (whyRecordsLeft rs cs)
+  unfolding whyRecordsTable whyRecordsLeft
+  why-records-left = settled-left (lentTable rs cs) (whyRecordsText rs cs) (whyRecords rs cs) records-settled
 
 -- ---- how long the listing of a core is
 
@@ -396,9 +412,13 @@ module _ (sheet : List ℕ) (core : ℕ) where
       ]
       by (suc n) e = unread-settled (λ z. omega arith)
 
-  pub why-core-answered : Answered (whyCoreTable sheet core) (whyCoreText sheet core) (whyCoreNumber sheet core) (whyCoreLeft sheet core)
-  unfolding whyCoreTable whyCoreNumber whyCoreLeft
+  pub why-core-answered : Answered (whyCoreTable sheet core) (whyCoreText sheet core) (whyCoreNumber sheet core)
+  unfolding whyCoreTable whyCoreNumber
   why-core-answered = settled-answered base (whyCoreText sheet core) (whyCore sheet core) core-settled
+
+  pub why-core-left : Leaves (whyCoreTable sheet core) (whyCoreText sheet core) (whyCoreLeft sheet core)
+  unfolding whyCoreTable whyCoreLeft
+  why-core-left = settled-left base (whyCoreText sheet core) (whyCore sheet core) core-settled
 
 -- ---- the demand at a length
 

@@ -4,8 +4,9 @@
 --   lentTable rs cs          "A length that isn't a multiple of .. 28 bytes, or costs that aren't .. 36 bytes, is 8, checked first"; then the records' rules
 --   whyRecordsTable rs cs room      the same, then 10 for the listing that says why (document 02, E1)
 --   whyCoreTable sheet core room    the sheet's own rules, then 1 where the machine has no such core, then 10
---   Answered t text a h      what a function that writes the text answers by the table t: what can come at all, each refusal exactly where the table gives it, the text's
---                            length exactly where none is broken; a refusal leaves the buffer, and a text stands at its front
+--   Answered t text a        what a function that writes a text answers by the table t: what can come at all, each refusal exactly where the table gives it, and the
+--                            text's length exactly where no rule is broken
+--   Leaves t text h          what it leaves in the buffer: what it held, where it refuses; else the text at its front, and the bytes beyond it as they were
 --   sheetTable sheet room    "9 first, then the first bad line from the top .. Then 7, then 10", with the length needed
 use mathlib.Core.Path.{_≡_}
 use mathlib.Core.Logic.{_⊎_, _↔_}
@@ -49,10 +50,13 @@ sheetTable sheet room =
 
 -- ---- what a function that writes a text into a lent buffer promises
 
--- `answer room` is the number that it gives back in a buffer of so many bytes, and `holds old` what the buffer, which held old, then holds
-pub record Answered (table : ℕ → List Rule) (text : List ℕ) (answer : ℕ → ℕ) (holds : List ℕ → List ℕ) : Type 0 where
+-- `answer room` is the number that it gives back in a buffer of so many bytes
+pub record Answered (table : ℕ → List Rule) (text : List ℕ) (answer : ℕ → ℕ) : Type 0 where
   pub comes : (room : ℕ) → (n : ℕ) × (k : ℕ) × (k < 2 ^ 32) × ((answer room ≡ 2 ^ 32 * 0 + k) ⊎ (answer room ≡ 2 ^ 32 * (100 + n) + k))
   pub refused : (room n k : ℕ) → k < 2 ^ 32 → (answer room ≡ 2 ^ 32 * (100 + n) + k) ↔ Gives (table room) n k
   pub taken : (room k : ℕ) → k < 2 ^ 32 → (answer room ≡ 2 ^ 32 * 0 + k) ↔ (Kept (table room) × (length text ≡ k))
-  pub kept-buffer : (old : List ℕ) → Not (Kept (table (length old))) → holds old ≡ old
-  pub written-buffer : (old : List ℕ) → Kept (table (length old)) → holds old ≡ text ++ drop (length text) old
+
+-- `holds old` is what the buffer, which held old, then holds
+pub record Leaves (table : ℕ → List Rule) (text : List ℕ) (holds : List ℕ → List ℕ) : Type 0 where
+  pub refused : (old : List ℕ) → Not (Kept (table (length old))) → holds old ≡ old
+  pub written : (old : List ℕ) → Kept (table (length old)) → holds old ≡ text ++ drop (length text) old

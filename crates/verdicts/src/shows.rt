@@ -83,12 +83,12 @@ pub fn show_span(core: &[u64; CORE_NUMBERS], n: usize, b: u64, a: u64, l: u64) -
             }
         }
         Found::Nothing => {
-            let t = least_slack(core, n, b, w, a, l);
-            let total = demand_at(core, n, b, w, t);
+            let least = least_slack(core, n, b, w, a, l);
+            let total = demand_at(core, n, b, w, least);
             Shown {
                 verdict: Verdict::Passes,
-                length: t,
-                blocking: blocking_at(b, w, t),
+                length: least,
+                blocking: blocking_at(b, w, least),
                 total: total,
             }
         }
