@@ -79,8 +79,11 @@ fn standard(argument: &Arg) -> bool {
 
 /// An argument as it is written.
 fn called(argument: &Arg) -> String {
-    let value = argument.get_value_names().and_then(|names| names.first());
-    match (argument.get_short(), argument.get_long(), value) {
+    let values = argument.get_value_names().map(|names| {
+        let names: Vec<&str> = names.iter().map(AsRef::as_ref).collect();
+        names.join(" ")
+    });
+    match (argument.get_short(), argument.get_long(), values) {
         (Some(short), _, Some(value)) => format!("-{short} {value}"),
         (None, Some(long), Some(value)) => format!("--{long} {value}"),
         (Some(short), Some(long), None) => format!("-{short}, --{long}"),
