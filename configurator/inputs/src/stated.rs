@@ -3,6 +3,8 @@
 use std::fs;
 use std::path::{Path, PathBuf};
 
+use plain::sheet::Sheet;
+
 /// A folder of `tests/data`.
 #[must_use]
 pub fn data(folder: &str) -> PathBuf {
@@ -35,4 +37,14 @@ pub fn cases(folder: &str, ending: &str) -> Vec<String> {
         .collect();
     names.sort();
     names
+}
+
+/// The splits that the oracle's walk over a sheet tries at most, which says how long it takes: it splits
+/// at most once at each core but the last and once a task, and tries each multiple of the grain below C.
+#[must_use]
+pub fn candidates(sheet: &Sheet) -> u64 {
+    let grain = sheet.machine.grain;
+    let tries = sheet.tasks.iter().map(|t| (t.times.budget - 1) / grain);
+    let splits = (sheet.machine.cores - 1).min(sheet.tasks.len() as u64);
+    splits * tries.max().unwrap_or(0)
 }

@@ -39,16 +39,17 @@ impl Core {
         }
     }
 
-    /// The interrupts of all pieces within t: 000, equation 8, and those that wake last pieces.
+    /// The interrupts of a piece within t: 000, equation 8, and those that wake a last piece.
+    #[must_use]
+    pub fn interrupts_of(&self, p: &Piece, t: u64) -> u64 {
+        ceil(t + p.jitter, p.period) * self.costs.release()
+            + ceil(t + self.costs.ipij, p.period) * p.ipi(&self.costs)
+    }
+
+    /// The interrupts of all pieces within t.
     #[must_use]
     pub fn interrupts(&self, t: u64) -> u64 {
-        self.pieces
-            .iter()
-            .map(|p| {
-                ceil(t + p.jitter, p.period) * self.costs.release()
-                    + ceil(t + self.costs.ipij, p.period) * p.ipi(&self.costs)
-            })
-            .sum()
+        self.pieces.iter().map(|p| self.interrupts_of(p, t)).sum()
     }
 
     /// The demand g(t).

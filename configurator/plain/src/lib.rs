@@ -1,6 +1,7 @@
-//! The oracle: document 01 done the naive way, for tests to compare the library with.
+//! The oracle: document 01 and request E1 of document 02 done the naive way, for tests to compare the
+//! library with.
 //!
-//! It is written from document 01 alone: it uses nothing of the front end, not even its types, and
+//! It is written from these documents alone: it uses nothing of the front end, not even its types, and
 //! never calls the library. Clarity goes before speed: the verdict looks at every length of the
 //! judged span, and the walk tries every x from above.
 //!
@@ -14,6 +15,7 @@
 //! - [`walk`]: packing order, split and the C=D walk.
 //! - [`listing`]: a plan as text.
 //! - [`desk`]: the three edits, and scripts of them.
+//! - [`why`]: the reasons for a verdict.
 
 #![deny(missing_docs)]
 #![forbid(unsafe_code)]
@@ -29,3 +31,4 @@ pub mod sheet;
 pub mod task;
 pub mod verdict;
 pub mod walk;
+pub mod why;

@@ -17,11 +17,7 @@ pub fn of_plan(sheet: &Sheet, plan: &Plan) -> Vec<u8> {
     for (core, row) in (1..).zip(&plan.rows) {
         for placed in row {
             let piece = &placed.piece;
-            let kind = match piece.kind {
-                Kind::Whole => "whole",
-                Kind::First => "first",
-                Kind::Last => "last",
-            };
+            let kind = kind_word(piece.kind);
             text.extend(format!("piece\t{core}\t").bytes());
             text.extend(&sheet.tasks[placed.task].name);
             let (budget, window, jitter) = (piece.budget, piece.window, piece.jitter);
@@ -30,6 +26,16 @@ pub fn of_plan(sheet: &Sheet, plan: &Plan) -> Vec<u8> {
         }
     }
     text
+}
+
+/// A kind's word.
+#[must_use]
+pub fn kind_word(kind: Kind) -> &'static str {
+    match kind {
+        Kind::Whole => "whole",
+        Kind::First => "first",
+        Kind::Last => "last",
+    }
 }
 
 /// From the bytes of a sheet to those of its listing.
@@ -49,10 +55,18 @@ pub fn of_sheet(bytes: &[u8], way: Way) -> Result<Vec<u8>, Refusal> {
 ///
 /// The sheet's refusal, 7, or 10 with the length needed; the buffer then stays as it is.
 pub fn write(bytes: &[u8], buffer: &mut [u8], way: Way) -> Result<usize, Refusal> {
-    let text = of_sheet(bytes, way)?;
+    put(&of_sheet(bytes, way)?, buffer)
+}
+
+/// Puts a text in a lent buffer's first bytes, and gives its length.
+///
+/// # Errors
+///
+/// 10 with the length needed; the buffer then stays as it is.
+pub fn put(text: &[u8], buffer: &mut [u8]) -> Result<usize, Refusal> {
     let needed = u32::try_from(text.len()).unwrap_or(u32::MAX);
     let too_short = Refusal::new(10, needed);
     let lent = buffer.get_mut(..text.len()).ok_or(too_short)?;
-    lent.copy_from_slice(&text);
+    lent.copy_from_slice(text);
     Ok(text.len())
 }

@@ -45,6 +45,27 @@ fn by_density(a: &Times, b: &Times) -> Ordering {
 ///
 /// 7, with the place from 1 in the task list of the task at which the walk sticks.
 pub fn walk(sheet: &Sheet, way: Way) -> Result<Plan, Refusal> {
+    walk_through(sheet, way).map_err(|stuck| {
+        let place = u32::try_from(stuck.task + 1).unwrap_or(u32::MAX);
+        Refusal::new(7, place)
+    })
+}
+
+/// Where a walk sticks.
+#[derive(Clone, Debug, PartialEq, Eq)]
+pub struct Stuck {
+    /// The place, from 0, in the task list of the task that has no room.
+    pub task: usize,
+    /// The row of the last core as it then stands, without that task.
+    pub row: Vec<Placed>,
+}
+
+/// The plan of the walk over all tasks, as [`walk`].
+///
+/// # Errors
+///
+/// Where it sticks.
+pub fn walk_through(sheet: &Sheet, way: Way) -> Result<Plan, Stuck> {
     let mut walk = Walk {
         sheet,
         way,
@@ -70,7 +91,7 @@ struct Walk<'a> {
 impl Walk<'_> {
     /// Places a task: whole at the core that the walk stands at, or split between this and the next,
     /// or by the same rules from the next core on.
-    fn place(&mut self, task: usize) -> Result<(), Refusal> {
+    fn place(&mut self, task: usize) -> Result<(), Stuck> {
         let times = &self.sheet.tasks[task].times;
         loop {
             let core = self.core();
@@ -80,8 +101,8 @@ impl Walk<'_> {
                 return Ok(());
             }
             if self.rows.len() as u64 == self.sheet.machine.cores {
-                let place = u32::try_from(task + 1).unwrap_or(u32::MAX);
-                return Err(Refusal::new(7, place));
+                let row = self.rows.last().cloned().unwrap_or_default();
+                return Err(Stuck { task, row });
             }
             match greatest_split(&core, times, self.sheet.machine.grain, self.way) {
                 Some((first, last)) => {

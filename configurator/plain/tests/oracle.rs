@@ -7,6 +7,7 @@ use std::fs;
 
 use inputs::cores::{piece, Draw};
 use inputs::sheets::{damaged, LISTING, SHEET, SMALL};
+use inputs::stated::candidates;
 use inputs::{bytes, cases, data, Random};
 use plain::demand::Core;
 use plain::piece::{Costs, Kind, Piece};
@@ -33,15 +34,6 @@ fn small_cores(each: u64, mut look: impl FnMut(&Core, u64, &mut Random)) {
             look(&draw.core(&mut random), draw.period, &mut random);
         }
     }
-}
-
-/// The splits that a walk tries at most: it splits at most once at each core but the last and once
-/// a task, and tries each multiple of the grain below C.
-fn candidates(sheet: &Sheet) -> u64 {
-    let grain = sheet.machine.grain;
-    let tries = sheet.tasks.iter().map(|t| (t.times.budget - 1) / grain);
-    let splits = (sheet.machine.cores - 1).min(sheet.tasks.len() as u64);
-    splits * tries.max().unwrap_or(0)
 }
 
 /// The longest period of a sheet's tasks.
