@@ -76,11 +76,7 @@ pub fn no_room(refusal: Refusal, sheet: &[u8]) -> Result<Vec<String>, UnknownNum
     let listing = crate::why_core(sheet, 1)?.unwrap_or_default();
     let why = Why::parse(&listing);
     let why = why.filter(|why| why.stuck.map(|stuck| stuck.place) == Some(refusal.carries()));
-    Ok(why.map_or_else(Vec::new, |why| {
-        let sentence = words::sentence(&why, &words::subject(&why, None), "ticks");
-        let most = words::most(&why, words::task);
-        [sentence].into_iter().chain(most).collect()
-    }))
+    Ok(why.map_or_else(Vec::new, |why| words::sentences(&why, Some(1), "ticks")))
 }
 
 /// The refusal of a sheet, with the sheet's words.

@@ -150,13 +150,13 @@ fn why() -> Command {
              spardimple why examples/film-line-checkweigher.sheet\n          \
              spardimple why --table examples/film-core.table\n\n\
              For each core one length of time is named, and what is asked for within it: blocking, each\n\
-             piece's jobs due, what they ask for, its interrupts, the total, and the slack, which is the\n\
-             length minus the total. A core that passes is shown where least is left; one that is\n\
-             overloaded at the length of its verdict; one that is undecided at 100,000,000 ticks.\n\n\
-             If no core has room for a task, it is the last core with the whole task added, whichever\n\
-             core was asked for; the message is that of plan, and the exit status is 1.\n\n\
-             RECORDS, COSTS and a table are as for verdict. --listing prints the library's own lines,\n\
-             those of all cores one after the other; docs/LISTINGS.md has their form.",
+             piece's jobs due and what they ask for, its interrupts, the total, and the slack, which is\n\
+             the length minus the total. If the core passes, it is the length where least is left; if it\n\
+             is overloaded, the verdict's own; if it is undecided, 100,000,000 ticks.\n\n\
+             If no core has room for a task, the last core is shown with the whole task added, whichever\n\
+             CORE was asked for. The message is that of plan, and the exit status is 1. Else it is 0.\n\n\
+             RECORDS, COSTS and a table are as for verdict, and so is --exit-status. --listing prints the\n\
+             library's own lines, those of all cores one after the other; docs/LISTINGS.md has their form.",
         )
         .override_usage(
             "spardimple why [OPTIONS] SHEET [CORE]\n       \
@@ -306,7 +306,7 @@ fn told_verdict() -> Arg {
     Arg::new("exit-status")
         .long("exit-status")
         .action(ArgAction::SetTrue)
-        .help("Tells the verdict by the exit status: 0 passes, 4 overloaded, 5 undecided")
+        .help("Tells the verdict: exit status 0 passes, 4 overloaded, 5 undecided")
 }
 
 fn sheet() -> Arg {

@@ -32,20 +32,21 @@ pub const KEY: &str = r#"<p class="key">
 </p>
 "#;
 
-/// A core's figures in words, and its drawings. An empty core has none.
+/// A core's figures in words, and its drawings. It is not empty.
 #[must_use]
-pub fn figure(subject: &str, why: &Why, core: &Core, unit: &str) -> String {
-    let said = words::sentence(why, subject, unit);
-    let most = words::most(why, words::task);
-    let most = most.map_or_else(String::new, |most| sentence("", &most));
-    let mut html = format!(
-        "<figure class=\"demand\">\n<figcaption>\n{}{most}</figcaption>\n<div class=\"plots\">\n",
-        sentence("", &said)
+pub fn figure(at: usize, why: &Why, core: &Core, unit: &str) -> String {
+    let said = words::sentences(why, Some(at), unit);
+    let said: String = said.iter().map(|said| sentence("", said)).collect();
+    let title = format!(
+        "{}: what is asked for within lengths up to",
+        words::subject(why, Some(at)).replace('`', "")
     );
-    for end in ends(why.length, core.largest_window) {
-        html.push_str(&Plot::new(why, core, end).drawn(subject, unit));
-    }
-    html + "</div>\n</figure>\n"
+    let ends = ends(why.length, core.largest_window).into_iter();
+    let plots = ends.map(|end| Plot::new(why, core, end).drawn(&title, unit));
+    format!(
+        "<figure class=\"demand\">\n<figcaption>\n{said}</figcaption>\n<div class=\"plots\">\n{}</div>\n</figure>\n",
+        plots.collect::<String>()
+    )
 }
 
 /// Where the drawings of a core end. The last has both the named length and the largest window in it;
@@ -95,19 +96,15 @@ impl<'a> Plot<'a> {
         100.0 - HEIGHT * share(demand.min(self.up.end()), self.up.end())
     }
 
-    fn drawn(&self, subject: &str, unit: &str) -> String {
-        let end = self.across.end();
-        let digits = self
-            .up
-            .numbers()
-            .last()
-            .map_or(1, |(number, _)| digits(number));
+    fn drawn(&self, title: &str, unit: &str) -> String {
+        let greatest = self.up.numbers().last().map_or(0, |(number, _)| number);
         format!(
-            "<div class=\"plot\" style=\"--digits: {digits}ch\">\n{}\n\
-             <svg class=\"plane\" role=\"img\"><title>{}: what is asked for within lengths up to {end} {}</title>{}{}{}</svg>\n\
-             {}\n</div>\n",
+            "<div class=\"plot\" style=\"--digits: {}ch\">\n{}\n\
+             <svg class=\"plane\" role=\"img\"><title>{} {} {}</title>{}{}{}</svg>\n{}\n</div>\n",
+            greatest.to_string().len(),
             self.levels(),
-            escaped(&subject.replace('`', "")),
+            escaped(title),
+            self.across.end(),
             escaped(unit),
             self.ground(),
             self.stairs(),
@@ -214,11 +211,6 @@ impl<'a> Plot<'a> {
              <text class=\"{side}\" x=\"{x:.3}%\" y=\"10\">{said}</text></g>"
         )
     }
-}
-
-/// How many digits a number has.
-fn digits(number: u64) -> usize {
-    number.to_string().len()
 }
 
 #[cfg(test)]

@@ -55,7 +55,7 @@ fn subcommand(page: &mut String, sub: &Command) {
     let arguments: Vec<&Arg> = sub.get_arguments().filter(|arg| !standard(arg)).collect();
     for argument in &arguments {
         let name = escaped(&called(argument));
-        let _ = if argument.is_positional() {
+        let _ = if argument.is_positional() && argument.is_required_set() {
             write!(page, " {name}")
         } else {
             write!(page, " [{name}]")

@@ -49,7 +49,7 @@ fn show(given: &ArgMatches, sheet: &Path, streams: &mut Streams) -> Result<Statu
 }
 
 /// The columns that every line keeps to. Only a file's name can be longer, on a line of its own.
-const COLUMNS: usize = 80;
+pub const COLUMNS: usize = 80;
 
 /// What stands before each line of a table.
 pub const INDENT: &str = "  ";

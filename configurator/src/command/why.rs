@@ -9,7 +9,7 @@ use super::json::{self, Asked, Fields};
 use super::show::Paint;
 use super::{cli, files, quoted, reasons, Failure, Status, Streams};
 use crate::explain::{self, Explained};
-use crate::why::{Stuck, Verdict, Why};
+use crate::why::{words, Stuck, Verdict, Why};
 use crate::{why_core, why_records, Refusal};
 use clap::ArgMatches;
 use std::path::Path;
@@ -113,9 +113,10 @@ fn of_sheet(given: &ArgMatches, sheet: &Path, streams: &mut Streams) -> Result<S
         cores: cores.collect::<Result<_, Failure>>()?,
     };
     let refused = told.stuck().map(|stuck| {
-        // the figures follow on standard output
-        let why = explain::refused(Refusal::new(7, stuck.place), &bytes);
+        let mut why = explain::refused(Refusal::new(7, stuck.place), &bytes);
+        // the figures follow on standard output, in words too
         streams.say(&why.message(&name));
+        why.no_room = words::sentences(&told.cores[0].1, Some(stuck.core), "ticks");
         json::refused(&name, &why)
     });
     print(given, &told, &texts, begun, refused, streams)

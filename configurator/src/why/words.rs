@@ -6,8 +6,8 @@ use super::{Share, Verdict, Why};
 /// The most pieces that are named as those that ask most.
 const NAMED: usize = 3;
 
-/// Whose verdict it is, as a sentence begins: the core of that number with what was added to it, or the
-/// one core that records are.
+/// What a core is asked for, as sentences: the verdict with its figures, and the pieces that ask most. A
+/// core without a number, which is no sheet's, has records for pieces.
 ///
 /// ```
 /// use configurator::why::{words, Why};
@@ -19,19 +19,25 @@ const NAMED: usize = 3;
 /// total\t10
 /// slack\t-1
 /// ";
-/// let why = Why::parse(stuck).unwrap();
-/// let core = words::subject(&why, Some(1));
-/// assert_eq!(core, "core 1 with the whole of `feed`");
 /// assert_eq!(
-///     words::sentence(&why, &core, "ticks"),
-///     "core 1 with the whole of `feed` is overloaded: within 9 ticks 10 are asked for, 1 too many; \
-///      a shorter length may lack more"
-/// );
-/// assert_eq!(
-///     words::most(&why, words::task).unwrap(),
-///     "most is asked by `press` (5 in 1 job) and `feed` (5 in 1 job)"
+///     words::sentences(&Why::parse(stuck).unwrap(), Some(1), "ticks"),
+///     [
+///         "core 1 with the whole of `feed` is overloaded: within 9 ticks 10 are asked for, 1 too many; \
+///          a shorter length may lack more",
+///         "most is asked by `press` (5 in 1 job) and `feed` (5 in 1 job)",
+///     ]
 /// );
 /// ```
+#[must_use]
+pub fn sentences(why: &Why, core: Option<usize>, unit: &str) -> Vec<String> {
+    let (subject, verdict) = (subject(why, core), verdict(why));
+    let first = format!("{subject} {verdict}: {}", figures(why, unit));
+    let named = if core.is_some() { task } else { record };
+    [first].into_iter().chain(most(why, named)).collect()
+}
+
+/// Whose verdict it is: the core of that number with what was added to it, or the one core that records
+/// are.
 #[must_use]
 pub fn subject(why: &Why, core: Option<usize>) -> String {
     match (&why.stuck, core) {
@@ -51,41 +57,31 @@ pub const fn verdict(why: &Why) -> &'static str {
     }
 }
 
-/// What decides it: the length, what is asked for within it, and how much is left or too many. Each
-/// part has room on a terminal's line.
+/// What decides it: the length, what is asked for within it, and how much is left or too many.
 #[must_use]
-pub fn figures(why: &Why, unit: &str) -> Vec<String> {
+pub fn figures(why: &Why, unit: &str) -> String {
     let sum = match why.sum {
         Some(sum) => sum,
-        None => return vec!["it has no pieces".to_owned()],
+        None => return "it has no pieces".to_owned(),
     };
     let (length, total, by) = (why.length, sum.total, sum.slack.unsigned_abs());
     match why.verdict {
-        Verdict::Passes => vec![format!(
-            "nearest to its limit within {length} {unit}, with {total} asked for and {by} to spare"
-        )],
+        Verdict::Passes => format!(
+            "nearest to its limit within {length} {unit}: {total} asked for, {by} to spare"
+        ),
         // the verdict's own length is the longest that lacks time
-        Verdict::Overloaded => vec![
-            format!("within {length} {unit} {total} are asked for, {by} too many"),
-            "a shorter length may lack more".to_owned(),
-        ],
-        Verdict::Undecided => vec![
-            format!("more work than time in every length up to {length} {unit}"),
-            format!("within that {total} are asked for, {by} too many"),
-        ],
+        Verdict::Overloaded => format!(
+            "within {length} {unit} {total} are asked for, {by} too many; a shorter length may lack more"
+        ),
+        Verdict::Undecided => format!(
+            "more work than time in every length up to {length} {unit}; \
+             within that {total} are asked for, {by} too many"
+        ),
     }
 }
 
-/// Subject, verdict and figures as one sentence.
-#[must_use]
-pub fn sentence(why: &Why, subject: &str, unit: &str) -> String {
-    let figures = figures(why, unit).join("; ");
-    format!("{subject} {}: {figures}", verdict(why))
-}
-
-/// The pieces that ask most, and the blocking beside them; nothing of an empty core.
-#[must_use]
-pub fn most(why: &Why, named: fn(&Share) -> String) -> Option<String> {
+/// The pieces that ask most, and the blocking beside them; nothing where no piece asks for anything.
+fn most(why: &Why, named: fn(&Share) -> String) -> Option<String> {
     let greatest = why.greatest();
     let of = |share: &&Share| {
         let jobs = match share.jobs {
@@ -112,14 +108,12 @@ pub fn most(why: &Why, named: fn(&Share) -> String) -> Option<String> {
 }
 
 /// A task, as it is quoted.
-#[must_use]
-pub fn task(share: &Share) -> String {
+fn task(share: &Share) -> String {
     format!("`{}`", share.name)
 }
 
 /// A lent record, by its place.
-#[must_use]
-pub fn record(share: &Share) -> String {
+fn record(share: &Share) -> String {
     format!("record {}", share.name)
 }
 
@@ -129,8 +123,8 @@ mod tests {
 
     fn said(listing: &str) -> (String, Option<String>) {
         let why = Why::parse(listing.as_bytes()).unwrap();
-        let sentence = sentence(&why, &subject(&why, None), "us");
-        (sentence, most(&why, record))
+        let mut said = sentences(&why, None, "us").into_iter();
+        (said.next().unwrap(), said.next())
     }
 
     #[test]
@@ -149,7 +143,8 @@ mod tests {
         assert_eq!(
             said(k8),
             (
-                "the core passes: nearest to its limit within 101 us, with 18 asked for and 83 to spare".to_owned(),
+                "the core passes: nearest to its limit within 101 us: 18 asked for, 83 to spare"
+                    .to_owned(),
                 Some("most is asked by record 1 (12 in 1 job, 6 in interrupts)".to_owned())
             )
         );

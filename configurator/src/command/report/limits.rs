@@ -1,13 +1,12 @@
 //! How near cores are to their limits, as a part of the report: in words and drawn, from the library's
 //! why listings and its demand.
 
-use crate::command::html::{table, Group};
+use crate::command::html::{escaped, table, Group};
 use crate::command::why::tables;
 use crate::command::{curve, quoted, reasons, Failure};
 use crate::demand::Core;
 use crate::listing::Listing;
 use crate::quoted::Sheet;
-use crate::why::words;
 use crate::why_core;
 use std::fmt::Write;
 
@@ -16,7 +15,7 @@ const NOTE: &str = "Across stands a length of time, upwards what the core can be
                     counted. <strong>A core passes if from the first deadline on the staircase is nowhere above the \
                     line.</strong> To the left of that no job is due, and nothing is judged.";
 
-/// Each core of a plan.
+/// Each core of a plan; nothing of a plan without pieces.
 ///
 /// # Errors
 ///
@@ -27,11 +26,13 @@ pub fn of_plan(
     listing: &Listing,
     unit: &str,
 ) -> Result<String, Failure> {
+    if listing.pieces.is_empty() {
+        return Ok(String::new());
+    }
     let mut html = section("How near each core is to its limit", unit);
     for at in 1..=sheet.cores {
         let text = asked(bytes, at)?;
         let why = reasons(&text)?;
-        let subject = words::subject(&why, Some(at));
         if why.shares.is_empty() {
             let _ = writeln!(
                 html,
@@ -39,7 +40,7 @@ pub fn of_plan(
             );
         } else {
             let core = Core::planned(at, listing, sheet, &why)?.ok_or_else(unfit)?;
-            html.push_str(&curve::figure(&subject, &why, &core, unit));
+            html.push_str(&curve::figure(at, &why, &core, unit));
         }
     }
     Ok(html)
@@ -55,29 +56,28 @@ pub fn of_no_room(bytes: &[u8], unit: &str) -> Result<String, Failure> {
     let why = reasons(&text)?;
     let core = Core::stuck(&quoted(bytes)?, &why)?.ok_or_else(unfit)?;
     let mut html = section("Why there is no room", unit);
-    html.push_str(&curve::figure(
-        &words::subject(&why, None),
-        &why,
-        &core,
-        unit,
-    ));
-    let mut rows: Vec<Vec<String>> = why.shares.iter().map(tables::row).collect();
-    let last = |name: &str, figure: String| {
-        let blank = String::new();
-        vec![name.to_owned(), blank.clone(), blank.clone(), figure, blank]
-    };
+    html.push_str(&curve::figure(1, &why, &core, unit));
+    let rows = why.shares.iter().map(tables::row).collect();
+    let mut groups = vec![Group::untitled(rows)];
     if let Some(sum) = why.sum {
-        rows.push(last("blocking", why.blocking.to_string()));
-        rows.push(last("total", sum.total.to_string()));
-        rows.push(last("slack", sum.slack.to_string()));
+        let row =
+            |name: &str, figure: String| ["", "", name, &figure, ""].map(str::to_owned).to_vec();
+        groups.push(Group {
+            title: "All of these".to_owned(),
+            rows: vec![
+                row("with blocking", why.blocking.to_string()),
+                row("total", sum.total.to_string()),
+                row("slack", sum.slack.to_string()),
+            ],
+        });
     }
-    html.push_str(&table(&tables::TASK, &[Group::untitled(rows)]));
+    html.push_str(&table(&tables::TASK, &groups));
     Ok(html)
 }
 
 /// The beginning of a part.
 fn section(title: &str, unit: &str) -> String {
-    let unit = crate::command::html::escaped(unit);
+    let unit = escaped(unit);
     format!(
         "<h2>{title} <small>times in {unit}</small></h2>\n<p class=\"note\">{NOTE}</p>\n{}",
         curve::KEY

@@ -1,8 +1,8 @@
 //! What cores are asked for, as tables that a person reads on a terminal of 80 columns.
 
 use super::Told;
-use crate::command::columns;
-use crate::command::show::{heading, Paint, INDENT};
+use crate::command::columns::{self, width};
+use crate::command::show::{heading, Paint, COLUMNS, INDENT};
 use crate::why::{words, Share, Why};
 use std::fmt::Write;
 
@@ -22,12 +22,27 @@ pub fn text(told: &Told, paint: Paint) -> String {
     for (core, why) in &told.cores {
         let (subject, verdict) = (words::subject(why, *core), words::verdict(why));
         let _ = writeln!(text, "\n{} {verdict}", paint.on(Paint::BOLD, &subject));
-        for figures in words::figures(why, told.unit) {
-            let _ = writeln!(text, "{INDENT}{figures}");
+        for line in wrapped(&words::figures(why, told.unit)) {
+            let _ = writeln!(text, "{INDENT}{line}");
         }
         pieces(&mut text, why, core.is_some(), paint);
     }
     text
+}
+
+/// A sentence as lines that have room on a terminal.
+fn wrapped(sentence: &str) -> Vec<String> {
+    let mut lines: Vec<String> = Vec::new();
+    for word in sentence.split(' ') {
+        match lines.last_mut() {
+            Some(line) if INDENT.len() + width(line) + 1 + width(word) <= COLUMNS => {
+                line.push(' ');
+                line.push_str(word);
+            }
+            _ => lines.push(word.to_owned()),
+        }
+    }
+    lines
 }
 
 /// A core's rows, and the sum below them.
