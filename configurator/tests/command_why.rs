@@ -89,8 +89,8 @@ fn no_room() {
   no room for task 12, `checkweigher`; times in ticks
 
 core 3 with the whole of `checkweigher` is overloaded
-  within 52829 ticks 52830 are asked for, 1 too many; a shorter length may lack
-  more
+  within 52829 ticks 52830 are asked for, 1 too many;
+  a shorter length may lack more
   task           kind   jobs due  demand  interrupts
   jaw-cross      last         53   14045        1590
   mark-register  whole        14    2870         210
@@ -209,8 +209,8 @@ fn one_core() {
   with blocking 4: total 12, slack -1
 ";
     let k4 = "the core is undecided
-  more work than time in every length up to 100000000 ticks; within that
-  120000000 are asked for, 20000000 too many
+  more work than time in every length up to 100000000 ticks;
+  within that 120000000 are asked for, 20000000 too many
   record  kind   jobs due    demand  interrupts
        1  whole  10000000  60000000           0
        2  whole  10000000  60000000           0
@@ -341,11 +341,12 @@ fn tables_fit_a_terminal() {
     let narrow = "machine\t1\t1\ncost\t100000\t100000\t100000\t100000\t0\t0\t0\t0\t0\n\
                   part\tp\t1\t1\t1\t1000000\t100000\t100000\n\
                   fit\tabcdefghijklmnopqrstuvwx\tp\nfit\tabcdefghijklmnopqrstuvwX\tp\n";
-    for (sheet, ends) in [(widest(), 0), (narrow.to_owned(), 1)] {
-        let why = spardimple_fed(
-            &["why", "--unit", "刻刻刻刻刻刻刻刻", "-"],
-            sheet.as_bytes(),
-        );
+    let wide = "machine\t1\t1\ncost\t0\t0\t0\t0\t0\t0\t0\t0\t0\n\
+                part\tp\t499999\t1000000\t1000000\t0\t0\t0\n\
+                fit\tabcdefghijklmnopqrstuvwx\tp\nfit\tabcdefghijklmnopqrstuvwX\tp\n";
+    for (sheet, ends) in [(wide, 0), (narrow, 1)] {
+        let unit = "刻刻刻刻刻刻刻刻"; // two columns each
+        let why = spardimple_fed(&["why", "--unit", unit, "-"], sheet.as_bytes());
         assert_eq!(status(&why), ends);
         for line in text(&why.stdout).lines() {
             assert!(width(line) <= 80, "{} columns: {line}", width(line));

@@ -82,7 +82,7 @@ fn on_a_desk_and_on_a_phone() {
             "film-line-checkweigher",
             example(&folder, "film-line-checkweigher", 1).1,
         ),
-        ("undecided", made(&folder, "undecided", &undecided(), 1).1),
+        ("late", made(&folder, "late", &undecided(), 1).1),
         ("widest", made(&folder, "widest", &widest(), 0).1),
         ("tallest", made(&folder, "tallest", &tallest(), 0).1),
         ("no-tasks", made(&folder, "no-tasks", none, 0).1),
@@ -128,7 +128,7 @@ fn on_a_desk_and_on_a_phone() {
                  style=\"border: 0\" src=\"film-line.html\"></iframe>";
     fs::write(folder.join("phone.html"), phone).unwrap();
     picture(&folder.join("phone.html"), "phone.png", "500,1500");
-    for name in ["film-line-checkweigher", "undecided"] {
+    for name in ["film-line-checkweigher", "late"] {
         let (page, shown) = (format!("{name}.html"), format!("{name}.png"));
         picture(&folder.join(page), &shown, "1100,1500");
     }
@@ -136,10 +136,9 @@ fn on_a_desk_and_on_a_phone() {
 
 /// A sheet with no room, whose last core would be undecided by much: all numbers are long.
 fn undecided() -> String {
-    let task = "whole-time-of-this-core-1".replace("-1", "");
-    format!(
-        "machine\t1\t1\ncost\t100000\t0\t0\t0\t0\t0\t0\t0\t0\npart\tp\t1\t1\t1\t1000000\t100000\t0\nfit\t{task}\tp\n"
-    )
+    "machine\t1\t1\ncost\t100000\t0\t0\t0\t0\t0\t0\t0\t0\npart\tp\t1\t1\t1\t1000000\t100000\t0\n\
+     fit\ttask-00-sealing-jaw-cros\tp\n"
+        .to_owned()
 }
 
 /// A word on paper.

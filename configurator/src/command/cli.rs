@@ -306,7 +306,7 @@ fn told_verdict() -> Arg {
     Arg::new("exit-status")
         .long("exit-status")
         .action(ArgAction::SetTrue)
-        .help("Tells the verdict: exit status 0 passes, 4 overloaded, 5 undecided")
+        .help("Exit status 0 if the core passes, 4 overloaded, 5 undecided")
 }
 
 fn sheet() -> Arg {

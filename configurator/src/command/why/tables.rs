@@ -5,6 +5,7 @@ use crate::command::columns::{self, width};
 use crate::command::show::{heading, Paint, COLUMNS, INDENT};
 use crate::why::{words, Share, Why};
 use std::fmt::Write;
+use std::mem;
 
 /// The headers of a task's piece.
 pub const TASK: [&str; 5] = ["<task", "<kind", "jobs due", "demand", "interrupts"];
@@ -30,17 +31,26 @@ pub fn text(told: &Told, paint: Paint) -> String {
     text
 }
 
-/// A sentence as lines that have room on a terminal.
+/// A sentence as lines that have room on a terminal: where it is too long, its parts stand below each
+/// other.
 fn wrapped(sentence: &str) -> Vec<String> {
+    let fits = |text: &str| INDENT.len() + width(text) <= COLUMNS;
+    let parts: Vec<&str> = if fits(sentence) {
+        vec![sentence]
+    } else {
+        sentence.split_inclusive("; ").map(str::trim_end).collect()
+    };
     let mut lines: Vec<String> = Vec::new();
-    for word in sentence.split(' ') {
-        match lines.last_mut() {
-            Some(line) if INDENT.len() + width(line) + 1 + width(word) <= COLUMNS => {
-                line.push(' ');
-                line.push_str(word);
+    for part in parts {
+        let mut line = String::new();
+        for word in part.split(' ') {
+            if !line.is_empty() && !fits(&format!("{line} {word}")) {
+                lines.push(mem::take(&mut line));
             }
-            _ => lines.push(word.to_owned()),
+            let between = if line.is_empty() { "" } else { " " };
+            line = line + between + word;
         }
+        lines.push(line);
     }
     lines
 }
