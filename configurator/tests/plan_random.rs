@@ -10,7 +10,7 @@ use std::cell::RefCell;
 use common::listings::Tally;
 use common::refusal;
 use configurator::Refusal;
-use inputs::sheets::{full_load, SheetDraw, SHEET, SMALL};
+use inputs::sheets::{full_load, LONG, SHEET, SMALL};
 use inputs::strategies::{self, smallest_failure};
 use inputs::{rounds, Random};
 use plain::listing;
@@ -55,17 +55,10 @@ fn full_loads() {
 fn long_times() {
     let mut random = Random::for_test();
     let mut tally = Tally::default();
-    for (draw, grain) in [
-        (SheetDraw::new(8, 4_000, 20, 50), 10),
-        (SheetDraw::new(6, 50_000, 100, 500), 250),
-        (SheetDraw::new(16, 1_000_000, 500, 20_000), 5_000),
-    ] {
+    for (draw, grain) in LONG {
         for _ in 0..rounds(200) {
-            let sheet = String::from_utf8(draw.sheet(&mut random)).unwrap();
-            let fields: Vec<&str> = sheet.splitn(3, '\t').collect();
-            let rest = fields[2].trim_start_matches(|c: char| c.is_ascii_digit());
-            let sheet = format!("machine\t{}\t{grain}{rest}", fields[1]);
-            let _ = tally.sheet(sheet.as_bytes(), Way::Stretches);
+            let sheet = draw.with_grain(grain, &mut random);
+            let _ = tally.sheet(&sheet, Way::Stretches);
         }
     }
     println!("{tally}");

@@ -7,38 +7,12 @@ mod common;
 
 use common::compare::Tally;
 use configurator::{verdict, Answer, Refusal};
-use inputs::cores::{lent, lent_costs, lent_records, Draw};
+use inputs::cores::{damage, lent, lent_costs, lent_records, Draw, NUMBERS};
 use inputs::Random;
 use plain::records::{self, COST_BYTES, RECORDS_MOST, RECORD_BYTES};
 
 /// A record within the sizes, and light, so that many fit on a core.
 const LIGHT: [u64; 7] = [0, 1, 900, 1_000, 0, 0, 0];
-
-/// Numbers that a damaged field may hold: about the sizes, and where a byte begins or ends.
-const NUMBERS: [u64; 22] = [
-    0,
-    1,
-    2,
-    3,
-    255,
-    256,
-    65_535,
-    65_536,
-    99_999,
-    100_000,
-    100_001,
-    999_999,
-    1_000_000,
-    1_000_001,
-    16_777_215,
-    16_777_216,
-    99_999_999,
-    100_000_000,
-    2_147_483_647,
-    2_147_483_648,
-    4_294_967_294,
-    4_294_967_295,
-];
 
 /// A run of that many records of one kind.
 fn run(record: [u64; 7], count: usize) -> Vec<u8> {
@@ -252,30 +226,6 @@ fn damaged_cores() {
     }
     println!("{tally}");
     assert!(tally.refused > 5_000 && tally.passes > 1_000 && tally.overloaded > 1_000);
-}
-
-/// Does one of the damages to the bytes.
-fn damage(bytes: &mut Vec<u8>, random: &mut Random) {
-    if bytes.is_empty() {
-        bytes.push(random.byte());
-        return;
-    }
-    let at = random.place(bytes.len());
-    match random.between(1, 8) {
-        1 => {
-            bytes.remove(at);
-        }
-        2 => bytes.insert(at, bytes[at]),
-        3 => bytes.truncate(at),
-        4 => bytes[at] = random.byte(),
-        5 => bytes[at] ^= 1 << random.place(8),
-        6 | 7 => bytes[at / 4 * 4] = random.byte(),
-        _ => {
-            let field = at / 4 * 4;
-            let number = random.pick(&NUMBERS);
-            bytes[field..field + 4].copy_from_slice(&lent(&[number]));
-        }
-    }
 }
 
 /// The same answer wherever in memory the bytes begin.

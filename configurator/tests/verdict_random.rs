@@ -5,10 +5,8 @@
 mod common;
 
 use common::compare::Tally;
-use inputs::cores::{piece, share_of, Draw};
+use inputs::cores::{full_load, tiny_pairs, Draw};
 use inputs::{rounds, Random};
-use plain::demand::Core;
-use plain::piece::{Costs, Kind, Piece};
 
 /// Compares that many random cores of each draw. Each kind of verdict must come up now and then, so
 /// that the draws are worth something.
@@ -75,61 +73,12 @@ fn full_loads() {
     assert!(tally.passes > 1_000 && tally.overloaded > 1_000 && tally.undecided > 100);
 }
 
-/// Pieces whose budgets fill the core, give or take a sixtieth of it.
-fn full_load(random: &mut Random) -> Core {
-    let mut left = 60; // sixtieths of the core
-    let mut pieces = Vec::new();
-    while left > 0 {
-        let (budget, period) = share_of(&mut left, random);
-        let window = if random.once_in(3) {
-            random.between(budget, period)
-        } else {
-            period
-        };
-        pieces.push(piece(Kind::Whole, (budget, window, period)));
-    }
-    if random.once_in(8) {
-        pieces.push(piece(Kind::Last, (1, 60, 60)));
-    }
-    Core {
-        costs: Costs::default(),
-        pieces,
-    }
-}
-
-/// Every pair of pieces with periods up to 3 and jitters up to 4, under costs of 0 and 1.
 #[test]
 fn all_pairs_of_tiny_pieces() {
     let mut random = Random::for_test();
     let mut tally = Tally::default();
-    let mut tiny = Vec::new();
-    for kind in [Kind::Whole, Kind::First, Kind::Last] {
-        for period in 1..=3 {
-            for window in 1..=period {
-                for budget in 1..=window {
-                    for jitter in [0, 1, 2, 4] {
-                        let free = piece(kind, (budget, window, period));
-                        tiny.push(Piece { jitter, ..free });
-                    }
-                }
-            }
-        }
-    }
-    let costs = [
-        [0, 0, 0, 0, 0, 0, 0, 0, 0],
-        [0, 0, 0, 1, 0, 0, 0, 0, 0],
-        [0, 0, 0, 0, 0, 0, 1, 2, 0],
-    ];
-    for costs in costs.map(Costs::from_numbers) {
-        for &a in &tiny {
-            for &b in &tiny {
-                let core = Core {
-                    costs,
-                    pieces: vec![a, b],
-                };
-                tally.core(&core, &mut random);
-            }
-        }
+    for core in tiny_pairs() {
+        tally.core(&core, &mut random);
     }
     println!("{tally}");
 }

@@ -78,6 +78,57 @@ pub fn lent_costs(core: &Core) -> Vec<u8> {
     lent(&core.costs.numbers())
 }
 
+/// Numbers that a damaged field may hold: about the sizes, and where a byte begins or ends.
+pub const NUMBERS: [u64; 22] = [
+    0,
+    1,
+    2,
+    3,
+    255,
+    256,
+    65_535,
+    65_536,
+    99_999,
+    100_000,
+    100_001,
+    999_999,
+    1_000_000,
+    1_000_001,
+    16_777_215,
+    16_777_216,
+    99_999_999,
+    100_000_000,
+    2_147_483_647,
+    2_147_483_648,
+    4_294_967_294,
+    4_294_967_295,
+];
+
+/// Damages lent bytes by chance: one is changed, dropped or doubled, the end is cut off, or a number
+/// becomes another.
+pub fn damage(bytes: &mut Vec<u8>, random: &mut Random) {
+    if bytes.is_empty() {
+        bytes.push(random.byte());
+        return;
+    }
+    let at = random.place(bytes.len());
+    match random.between(1, 8) {
+        1 => {
+            bytes.remove(at);
+        }
+        2 => bytes.insert(at, bytes[at]),
+        3 => bytes.truncate(at),
+        4 => bytes[at] = random.byte(),
+        5 => bytes[at] ^= 1 << random.place(8),
+        6 | 7 => bytes[at / 4 * 4] = random.byte(),
+        _ => {
+            let field = at / 4 * 4;
+            let number = random.pick(&NUMBERS);
+            bytes[field..field + 4].copy_from_slice(&lent(&[number]));
+        }
+    }
+}
+
 /// How random cores are drawn. About half of all jitters, charges and costs are 0 anyway.
 #[derive(Clone, Copy)]
 pub struct Draw {
@@ -165,4 +216,56 @@ pub fn share_of(left: &mut u64, random: &mut Random) -> (u64, u64) {
             return (budget, period);
         }
     }
+}
+
+/// A core without costs whose budgets fill it, give or take a sixtieth of it.
+pub fn full_load(random: &mut Random) -> Core {
+    let mut left = 60; // sixtieths of the core
+    let mut pieces = Vec::new();
+    while left > 0 {
+        let (budget, period) = share_of(&mut left, random);
+        let window = if random.once_in(3) {
+            random.between(budget, period)
+        } else {
+            period
+        };
+        pieces.push(piece(Kind::Whole, (budget, window, period)));
+    }
+    if random.once_in(8) {
+        pieces.push(piece(Kind::Last, (1, 60, 60)));
+    }
+    Core {
+        costs: Costs::default(),
+        pieces,
+    }
+}
+
+/// Every pair of pieces with periods up to 3 and jitters up to 4, under costs of 0 and 1.
+pub fn tiny_pairs() -> impl Iterator<Item = Core> {
+    let mut tiny = Vec::new();
+    for kind in [Kind::Whole, Kind::First, Kind::Last] {
+        for period in 1..=3 {
+            for window in 1..=period {
+                for budget in 1..=window {
+                    for jitter in [0, 1, 2, 4] {
+                        let free = piece(kind, (budget, window, period));
+                        tiny.push(Piece { jitter, ..free });
+                    }
+                }
+            }
+        }
+    }
+    let costs = [
+        [0, 0, 0, 0, 0, 0, 0, 0, 0],
+        [0, 0, 0, 1, 0, 0, 0, 0, 0],
+        [0, 0, 0, 0, 0, 0, 1, 2, 0],
+    ];
+    let pairs = tiny.len() * tiny.len();
+    costs.into_iter().flat_map(move |costs| {
+        let tiny = tiny.clone();
+        (0..pairs).map(move |pair| Core {
+            costs: Costs::from_numbers(costs),
+            pieces: vec![tiny[pair / tiny.len()], tiny[pair % tiny.len()]],
+        })
+    })
 }

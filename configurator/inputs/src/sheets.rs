@@ -123,6 +123,14 @@ pub const SMALL: [SheetDraw; 5] = [
     SheetDraw::new(16, 20, 1, 1),
 ];
 
+/// Draws of sheets with times as a controller has them, each with a grain that leaves the oracle few
+/// splits to try.
+pub const LONG: [(SheetDraw, u64); 3] = [
+    (SheetDraw::new(8, 4_000, 20, 50), 10),
+    (SheetDraw::new(6, 50_000, 100, 500), 250),
+    (SheetDraw::new(16, 1_000_000, 500, 20_000), 5_000),
+];
+
 impl SheetDraw {
     /// A draw by its numbers: cores, period, cost, jitter.
     #[must_use]
@@ -138,6 +146,19 @@ impl SheetDraw {
     /// A sheet that breaks no rule, but may be refused with 7. Its load is from light to more than
     /// the cores can take.
     pub fn sheet(&self, random: &mut Random) -> Vec<u8> {
+        self.by_lines(random).bytes()
+    }
+
+    /// The same with that grain.
+    pub fn with_grain(&self, grain: u64, random: &mut Random) -> Vec<u8> {
+        let sheet = Sheet {
+            grain,
+            ..self.by_lines(random)
+        };
+        sheet.bytes()
+    }
+
+    fn by_lines(&self, random: &mut Random) -> Sheet {
         let cores = random.between(1, self.cores);
         let grain = random.pick(&[1, 1, 1, 1, 2, 5]);
         let costs = [0; 9].map(|_: u64| self.charge(random));
@@ -149,14 +170,13 @@ impl SheetDraw {
             let part = random.between(0, parts - 1);
             (format!("t{number}"), format!("p{part}"))
         };
-        let sheet = Sheet {
+        Sheet {
             cores,
             grain,
             costs,
             parts: (0..parts).map(|number| part(number, random)).collect(),
             fits: (0..tasks).map(|number| fit(number, random)).collect(),
-        };
-        sheet.bytes()
+        }
     }
 
     /// The six numbers of a part, within the sizes. The budget is about that share of the period, in

@@ -127,10 +127,11 @@ fn slack(length: u64, demand: u64) -> i128 {
 /// It looks at every length from the first to the end, which it doesn't count in. Of several with the
 /// least slack it keeps the one that came first.
 fn least_by_every_length(core: &Core, first: u64, end: u64) -> u64 {
-    let mut least = first;
+    let (mut least, mut least_slack) = (first, slack(first, core.demand(first)));
     for t in first..end {
-        if slack(t, core.demand(t)) < slack(least, core.demand(least)) {
-            least = t;
+        let slack = slack(t, core.demand(t));
+        if slack < least_slack {
+            (least, least_slack) = (t, slack);
         }
     }
     least

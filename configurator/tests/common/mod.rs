@@ -8,6 +8,7 @@ pub mod compare;
 pub mod listings;
 pub mod long;
 pub mod page;
+pub mod why;
 
 use configurator::{Answer, Refusal};
 use plain::verdict::Verdict;
