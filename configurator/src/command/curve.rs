@@ -16,8 +16,7 @@ const HEIGHT: f64 = 90.0;
 /// The size of the staircase's own box.
 const BOX: f64 = 10_000.0;
 
-/// From this length on an axis has fewer numbers: a phone has no room for six of seven digits beside
-/// those at the left.
+/// From this number on the last one of an axis stands to the left of its line.
 const LONG: u64 = 1_000_000;
 
 /// The greatest length that the library answers for.
@@ -62,6 +61,15 @@ fn ends(named: u64, window: u64) -> Vec<u64> {
     }
 }
 
+/// How many numbers behind the 0 have room below a drawing on a phone, the longer the fewer.
+fn room(end: u64) -> u64 {
+    match end {
+        0..=99_999 => 5,
+        100_000..=9_999_999 => 3,
+        _ => 1,
+    }
+}
+
 /// One drawing.
 struct Plot<'a> {
     why: &'a Why<'a>,
@@ -80,7 +88,7 @@ impl<'a> Plot<'a> {
         Plot {
             why,
             core,
-            across: Axis::of(if end < LONG { 5 } else { 3 }, end),
+            across: Axis::of(room(end), end),
             up: Axis::new(top.max(end)),
             steps,
         }
