@@ -32,7 +32,7 @@ pub struct Core {
 pub struct Stairs {
     /// Lengths, from 0 on, each with the demand there.
     pub steps: Vec<(u64, u64)>,
-    /// Every step is there; else the lengths are evenly spaced.
+    /// Every step is there; else the lengths are evenly spaced, and the named one is among them.
     pub whole: bool,
 }
 
@@ -116,9 +116,9 @@ impl Core {
         demand_at(&self.records, &self.costs, length)
     }
 
-    /// The demand within every length up to `end`.
+    /// The demand within every length up to `end`. The one that is named is looked at in any case.
     #[must_use]
-    pub fn stairs(&self, end: u64) -> Stairs {
+    pub fn stairs(&self, end: u64, named: u64) -> Stairs {
         let at = |length| (length, self.at(length));
         let fall = self.largest_window.clamp(1, end + 1);
         let mut steps = vec![at(0)];
@@ -130,6 +130,9 @@ impl Core {
         if !whole {
             let apart = usize::try_from((end / LENGTHS).max(1)).unwrap_or(usize::MAX);
             steps = (0..=end).step_by(apart).map(at).collect();
+            steps.extend((named <= end).then(|| at(named)));
+            steps.sort_unstable();
+            steps.dedup();
         }
         Stairs { steps, whole }
     }

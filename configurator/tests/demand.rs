@@ -30,7 +30,8 @@ fn why(bytes: &[u8], core: usize) -> Vec<u8> {
 
 /// Every length of a staircase that has all steps, and the lengths that another is drawn by.
 fn compare(core: &Core, right: &demand::Core, end: u64) -> bool {
-    let stairs = core.stairs(end);
+    let named = end / 3;
+    let stairs = core.stairs(end, named);
     assert_eq!(stairs.steps[0].0, 0);
     for (at, (from, asked)) in stairs.steps.iter().enumerate() {
         assert_eq!(right.demand(*from), *asked, "at {from} of {right:?}");
@@ -42,6 +43,8 @@ fn compare(core: &Core, right: &demand::Core, end: u64) -> bool {
             assert!(next - from <= end / 400 + 1, "{from} {next}");
         }
     }
+    let at_named = stairs.steps.iter().any(|step| step.0 == named);
+    assert!(stairs.whole || at_named);
     stairs.whole
 }
 

@@ -127,7 +127,10 @@ fn look(plot: &str, core: &Core, why: &Why) -> usize {
     } else {
         let apart = usize::try_from(end / 400).unwrap().max(1);
         let at = |length| (length, core.demand(length));
-        let even: Vec<(u64, u64)> = (0..=end).step_by(apart).map(at).collect();
+        let mut even: Vec<(u64, u64)> = (0..=end).step_by(apart).map(at).collect();
+        even.extend((why.length <= end).then(|| at(why.length)));
+        even.sort_unstable();
+        even.dedup();
         let top = even.iter().map(|step| step.1).max().unwrap();
         (even, top.max(end))
     };

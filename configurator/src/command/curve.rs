@@ -22,14 +22,24 @@ const LONG: u64 = 1_000_000;
 /// The greatest length that the library answers for.
 const LENGTH_MOST: u64 = 101_000_000;
 
-/// What the lines of the drawings are.
-pub const KEY: &str = r#"<p class="key">
-<span><svg class="sample" aria-hidden="true"><path class="stairs" d="M1 15H9V10H19V6H33"/></svg>asked for within a length: g</span>
-<span><svg class="sample" aria-hidden="true"><line class="limit" x1="1" y1="17" x2="33" y2="1"/></svg>the length itself: g = t</span>
-<span><svg class="sample" aria-hidden="true"><line class="named" x1="17" x2="17" y1="0" y2="18"/><circle class="named" cx="17" cy="9" r="4"/></svg>the length that is named</span>
-<span><svg class="sample" aria-hidden="true"><rect class="unjudged" x="1" y="2" width="32" height="14"/></svg>no job is due yet, nothing is judged</span>
-</p>
-"#;
+/// What the lines and areas of the drawings are; the last is drawn only if a core does not pass.
+const KEY: [&str; 5] = [
+    r#"<path class="stairs" d="M1 15H9V10H19V6H33"/></svg>asked for within a length: g"#,
+    r#"<line class="limit" x1="1" y1="17" x2="33" y2="1"/></svg>the length itself: g = t"#,
+    r#"<line class="named" x1="17" x2="17" y2="18"/><circle class="named" cx="17" cy="9" r="4"/></svg>the length that is named"#,
+    r#"<rect class="unjudged" x="1" y="2" width="32" height="14"/></svg>no job is due yet, nothing is judged"#,
+    r#"<rect class="over" x="1" y="2" width="32" height="14"/></svg>more than fits"#,
+];
+
+/// The key of the drawings of cores that pass, or of one that does not.
+#[must_use]
+pub fn key(pass: bool) -> String {
+    let shown = &KEY[..KEY.len() - usize::from(pass)];
+    let sample =
+        |shown| format!("<span><svg class=\"sample\" aria-hidden=\"true\">{shown}</span>\n");
+    let samples: String = shown.iter().map(sample).collect();
+    format!("<p class=\"key\">\n{samples}</p>\n")
+}
 
 /// A core's figures in words, and its drawings. It is not empty.
 #[must_use]
@@ -83,7 +93,7 @@ struct Plot<'a> {
 
 impl<'a> Plot<'a> {
     fn new(why: &'a Why, core: &'a Core, end: u64) -> Self {
-        let steps = core.stairs(end).steps;
+        let steps = core.stairs(end, why.length).steps;
         let top = steps.iter().map(|step| step.1).max().unwrap_or(0);
         Plot {
             why,
@@ -146,10 +156,13 @@ impl<'a> Plot<'a> {
         svg + "</svg>"
     }
 
-    /// What lies behind the staircase: lengths that are not judged, a grid, and the line g = t.
+    /// What lies behind the staircase: what is more than fits, lengths that are not judged, a grid, and the
+    /// line g = t.
     fn ground(&self) -> String {
         let (top, unjudged) = (100.0 - HEIGHT, self.x(self.core.first_due));
-        let mut svg = format!(
+        let mut svg = self.over();
+        let _ = write!(
+            svg,
             "<rect class=\"unjudged\" y=\"{top}%\" width=\"{unjudged:.3}%\" height=\"{HEIGHT}%\"/>"
         );
         for (_, x) in self.across.numbers() {
@@ -174,8 +187,9 @@ impl<'a> Plot<'a> {
         svg
     }
 
-    /// The staircase: level from each length to the next, then straight up, or at the largest window down.
-    fn stairs(&self) -> String {
+    /// A path of the staircase: level from each length to the next, then straight up, or at the largest
+    /// window down.
+    fn path(&self) -> String {
         let (end, top) = (self.across.end(), self.up.end());
         let mut path = String::new();
         for (length, demand) in &self.steps {
@@ -187,11 +201,24 @@ impl<'a> Plot<'a> {
                 write!(path, "H{across:.1}V{down:.1}")
             };
         }
-        let from = 100.0 - HEIGHT;
-        format!(
-            "<svg y=\"{from}%\" width=\"{AXIS}%\" height=\"{HEIGHT}%\" viewBox=\"0 0 {BOX} {BOX}\" \
-             preserveAspectRatio=\"none\"><path class=\"stairs\" d=\"{path}H{BOX}\"/></svg>"
-        )
+        format!("{path}H{BOX}")
+    }
+
+    fn stairs(&self) -> String {
+        boxed(&format!("<path class=\"stairs\" d=\"{}\"/>", self.path()))
+    }
+
+    /// The area below the staircase, and over it all that lies below the line: what is left to be seen is
+    /// more than fits.
+    fn over(&self) -> String {
+        if self.why.verdict == Verdict::Passes {
+            return String::new();
+        }
+        let fits = BOX * (1.0 - share(self.across.end(), self.up.end()));
+        boxed(&format!(
+            "<path class=\"over\" d=\"{}V{BOX}H0z\"/><path class=\"fits\" d=\"M0 {BOX}L{BOX} {fits:.1}V{BOX}z\"/>",
+            self.path()
+        ))
     }
 
     /// The mark at the named length, if the drawing has it: what is left of it, or too many, and in
@@ -219,6 +246,15 @@ impl<'a> Plot<'a> {
              <text class=\"{side}\" x=\"{x:.3}%\" y=\"10\">{said}</text></g>"
         )
     }
+}
+
+/// Shapes in the box that is stretched to the drawing.
+fn boxed(shapes: &str) -> String {
+    let from = 100.0 - HEIGHT;
+    format!(
+        "<svg y=\"{from}%\" width=\"{AXIS}%\" height=\"{HEIGHT}%\" viewBox=\"0 0 {BOX} {BOX}\" \
+         preserveAspectRatio=\"none\">{shapes}</svg>"
+    )
 }
 
 #[cfg(test)]

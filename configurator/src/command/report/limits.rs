@@ -29,7 +29,7 @@ pub fn of_plan(
     if listing.pieces.is_empty() {
         return Ok(String::new());
     }
-    let mut html = section("How near each core is to its limit", unit);
+    let mut html = section("How near each core is to its limit", true, unit);
     for at in 1..=sheet.cores {
         let text = asked(bytes, at)?;
         let why = reasons(&text)?;
@@ -55,7 +55,7 @@ pub fn of_no_room(bytes: &[u8], unit: &str) -> Result<String, Failure> {
     let text = asked(bytes, 1)?;
     let why = reasons(&text)?;
     let core = Core::stuck(&quoted(bytes)?, &why)?.ok_or_else(unfit)?;
-    let mut html = section("Why there is no room", unit);
+    let mut html = section("Why there is no room", false, unit);
     html.push_str(&curve::figure(1, &why, &core, unit));
     let rows = why.shares.iter().map(tables::row).collect();
     let mut groups = vec![Group::untitled(rows)];
@@ -75,12 +75,12 @@ pub fn of_no_room(bytes: &[u8], unit: &str) -> Result<String, Failure> {
     Ok(html)
 }
 
-/// The beginning of a part.
-fn section(title: &str, unit: &str) -> String {
+/// The beginning of a part, about cores that pass or one that does not.
+fn section(title: &str, pass: bool, unit: &str) -> String {
     let unit = escaped(unit);
     format!(
         "<h2>{title} <small>times in {unit}</small></h2>\n<p class=\"note\">{NOTE}</p>\n{}",
-        curve::KEY
+        curve::key(pass)
     )
 }
 
