@@ -2,7 +2,7 @@
 //! the first to the sheet itself, each other to the sheet with what was refused above it mended, so
 //! that one mistake is told once.
 
-use crate::explain::{refused_in, Explained};
+use crate::explain::{no_room, refused_in, Explained};
 use crate::forms::{name_fault, Text, SHEET_MOST};
 use crate::mend::{self, Flaw};
 use crate::misformed::everywhere;
@@ -37,7 +37,8 @@ pub fn refusals(sheet: &[u8]) -> Result<Vec<Explained>, UnknownNumber> {
             return Ok(told);
         }
         let numbers = |above| amended.number(above);
-        let why = refused_in(Text::Sheet, refusal, &bytes, &numbers);
+        let mut why = refused_in(Text::Sheet, refusal, &bytes, &numbers);
+        why.no_room = no_room(refusal, &bytes)?;
         let above = usize::try_from(refusal.carries()).unwrap_or(0);
         let reached = at_a_line && amended.reach(above.saturating_sub(1));
         let known = reached && (amended.ours || number == 5 && amended.fits_gone());

@@ -8,6 +8,8 @@ use crate::fault::{self, Fault, Numbers};
 use crate::forms::Text;
 use crate::mend::{self, Flaw};
 use crate::text::{shell_word, shown};
+use crate::why::{words, Why};
+use crate::UnknownNumber;
 use std::fmt::Write;
 use unicode_width::UnicodeWidthStr;
 
@@ -29,6 +31,8 @@ pub struct Explained {
     pub flaw: Option<Flaw>,
     /// What a person can do about it, where that is known better than by the number alone.
     pub to_do: Option<&'static str>,
+    /// Where no core has room (7): what the last core would be asked for, in sentences.
+    pub no_room: Vec<String>,
 }
 
 /// A line of a sheet, cut where the fault in it begins and ends. Tabs are `⇥`, so that a wrong
@@ -43,6 +47,36 @@ pub struct Line {
     pub fault: String,
     /// What stands behind it.
     pub behind: String,
+}
+
+/// The refusal of a sheet by the library, with the sheet's words, and where no core has room with what
+/// the last core would be asked for.
+///
+/// # Errors
+///
+/// The library answers a number that stands for nothing, which a proved library never does.
+pub fn told(refusal: Refusal, sheet: &[u8]) -> Result<Explained, UnknownNumber> {
+    let no_room = no_room(refusal, sheet)?;
+    Ok(Explained {
+        no_room,
+        ..refused(refusal, sheet)
+    })
+}
+
+/// What the last core would be asked for with the task that a sheet was refused for (7): which core,
+/// within which length, by how much too many, and the pieces that ask most. Empty for other refusals.
+///
+/// # Errors
+///
+/// The library answers a number that stands for nothing, which a proved library never does.
+pub fn no_room(refusal: Refusal, sheet: &[u8]) -> Result<Vec<String>, UnknownNumber> {
+    if refusal.number() != 7 {
+        return Ok(Vec::new());
+    }
+    let listing = crate::why_core(sheet, 1)?.unwrap_or_default();
+    let why = Why::parse(&listing);
+    let why = why.filter(|why| why.stuck.map(|stuck| stuck.place) == Some(refusal.carries()));
+    Ok(why.map_or_else(Vec::new, |why| words::sentences(&why, Some(1), "ticks")))
 }
 
 /// The refusal of a sheet, with the sheet's words.
@@ -110,6 +144,7 @@ pub fn refused_in(text: Text, refusal: Refusal, sheet: &[u8], numbers: Numbers) 
         why,
         flaw,
         to_do,
+        no_room: Vec::new(),
     }
 }
 
@@ -127,7 +162,7 @@ impl Explained {
     }
 
     /// The message for a terminal: the file and the line, the refusal, the line's words with the
-    /// fault underlined, and what to do.
+    /// fault underlined, what to do, and where no core has room, why.
     #[must_use]
     pub fn message(&self, file: &str) -> String {
         let mut text = file.to_owned();
@@ -153,6 +188,9 @@ impl Explained {
         let remedy = self.remedy(file);
         if !remedy.is_empty() {
             let _ = write!(text, "\n  to do: {remedy}");
+        }
+        if !self.no_room.is_empty() {
+            let _ = write!(text, "\n  why: {}", self.no_room.join("\n  "));
         }
         text
     }

@@ -14,7 +14,8 @@
 //!   [`fault`] finds; [`check`]: all that is refused in a sheet.
 //! - [`forms`]: the forms of lines; [`mend`]: what can be mended in a text without touching a word.
 //! - [`text`]: bytes as text for people.
-//! - [`listing`], [`quoted`]: the lines of a listing and of an accepted sheet, for tables and drawings.
+//! - [`listing`], [`why`], [`quoted`]: the lines of a listing, of a why listing and of an accepted sheet,
+//!   for tables and drawings; [`demand`]: a core's demand, for drawings.
 //! - [`origin`]: what a paper came from.
 //! - [`command`]: the command for people.
 //!
@@ -56,6 +57,7 @@
 pub mod answer;
 pub mod check;
 pub mod command;
+pub mod demand;
 pub mod explain;
 pub mod fault;
 pub mod ffi;
@@ -67,6 +69,7 @@ pub mod origin;
 pub mod quoted;
 pub mod refusals;
 pub mod text;
+pub mod why;
 
 pub use answer::{Answer, Listed, Refusal, UnknownNumber};
 pub use ffi::demand_at;

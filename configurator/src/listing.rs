@@ -52,6 +52,23 @@ impl Kind {
             Kind::Last => "last",
         }
     }
+
+    /// The kind that a word of a listing stands for.
+    pub(crate) fn of(word: &str) -> Option<Self> {
+        [Kind::Whole, Kind::First, Kind::Last]
+            .into_iter()
+            .find(|kind| kind.word() == word)
+    }
+
+    /// The number of the kind in a lent record.
+    #[must_use]
+    pub const fn number(self) -> u32 {
+        match self {
+            Kind::Whole => 0,
+            Kind::First => 1,
+            Kind::Last => 2,
+        }
+    }
 }
 
 impl<'a> Listing<'a> {
@@ -138,9 +155,7 @@ impl<'a> Piece<'a> {
             ["piece", core, task, kind, budget, window, jitter, charged] => Some(Piece {
                 core: core.parse().ok()?,
                 task,
-                kind: [Kind::Whole, Kind::First, Kind::Last]
-                    .into_iter()
-                    .find(|known| known.word() == kind)?,
+                kind: Kind::of(kind)?,
                 budget: budget.parse().ok()?,
                 window: window.parse().ok()?,
                 jitter: jitter.parse().ok()?,

@@ -1,6 +1,7 @@
 //! What a sheet's own lines say, quoted for tables: numbers stay the text that stands in the sheet.
 //! The proved library reads sheets; this looks words up in one that it has accepted.
 
+use std::fmt::Write;
 use std::str;
 
 /// The names of the nine cost constants, in the sheet's order.
@@ -80,6 +81,33 @@ impl<'a> Sheet<'a> {
             }
         }
         Some(sheet)
+    }
+
+    /// The sheet's lines, from its words.
+    ///
+    /// ```
+    /// use configurator::quoted::Sheet;
+    ///
+    /// let sheet = "machine\t2\t1\ncost\t0\t0\t0\t0\t0\t0\t0\t0\t0\npart\ta\t6\t10\t10\t0\t0\t1\nfit\tb\ta\n";
+    /// assert_eq!(Sheet::parse(sheet.as_bytes()).unwrap().text(), sheet);
+    /// ```
+    #[must_use]
+    pub fn text(&self) -> String {
+        let mut text = self.head();
+        for Part { name, times } in &self.parts {
+            let _ = writeln!(text, "part\t{name}\t{}", times.join("\t"));
+        }
+        for Fit { task, part } in &self.fits {
+            let _ = writeln!(text, "fit\t{task}\t{part}");
+        }
+        text
+    }
+
+    /// Its first two lines: the machine and the costs.
+    #[must_use]
+    pub fn head(&self) -> String {
+        let (cores, grain, costs) = (self.cores, self.grain, self.costs.join("\t"));
+        format!("machine\t{cores}\t{grain}\ncost\t{costs}\n")
     }
 
     /// The part that a task is fitted with.

@@ -42,7 +42,9 @@ fn refused_sheets() {
         "40: refused (7): no core has room for task 18, `t17`
   fit⇥t17⇥p17
       ^^^
-  to do: add a core, or give some task less work (C) or more time (D, T); a smaller grain can help too",
+  to do: add a core, or give some task less work (C) or more time (D, T); a smaller grain can help too
+  why: core 16 with the whole of `t17` is undecided: more work than time in every length up to 100000000 ticks; within that 115503823 are asked for, 15503823 too many
+  most is asked by `t17` (70919194 in 106 jobs, 1590 in interrupts) and `t0` (44579709 in 111 jobs, 3330 in interrupts)",
     );
     refused(
         "examples/film-line.listing",
@@ -102,8 +104,9 @@ fn the_tour_can_be_gone() {
             .env("SPARDIMPLE_EMULATOR", &runner)
             .output()
             .unwrap();
-        let refused =
-            line.contains("mistyped") && !line.starts_with("sed") || line.contains("batch");
+        let refused = ["mistyped", "checkweigher", " batch "]
+            .iter()
+            .any(|word| line.contains(word) && !line.starts_with("sed"));
         assert_eq!(gone.status.code(), Some(i32::from(refused)), "{line}");
     }
 }
@@ -202,7 +205,7 @@ fn a_refused_verdict_is_a_sentence_on_standard_error() {
 fn progress_on_a_terminal() {
     let batch = on_a_terminal("batch examples", "");
     assert!(
-        batch.contains(&format!("\r[{}] 4 of 4\r\u{1b}[K", "=".repeat(40))),
+        batch.contains(&format!("\r[{}] 5 of 5\r\u{1b}[K", "=".repeat(40))),
         "{batch}"
     );
 }
@@ -247,6 +250,7 @@ fn help() {
         "check",
         "fmt",
         "verdict",
+        "why",
         "show",
         "report",
         "desk",

@@ -77,6 +77,8 @@ fn desk_plays_edits() {
       ^^^^^^^^^^^^
   after this edit there would be 12 tasks; the plan stays as it was
   to do: withdraw a task, or retime one to less work (C) or more time (D, T); cores and grain are changed in the sheet
+  why: core 3 with the whole of `checkweigher` is overloaded: within 52829 ticks 52830 are asked for, 1 too many; a shorter length may lack more
+  most is asked by `jaw-cross` (14045 in 53 jobs, 1590 in interrupts), `heater-upper` (9925 in 5 jobs, 90 in interrupts) and `heater-lower` (9925 in 5 jobs, 90 in interrupts)
 edit:4: refused (5): there is no part or task of that name
   withdraw⇥reject-arm
            ^^^^^^^^^^

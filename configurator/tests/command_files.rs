@@ -96,6 +96,13 @@ fn missing_files_and_folders() {
         &["desk", "examples/none.sheet"],
         &["verdict", "examples/none.rec", "examples/film-core.cost"],
         &["verdict", "--table", "examples/none.table"],
+        &["why", "examples/none.sheet", "1"],
+        &[
+            "why",
+            "--records",
+            "examples/none.rec",
+            "examples/film-core.cost",
+        ],
         &["plan", "examples"],
         &["verdict", "examples/film-core.rec", "examples"],
     ] {
@@ -154,6 +161,9 @@ fn lost_output() {
             "examples/film-core.cost",
         ],
         &["verdict", "--table", "examples/film-core.table"],
+        &["why", sheet],
+        &["why", "--listing", sheet, "2"],
+        &["why", "--json", "--table", "examples/film-core.table"],
         &["check", sheet],
         &["fmt", sheet],
         &["show", sheet],
@@ -185,6 +195,7 @@ fn lost_output() {
         &["plan", "--json", "examples/film-line-mistyped.sheet"][..],
         &["report", "examples/film-line-mistyped.sheet"],
         &["desk", "examples/film-line-mistyped.sheet"],
+        &["why", "examples/film-line-checkweigher.sheet"],
         &["batch", "examples"],
     ] {
         let ended = program().args(words).stdout(closed()).output().unwrap();

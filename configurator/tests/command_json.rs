@@ -5,7 +5,7 @@
 mod common;
 
 use common::command::{file, folder, root, spardimple, spardimple_fed, text};
-use serde_json::Value;
+use serde_json::{json, Value};
 use std::ffi::OsStr;
 use std::fs;
 use std::os::unix::ffi::{OsStrExt, OsStringExt};
@@ -150,6 +150,8 @@ fn failures() {
             "examples/none.rec",
             "examples/film-core.cost",
         ],
+        &["why", "--json", "examples/none.sheet"],
+        &["why", "--json", "--table", "examples/none.table"],
         &["batch", "--json", "examples/none"],
     ] {
         let missing = spardimple(words);
@@ -248,6 +250,85 @@ fn verdicts() {
     for cause in ["36 bytes is no multiple of 28", "140 bytes, 36 needed"] {
         assert!(why.contains(cause), "{why}");
     }
+}
+
+/// What cores are asked for has the figures of the library's lines.
+#[test]
+fn reasons() {
+    let why = |words: &[&str], status: i32| {
+        let why = spardimple(&[&["why", "--json"], words].concat());
+        assert_eq!(why.status.code(), Some(status), "{words:?}");
+        json(&why)
+    };
+    let all = why(&["--unit", "us", "examples/film-line.sheet"], 0);
+    assert_eq!(
+        (&all["answer"], &all["unit"]),
+        (&json!("passes"), &json!("us"))
+    );
+    assert_eq!(all["no_room"], Value::Null);
+    let cores = all["cores"].as_array().unwrap();
+    assert_eq!(cores.len(), 3);
+    assert_eq!(
+        cores[1],
+        json!({
+            "core": 2, "answer": "passes", "length": 315, "blocking": 25,
+            "pieces": [
+                { "task": "dosing", "kind": "whole", "jobs": 0, "demand": 0, "interrupts": 15 },
+                { "task": "film-feed", "kind": "whole", "jobs": 0, "demand": 0, "interrupts": 15 },
+                { "task": "jaw-cross", "kind": "first", "jobs": 1, "demand": 245, "interrupts": 15 },
+            ],
+            "total": 315, "slack": 0,
+        })
+    );
+    let one = why(&["examples/film-line.sheet", "2"], 0);
+    assert_eq!(one["cores"], json!([cores[1]]));
+    let stuck = why(&["examples/film-line-checkweigher.sheet", "1"], 1);
+    assert_eq!(
+        (&stuck["answer"], &stuck["refused"]["number"]),
+        (&json!("refused"), &json!(7))
+    );
+    let no_room = json!({ "place": 12, "task": "checkweigher", "core": 3 });
+    assert_eq!(stuck["no_room"], no_room);
+    assert_eq!(
+        (&stuck["cores"][0]["core"], &stuck["cores"][0]["slack"]),
+        (&json!(3), &json!(-1))
+    );
+    let plan = json(&spardimple(&[
+        "plan",
+        "--json",
+        "examples/film-line-checkweigher.sheet",
+    ]));
+    assert_eq!(stuck["refused"], plan["refused"]);
+    let late = [
+        "--records",
+        "examples/film-core-late.rec",
+        "examples/film-core.cost",
+    ];
+    let late = why(&[&late[..], &["--exit-status"]].concat(), 4);
+    assert_eq!(
+        (&late["answer"], &late["length"]),
+        (&json!("overloaded"), &json!(378))
+    );
+    assert_eq!(late["cores"][0]["core"], Value::Null);
+    assert_eq!(late["cores"][0]["pieces"][2]["record"], 3);
+    let none = spardimple_fed(
+        &["why", "--json", "-"],
+        b"machine\t1\t1\ncost\t0\t0\t0\t0\t0\t0\t0\t0\t0\n",
+    );
+    assert_eq!(json(&none)["cores"][0]["total"], Value::Null);
+    let mistyped = why(&["examples/film-line-mistyped.sheet"], 1);
+    assert_eq!(mistyped["refused"]["line"], 14);
+    let other = why(&["examples/film-line.sheet", "9"], 1);
+    assert_eq!(other["refused"]["meaning"], "there is no core 9");
+    let swapped = why(
+        &[
+            "--records",
+            "examples/film-core.cost",
+            "examples/film-core.rec",
+        ],
+        1,
+    );
+    assert_eq!(swapped["refused"]["number"], 8);
 }
 
 /// A batch has an answer for each sheet, and names what it left out.

@@ -212,7 +212,7 @@ fn verdicts_and_their_status() {
 /// One name for the clock's precision, and help of at most 100 columns.
 #[test]
 fn help() {
-    for sub in ["", "plan", "check", "fmt", "verdict"] {
+    for sub in ["", "plan", "check", "fmt", "verdict", "why"] {
         let words: Vec<&str> = [sub, "--help"]
             .into_iter()
             .filter(|word| !word.is_empty())

@@ -14,7 +14,7 @@ addEventListener('load', () => {
 
   const { scrollWidth, clientWidth } = document.documentElement
   if (scrollWidth > clientWidth) wrong.push('the page is ' + scrollWidth + ' wide')
-  for (const element of document.querySelectorAll('h1, h2, p, footer, .scroll, pre, .refusal, .chart'))
+  for (const element of document.querySelectorAll('h1, h2, p, footer, .scroll, pre, .refusal, .chart, .demand'))
     if (box(element).left < 0 || box(element).right > clientWidth) tell('outside the page:', element)
 
   const bars = document.querySelectorAll('.chart .piece')
@@ -46,6 +46,20 @@ addEventListener('load', () => {
     if (budget.right > own.right + 1) tell('longer than its window:', bar)
     if (!apart(charged, own)) tell('charged upon the window:', bar)
   }
+  const plots = document.querySelectorAll('.plot')
+  for (const plot of plots) {
+    const [levels, plane, lengths] = plot.children
+    const figure = box(plot.closest('.demand'))
+    const texts = [...plot.querySelectorAll('text')]
+    texts.forEach((text, at) => {
+      if (!inside(box(text), figure)) tell('outside its drawing:', text)
+      if (parseFloat(getComputedStyle(text).fontSize) < 11) tell('too small:', text)
+      for (const other of texts.slice(at + 1)) if (!apart(box(text), box(other))) tell('upon each other:', text, other)
+    })
+    if (box(levels).right > box(plane).left) tell('upon a drawing:', levels)
+    if (box(plane).width < 150) tell('too narrow:', plane)
+    for (const shape of plane.querySelectorAll('path, rect')) if (!inside(box(shape), box(plane))) tell('outside its drawing:', plane)
+  }
   const name = location.pathname.split('/').pop().replace('-looked-at.html', '')
-  parent.postMessage([name + ' ' + innerWidth + ': ' + bars.length + ' bars', ...wrong].join('; '), '*')
+  parent.postMessage([name + ' ' + innerWidth + ': ' + bars.length + ' bars, ' + plots.length + ' curves', ...wrong].join('; '), '*')
 })

@@ -7,7 +7,7 @@ mod common;
 
 use common::command::{folder, text};
 use common::long::{tallest, widest};
-use common::page::{bars, drawings, example, made};
+use common::page::{bars, curves, drawings, example, figures, made};
 use std::fmt::Write;
 use std::fs;
 use std::path::Path;
@@ -78,6 +78,11 @@ fn on_a_desk_and_on_a_phone() {
             "film-line-mistyped",
             example(&folder, "film-line-mistyped", 1).1,
         ),
+        (
+            "film-line-checkweigher",
+            example(&folder, "film-line-checkweigher", 1).1,
+        ),
+        ("late", made(&folder, "late", &undecided(), 1).1),
         ("widest", made(&folder, "widest", &widest(), 0).1),
         ("tallest", made(&folder, "tallest", &tallest(), 0).1),
         ("no-tasks", made(&folder, "no-tasks", none, 0).1),
@@ -100,7 +105,8 @@ fn on_a_desk_and_on_a_phone() {
                 frames,
                 "<iframe width=\"{width}\" height=\"800\" src=\"{name}-looked-at.html\"></iframe>"
             );
-            expected.push(format!("{name} {width}: {} bars", bars(page)));
+            let (bars, curves) = (bars(page), curves(page));
+            expected.push(format!("{name} {width}: {bars} bars, {curves} curves"));
         }
     }
     let all = format!(
@@ -122,6 +128,17 @@ fn on_a_desk_and_on_a_phone() {
                  style=\"border: 0\" src=\"film-line.html\"></iframe>";
     fs::write(folder.join("phone.html"), phone).unwrap();
     picture(&folder.join("phone.html"), "phone.png", "500,1500");
+    for name in ["film-line-checkweigher", "late"] {
+        let (page, shown) = (format!("{name}.html"), format!("{name}.png"));
+        picture(&folder.join(page), &shown, "1100,1500");
+    }
+}
+
+/// A sheet with no room, whose last core would be undecided by much: all numbers are long.
+fn undecided() -> String {
+    "machine\t1\t1\ncost\t100000\t0\t0\t0\t0\t0\t0\t0\t0\npart\tp\t1\t1\t1\t1000000\t100000\t0\n\
+     fit\ttask-00-sealing-jaw-cros\tp\n"
+        .to_owned()
 }
 
 /// A word on paper.
@@ -163,8 +180,29 @@ fn words(pdf: &Path) -> Vec<(f64, f64, Vec<Word>)> {
     told.split("<page ").skip(1).map(page).collect()
 }
 
-/// On paper of both sizes all words are inside the margins and large enough, every task is there, and
-/// on each page that has bars there is an axis above them.
+/// The words of each page of a report on paper of that size. All are inside the margins and large enough.
+fn printed(folder: &Path, name: &str, page: &str, size: &str) -> Vec<Vec<Word>> {
+    let copy = folder.join(format!("{name}-{size}.html"));
+    let sized = page.replacen("@page {", &format!("@page {{ size: {size};"), 1);
+    assert_ne!(sized, page);
+    fs::write(&copy, sized).unwrap();
+    let pdf = copy.with_extension("pdf");
+    let option = format!("--print-to-pdf={}", pdf.display());
+    let options = ["--no-pdf-header-footer", &option];
+    chromium("page-paper-profile", &options, &copy);
+    let pages = words(&pdf);
+    println!("{}: {} pages", pdf.display(), pages.len());
+    let look = |(at, (width, height, words)): (usize, (f64, f64, Vec<Word>))| {
+        let place = format!("{name} {size}, page {}", at + 1);
+        assert_eq!(width < 600.0, size == "A4", "{place}");
+        assert!(words.len() > 10, "{place} is almost empty");
+        assert_legible(&words, width, height, &place);
+        words
+    };
+    pages.into_iter().enumerate().map(look).collect()
+}
+
+/// On paper of both sizes every task is there, and on each page that has bars there is an axis above them.
 #[test]
 fn on_paper() {
     let folder = folder("page-paper");
@@ -174,33 +212,35 @@ fn on_paper() {
         ("tallest", 2, made(&folder, "tallest", &tallest(), 0).1),
     ] {
         for size in ["A4", "letter"] {
-            let copy = folder.join(format!("{name}-{size}.html"));
-            let sized = page.replacen("@page {", &format!("@page {{ size: {size};"), 1);
-            assert_ne!(sized, page);
-            fs::write(&copy, sized).unwrap();
-            let pdf = copy.with_extension("pdf");
-            let option = format!("--print-to-pdf={}", pdf.display());
-            let options = ["--no-pdf-header-footer", &option];
-            chromium("page-paper-profile", &options, &copy);
-            let pages = words(&pdf);
-            println!("{}: {} pages", pdf.display(), pages.len());
-            let mut with_bars = 0;
-            for (at, (width, height, words)) in pages.iter().enumerate() {
-                let place = format!("{name} {size}, page {}", at + 1);
-                assert_eq!(*width < 600.0, size == "A4", "{place}");
-                assert!(words.len() > 10, "{place} is almost empty");
-                assert_legible(words, *width, *height, &place);
-                with_bars += usize::from(has_bars_below_an_axis(words, &place));
-            }
-            assert!(with_bars >= pages_with_bars, "{name} {size}");
-            assert!(pages.len() < 12 + with_bars, "{name} {size}");
+            let pages = printed(&folder, name, &page, size);
+            let place = format!("{name} {size}");
+            let bars = |words: &&Vec<Word>| has_bars_below_an_axis(words, &place);
+            let with_bars = pages.iter().filter(bars).count();
+            assert!(with_bars >= pages_with_bars, "{place}");
+            let most = 12 + with_bars + figures(&page) / 3;
+            assert!(pages.len() < most, "{place}: {} pages", pages.len());
             for task in tasks(&page) {
-                let all = pages.iter().flat_map(|(_, _, words)| words);
-                let said = all.filter(|word| word.text.trim_end_matches(',') == task);
+                let said = pages.iter().flatten();
+                let said = said.filter(|word| word.text.trim_end_matches(',') == task);
                 let (said, bars) = (said.count(), drawings(&page));
-                assert!(said > bars, "{name} {size}: {said} times {task}");
+                assert!(said > bars, "{place}: {said} times {task}");
             }
         }
+    }
+}
+
+/// A refusal for want of room on paper: the drawing stands on one page with its words and its numbers.
+#[test]
+fn no_room_on_paper() {
+    let folder = folder("page-paper-no-room");
+    let (_, page) = example(&folder, "film-line-checkweigher", 1);
+    for size in ["A4", "letter"] {
+        let pages = printed(&folder, "film-line-checkweigher", &page, size);
+        let on = |word: &str| {
+            let has = |words: &Vec<Word>| words.iter().any(|on| on.text == word);
+            pages.iter().position(has).expect(word)
+        };
+        assert_eq!([on("Most"), on("50000"), on("many")], [on("52829:"); 3]);
     }
 }
 

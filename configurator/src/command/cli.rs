@@ -19,6 +19,7 @@ Examples:
   spardimple check examples/film-line-mistyped.sheet
   spardimple fmt line.sheet -o mended.sheet
   spardimple verdict --table examples/film-core.table
+  spardimple why examples/film-line.sheet 2
   spardimple show examples/film-line.sheet
   spardimple report examples/film-line.sheet -o film-line.html
   spardimple desk examples/film-line.sheet < examples/film-line.edits
@@ -44,7 +45,7 @@ Exit status:
   2  wrong use
   3  a file could not be read or written, or standard output could not; the message has the cause.
      There is no message if the reader of a pipe has gone, as in `spardimple man | head -1`
-  4  overloaded, and 5  undecided: only by `verdict --exit-status`";
+  4  overloaded, and 5  undecided: only by `verdict` and `why` with --exit-status";
 
 /// The description of the arguments.
 #[must_use]
@@ -55,7 +56,7 @@ pub fn command() -> Command {
         .after_help(BELOW.replace("{LINES}", &fields::short()))
         .subcommand_required(true)
         .arg_required_else_help(true)
-        .subcommands([new(), plan(), check(), fmt(), verdict(), show(), report(), desk(), batch(), completions(), man()])
+        .subcommands([new(), plan(), check(), fmt(), verdict(), why(), show(), report(), desk(), batch(), completions(), man()])
 }
 
 fn new() -> Command {
@@ -136,20 +137,56 @@ fn verdict() -> Command {
         )
         .arg(bytes("RECORDS", "Piece records as bytes"))
         .arg(bytes("COSTS", "The nine cost constants as bytes"))
+        .arg(table().conflicts_with_all(["RECORDS", "COSTS"]))
+        .arg(told_verdict())
+        .arg(json())
+}
+
+fn why() -> Command {
+    Command::new("why")
+        .about("Tells why a core passes or does not: what each piece asks for, and what is left")
+        .after_help(
+            "Examples: spardimple why --unit us examples/film-line.sheet 2\n          \
+             spardimple why examples/film-line-checkweigher.sheet\n          \
+             spardimple why --table examples/film-core.table\n\n\
+             For each core one length of time is named, and what is asked for within it: blocking, each\n\
+             piece's jobs due and what they ask for, its interrupts, the total, and the slack, which is\n\
+             the length minus the total. If the core passes, it is the length where least is left; if it\n\
+             is overloaded, the verdict's own; if it is undecided, 100,000,000 ticks.\n\n\
+             If no core has room for a task, the last core is shown with the whole task added, whichever\n\
+             CORE was asked for. The message is that of plan, and the exit status is 1. Else it is 0.\n\n\
+             RECORDS, COSTS and a table are as for verdict, and so is --exit-status. --listing prints the\n\
+             library's own lines, those of all cores one after the other; docs/LISTINGS.md has their form.",
+        )
+        .override_usage(
+            "spardimple why [OPTIONS] SHEET [CORE]\n       \
+             spardimple why [OPTIONS] --records RECORDS COSTS\n       \
+             spardimple why [OPTIONS] --table FILE",
+        )
+        .arg(sheet().required_unless_present_any(["records", "table"]))
         .arg(
-            Arg::new("table")
-                .long("table")
-                .value_name("FILE")
+            Arg::new("CORE")
+                .value_parser(value_parser!(u64))
+                .help("A core of the sheet's machine, from 1; without it, all of them"),
+        )
+        .arg(
+            Arg::new("records")
+                .long("records")
+                .value_names(["RECORDS", "COSTS"])
                 .value_parser(value_parser!(PathBuf))
-                .conflicts_with_all(["RECORDS", "COSTS"])
-                .help("Reads costs and pieces as a table of text"),
+                .conflicts_with_all(["SHEET", "CORE", "table"])
+                .help("Reads one core's pieces and costs as bytes"),
         )
+        .arg(table().conflicts_with_all(["SHEET", "CORE"]))
         .arg(
-            Arg::new("exit-status")
-                .long("exit-status")
+            Arg::new("listing")
+                .long("listing")
                 .action(ArgAction::SetTrue)
-                .help("Tells the verdict by the exit status: 0 passes, 4 overloaded, 5 undecided"),
+                .conflicts_with("json")
+                .help("Prints the library's own lines"),
         )
+        .arg(unit_of_ticks())
+        .arg(told_verdict())
         .arg(json())
 }
 
@@ -253,6 +290,23 @@ fn man() -> Command {
     Command::new("man")
         .about("Prints the manual page")
         .after_help("Example: spardimple man | man -l -")
+}
+
+/// A core as a table of text.
+fn table() -> Arg {
+    Arg::new("table")
+        .long("table")
+        .value_name("FILE")
+        .value_parser(value_parser!(PathBuf))
+        .help("Reads costs and pieces as a table of text")
+}
+
+/// Whether the exit status tells the verdict on a core.
+fn told_verdict() -> Arg {
+    Arg::new("exit-status")
+        .long("exit-status")
+        .action(ArgAction::SetTrue)
+        .help("Exit status 0 if the core passes, 4 overloaded, 5 undecided")
 }
 
 fn sheet() -> Arg {

@@ -6,13 +6,11 @@
 //! A row is HTML, and only what is to scale is SVG, with places in per cent: so letters have their
 //! own size on every screen, and a table that goes over several printed pages has its axis on each.
 
+use super::axis::{Axis, AXIS};
 use super::columns;
 use super::html::escaped;
 use crate::listing::{Kind, Listing, Piece};
 use std::fmt::Write;
-
-/// How much of its column an axis takes, in per cent; the rest is for its last number.
-const AXIS: f64 = 96.0;
 
 /// The most pieces of a core that are kept on one printed page.
 const LONG: usize = 16;
@@ -44,7 +42,7 @@ pub fn near(listing: &Listing) -> Option<u32> {
 /// The drawings of a plan's cores, with an axis at each that ends at `end`.
 #[must_use]
 pub fn cores(listing: &Listing, cores: usize, end: u32, unit: &str) -> String {
-    let axis = Axis::new(end);
+    let axis = Axis::new(end.into());
     let caption = format!("{unit} after release");
     let widest = |words: &dyn Fn(&Piece) -> String| {
         let letters = listing.pieces.iter().map(|p| words(p).chars().count());
@@ -78,7 +76,7 @@ pub fn cores(listing: &Listing, cores: usize, end: u32, unit: &str) -> String {
                 html,
                 "<tr><th>{}</th><td class=\"to-scale\">{}</td><td class=\"figures\">{}</td></tr>",
                 escaped(&label(piece)),
-                axis.bar(piece, start(listing, piece)),
+                bar(&axis, piece, start(listing, piece)),
                 figures(piece)
             );
         }
@@ -110,88 +108,49 @@ fn figures(piece: &Piece) -> String {
     format!("{budget} in {window}, charged {charged}")
 }
 
-/// An axis from 0 on, with at most six numbers: that many stand beside each other on a phone.
-struct Axis {
-    step: u32,
-    end: u32,
-}
-
-impl Axis {
-    fn new(end: u32) -> Self {
-        let steps = (0..8).flat_map(|zeros| [1, 2, 5].map(|digit| digit * 10_u32.pow(zeros)));
-        let step = steps.into_iter().find(|step| end / step <= 5).unwrap_or(1);
-        Axis {
-            step,
-            end: end.max(1),
-        }
-    }
-
-    /// Where a length stands, in per cent; one beyond the axis stands at its end.
-    fn at(&self, length: u32) -> f64 {
-        f64::from(length.min(self.end)) / f64::from(self.end) * AXIS
-    }
-
-    /// Its numbers, and where they stand.
-    fn numbers(&self) -> impl Iterator<Item = (u32, f64)> + '_ {
-        let numbers = (0..=self.end / self.step).map(move |place| place * self.step);
-        numbers.map(move |number| (number, self.at(number)))
-    }
-
-    fn drawn(&self) -> String {
-        let mut svg = "<svg class=\"axis\" aria-hidden=\"true\">".to_owned();
-        for (number, x) in self.numbers() {
-            let _ = write!(
-                svg,
-                "<text x=\"{x:.3}%\" y=\"12\">{number}</text>\
-                 <line x1=\"{x:.3}%\" x2=\"{x:.3}%\" y1=\"16\" y2=\"22\"/>"
-            );
-        }
-        svg + "</svg>"
-    }
-
-    /// A piece's bar: its window with the budget inside, the charged time below.
-    fn bar(&self, piece: &Piece, start: u32) -> String {
-        let (word, task) = (piece.kind.word(), escaped(piece.task));
-        let mut svg = format!(
-            "<svg class=\"piece {word}\" role=\"img\"><title>{task}, {word}, core {}: budget {} in a window of {}, \
-             jitter {}, charged {}</title>",
-            piece.core, piece.budget, piece.window, piece.jitter, piece.charged
+/// A piece's bar: its window with the budget inside, the charged time below.
+fn bar(axis: &Axis, piece: &Piece, start: u32) -> String {
+    let (word, task) = (piece.kind.word(), escaped(piece.task));
+    let mut svg = format!(
+        "<svg class=\"piece {word}\" role=\"img\"><title>{task}, {word}, core {}: budget {} in a window of {}, \
+         jitter {}, charged {}</title>",
+        piece.core, piece.budget, piece.window, piece.jitter, piece.charged
+    );
+    for (_, x) in axis.numbers() {
+        let _ = write!(
+            svg,
+            "<line class=\"grid\" x1=\"{x:.3}%\" x2=\"{x:.3}%\" y2=\"100%\"/>"
         );
-        for (_, x) in self.numbers() {
-            let _ = write!(
-                svg,
-                "<line class=\"grid\" x1=\"{x:.3}%\" x2=\"{x:.3}%\" y2=\"100%\"/>"
-            );
-        }
-        let from = self.at(start);
-        let long = |length: u32| self.at(start.saturating_add(length)) - from;
-        if start > 0 {
-            let _ = write!(
-                svg,
-                "<line class=\"wait\" x2=\"{from:.3}%\" y1=\"9\" y2=\"9\"/>"
-            );
-        }
-        if start < self.end {
-            for (class, y, length, height) in [
-                ("window", 3, piece.window, 12),
-                ("budget", 3, piece.budget, 12),
-                ("charged", 17, piece.charged, 4),
-            ] {
-                let _ = write!(
-                    svg,
-                    "<rect class=\"{class}\" x=\"{from:.3}%\" y=\"{y}\" width=\"{:.3}%\" height=\"{height}\"/>",
-                    long(length)
-                );
-            }
-        }
-        if start.saturating_add(piece.window) > self.end {
-            let _ = write!(
-                svg,
-                "<svg x=\"{AXIS}%\"><path class=\"beyond\" d=\"M3 3 l6 6 l-6 6 z\"/></svg>"
-            );
-        }
-        svg + "</svg>"
     }
+    let from = axis.at(start.into());
+    let to = |length: u32| u64::from(start) + u64::from(length);
+    let long = |length: u32| axis.at(to(length)) - from;
+    if start > 0 {
+        let _ = write!(
+            svg,
+            "<line class=\"wait\" x2=\"{from:.3}%\" y1=\"9\" y2=\"9\"/>"
+        );
+    }
+    if u64::from(start) < axis.end() {
+        for (class, y, length, height) in [
+            ("window", 3, piece.window, 12),
+            ("budget", 3, piece.budget, 12),
+            ("charged", 17, piece.charged, 4),
+        ] {
+            let _ = write!(
+                svg,
+                "<rect class=\"{class}\" x=\"{from:.3}%\" y=\"{y}\" width=\"{:.3}%\" height=\"{height}\"/>",
+                long(length)
+            );
+        }
+    }
+    if to(piece.window) > axis.end() {
+        let _ = write!(
+            svg,
+            "<svg x=\"{AXIS}%\"><path class=\"beyond\" d=\"M3 3 l6 6 l-6 6 z\"/></svg>"
+        );
+    }
+    svg + "</svg>"
 }
 
 /// A small sample of each kind that the plan has, for the page's key.

@@ -2,12 +2,13 @@
 
 use super::files::SHEET_MOST;
 use super::show::counted;
+use super::verdict::judged;
 use super::{cli, files, planned, table, Failure, Planned, Status, Streams};
 use crate::explain::{self, Explained};
 use crate::forms::Text;
 use crate::mend::{mended, no_text};
 use crate::text::shell_word;
-use crate::{Answer, Refusal};
+use crate::Refusal;
 use clap::ArgMatches;
 use std::path::Path;
 
@@ -92,11 +93,9 @@ fn refused(text: Text, bytes: &[u8]) -> Result<Option<Explained>, Failure> {
             Planned::Refused(why) => Some(why),
             Planned::Listing(_) => None,
         },
-        Text::Table => match table::verdict(bytes)? {
-            Answer::Refused(refusal) => Some(explain::refused_in(text, refusal, bytes, &|above| {
-                above + 1
-            })),
-            _ => None,
-        },
+        Text::Table => {
+            let refusal = table::ask(bytes, judged)?.err();
+            refusal.map(|refusal| explain::refused_in(text, refusal, bytes, &|above| above + 1))
+        }
     })
 }

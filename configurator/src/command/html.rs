@@ -26,6 +26,26 @@ pub fn escaped(text: &str) -> String {
     safe
 }
 
+/// A paragraph: a sentence with its first letter great and what it quotes set as such.
+///
+/// ```
+/// use configurator::command::html::sentence;
+///
+/// assert_eq!(sentence("", "no part `a<b` above"), "<p>No part <code>a&lt;b</code> above.</p>\n");
+/// ```
+#[must_use]
+pub fn sentence(before: &str, words: &str) -> String {
+    let mut letters = words.chars();
+    let first = letters.next().map(|c| c.to_ascii_uppercase());
+    let words: String = first.into_iter().chain(letters).collect();
+    let parts: Vec<String> = words.split('`').map(escaped).collect();
+    let quoted = parts.iter().enumerate().map(|(at, part)| match at % 2 {
+        0 => part.clone(),
+        _ => format!("<code>{part}</code>"),
+    });
+    format!("<p>{before}{}.</p>\n", quoted.collect::<String>())
+}
+
 /// Rows of a table that belong together, under a title if they have one.
 pub struct Group {
     /// The title, or nothing.

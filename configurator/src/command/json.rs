@@ -139,9 +139,10 @@ fn numbers(names: &[&str], texts: &[&str]) -> Fields {
 #[must_use]
 pub fn refused(name: &str, explained: &Explained) -> Fields {
     let line = explained.line.as_ref().map(|line| line.number);
+    let no_room = || (!explained.no_room.is_empty()).then(|| explained.no_room.join("; "));
     let sentences = [
         Some(explained.meaning.clone()),
-        explained.why.clone(),
+        explained.why.clone().or_else(no_room),
         Some(explained.remedy(name)),
     ];
     refusal(explained.refusal, line, sentences)

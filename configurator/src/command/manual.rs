@@ -55,7 +55,7 @@ fn subcommand(page: &mut String, sub: &Command) {
     let arguments: Vec<&Arg> = sub.get_arguments().filter(|arg| !standard(arg)).collect();
     for argument in &arguments {
         let name = escaped(&called(argument));
-        let _ = if argument.is_positional() {
+        let _ = if argument.is_positional() && argument.is_required_set() {
             write!(page, " {name}")
         } else {
             write!(page, " [{name}]")
@@ -79,8 +79,11 @@ fn standard(argument: &Arg) -> bool {
 
 /// An argument as it is written.
 fn called(argument: &Arg) -> String {
-    let value = argument.get_value_names().and_then(|names| names.first());
-    match (argument.get_short(), argument.get_long(), value) {
+    let values = argument.get_value_names().map(|names| {
+        let names: Vec<&str> = names.iter().map(AsRef::as_ref).collect();
+        names.join(" ")
+    });
+    match (argument.get_short(), argument.get_long(), values) {
         (Some(short), _, Some(value)) => format!("-{short} {value}"),
         (None, Some(long), Some(value)) => format!("--{long} {value}"),
         (Some(short), Some(long), None) => format!("-{short}, --{long}"),

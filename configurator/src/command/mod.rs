@@ -3,10 +3,13 @@
 //!
 //! Every figure that is printed stands in an answer of the proved library or in the sheet itself.
 
+pub mod axis;
 pub mod batch;
 pub mod check;
 pub mod cli;
 pub mod columns;
+pub mod core;
+pub mod curve;
 pub mod desk;
 pub mod drawing;
 pub mod fields;
@@ -23,11 +26,13 @@ pub mod report;
 pub mod show;
 pub mod table;
 pub mod verdict;
+pub mod why;
 
 use crate::explain::{self, Explained};
 use crate::listing::Listing;
 use crate::origin;
 use crate::quoted::Sheet;
+use crate::why::Why;
 use crate::UnknownNumber;
 use clap::error::ErrorKind;
 use clap::ArgMatches;
@@ -40,7 +45,7 @@ use std::path::Path;
 pub const MANUAL: &str = include_str!(concat!(env!("OUT_DIR"), "/spardimple.1"));
 
 /// How a run ended, with its exit status. Of those that a sheet can end with the greater is the worse; the
-/// last two are told by `verdict` alone, and only where it is asked to.
+/// last two are told by `verdict` and `why` alone, of one core, and only where they are asked to.
 #[derive(Clone, Copy, Debug, PartialEq, Eq, PartialOrd, Ord)]
 pub enum Status {
     /// Planned or judged.
@@ -195,6 +200,7 @@ fn attempt(given: &ArgMatches, streams: &mut Streams) -> Result<Status, Failure>
         Some(("check", given)) => check::run(given, streams),
         Some(("fmt", given)) => fmt::run(given, streams),
         Some(("verdict", given)) => verdict::run(given, streams),
+        Some(("why", given)) => why::run(given, streams),
         Some(("show", given)) => show::run(given, streams),
         Some(("report", given)) => report::run(given, streams),
         Some(("desk", given)) => desk::run(given, streams),
@@ -220,7 +226,7 @@ pub enum Planned {
 pub fn planned(sheet: &[u8]) -> Result<Planned, Failure> {
     Ok(match crate::plan(sheet)? {
         Ok(listing) => Planned::Listing(listing),
-        Err(refusal) => Planned::Refused(explain::refused(refusal, sheet)),
+        Err(refusal) => Planned::Refused(explain::told(refusal, sheet)?),
     })
 }
 
@@ -228,6 +234,12 @@ pub fn planned(sheet: &[u8]) -> Result<Planned, Failure> {
 fn parsed(listing: &[u8]) -> Result<Listing<'_>, Failure> {
     Listing::parse(listing)
         .ok_or_else(|| Failure::new("the library's listing has no known form".into()))
+}
+
+/// A why listing's figures.
+fn reasons(listing: &[u8]) -> Result<Why<'_>, Failure> {
+    Why::parse(listing)
+        .ok_or_else(|| Failure::new("the library's why listing has no known form".into()))
 }
 
 /// An accepted sheet's words.

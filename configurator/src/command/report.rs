@@ -1,7 +1,9 @@
 //! `report`: a plan, or a refusal, as one page that needs no network and no script. The figures are
-//! the listing's, all other words the sheet's.
+//! the listing's and the why listings', all other words the sheet's.
 
-use super::html::{escaped, table, Group};
+mod limits;
+
+use super::html::{escaped, sentence, table, Group};
 use super::{cli, drawing, files, parsed, planned, quoted, show};
 use super::{Failure, Planned, Status, Streams};
 use crate::explain::Explained;
@@ -28,12 +30,12 @@ pub fn run(given: &ArgMatches, streams: &mut Streams) -> Result<Status, Failure>
     };
     match planned(&bytes)? {
         Planned::Listing(listing) => {
-            let page = plan(&asked, &quoted(&bytes)?, &parsed(&listing)?, &listing);
+            let page = plan(&asked, &quoted(&bytes)?, &parsed(&listing)?, &listing)?;
             streams.deliver(out, page.as_bytes())
         }
         Planned::Refused(why) => {
             streams.say(&why.message(&name));
-            streams.deliver(out, refused(&asked, &why).as_bytes())?;
+            streams.deliver(out, refused(&asked, &why)?.as_bytes())?;
             Ok(Status::Refused)
         }
     }
@@ -50,8 +52,16 @@ pub struct Asked<'a> {
 }
 
 /// The page of a plan.
-#[must_use]
-pub fn plan(asked: &Asked, sheet: &Sheet, listing: &Listing, bytes: &[u8]) -> String {
+///
+/// # Errors
+///
+/// The library's answers do not fit together, which those of a proved library always do.
+pub fn plan(
+    asked: &Asked,
+    sheet: &Sheet,
+    listing: &Listing,
+    bytes: &[u8],
+) -> Result<String, Failure> {
     let (name, unit) = (asked.name, asked.unit);
     let mut body = format!(
         "<h1>Plan of {}</h1>\n<p class=\"sum\">{}.</p>\n",
@@ -59,6 +69,7 @@ pub fn plan(asked: &Asked, sheet: &Sheet, listing: &Listing, bytes: &[u8]) -> St
         escaped(&show::sum(sheet, listing, unit))
     );
     drawings(&mut body, sheet, listing, unit);
+    body.push_str(&limits::of_plan(asked.sheet, sheet, listing, unit)?);
     pieces(&mut body, sheet, listing, unit);
     splits(&mut body, listing, unit);
     tasks(&mut body, sheet, listing, unit);
@@ -70,12 +81,15 @@ pub fn plan(asked: &Asked, sheet: &Sheet, listing: &Listing, bytes: &[u8]) -> St
         "<h2>Listing</h2>\n<pre class=\"listing\">{listing}</pre>\n"
     );
     let source = "The plan and every figure in it come";
-    page(asked, &format!("Plan of {name}"), &body, source)
+    Ok(page(asked, &format!("Plan of {name}"), &body, source))
 }
 
 /// The page of a refused sheet: what was refused, where, and what to do.
-#[must_use]
-pub fn refused(asked: &Asked, why: &Explained) -> String {
+///
+/// # Errors
+///
+/// The library's answers do not fit together, which those of a proved library always do.
+pub fn refused(asked: &Asked, why: &Explained) -> Result<String, Failure> {
     let name = asked.name;
     let mut body = format!("<h1>{} is refused</h1>\n", escaped(name));
     let place = match &why.line {
@@ -107,24 +121,15 @@ pub fn refused(asked: &Asked, why: &Explained) -> String {
         &why.remedy(name),
     ));
     body.push_str("</section>\n");
+    if why.refusal.number() == 7 {
+        body.push_str(&limits::of_no_room(asked.sheet, asked.unit)?);
+    }
     if why.refusal.number() != 9 {
         sheet_lines(&mut body, asked.sheet, why);
     }
     let title = format!("{name} is refused");
-    page(asked, &title, &body, "The refusal comes")
-}
-
-/// A paragraph: a sentence with its first letter great and what it quotes set as such.
-fn sentence(before: &str, words: &str) -> String {
-    let mut letters = words.chars();
-    let first = letters.next().map(|c| c.to_ascii_uppercase());
-    let words: String = first.into_iter().chain(letters).collect();
-    let parts: Vec<String> = words.split('`').map(escaped).collect();
-    let quoted = parts.iter().enumerate().map(|(at, part)| match at % 2 {
-        0 => part.clone(),
-        _ => format!("<code>{part}</code>"),
-    });
-    format!("<p>{before}{}.</p>\n", quoted.collect::<String>())
+    let source = "The refusal comes";
+    Ok(page(asked, &title, &body, source))
 }
 
 /// The sheet's own lines, numbered, the refused one marked.

@@ -49,22 +49,26 @@ fn show(given: &ArgMatches, sheet: &Path, streams: &mut Streams) -> Result<Statu
 }
 
 /// The columns that every line keeps to. Only a file's name can be longer, on a line of its own.
-const COLUMNS: usize = 80;
+pub const COLUMNS: usize = 80;
 
 /// What stands before each line of a table.
-const INDENT: &str = "  ";
+pub const INDENT: &str = "  ";
 
 /// Whether colours are used.
 #[derive(Clone, Copy, Debug, PartialEq, Eq)]
 pub struct Paint(pub bool);
 
 impl Paint {
-    const BOLD: &'static str = "1";
-    const DIM: &'static str = "2";
-    const SPLIT: &'static str = "33";
+    /// For titles.
+    pub const BOLD: &'static str = "1";
+    /// For the headers of tables.
+    pub const DIM: &'static str = "2";
+    /// For split tasks.
+    pub const SPLIT: &'static str = "33";
 
     /// A text in a terminal's colour, or as it is.
-    fn on(self, colour: &str, text: &str) -> String {
+    #[must_use]
+    pub fn on(self, colour: &str, text: &str) -> String {
         if self.0 {
             format!("\u{1b}[{colour}m{text}\u{1b}[0m")
         } else {
@@ -87,11 +91,8 @@ pub const HALF: [&str; 7] = [
 /// for task and part in one row, the parts have a table of their own.
 #[must_use]
 pub fn plan(name: &str, sheet: &Sheet, listing: &Listing, unit: &str, paint: Paint) -> String {
-    let sum = sum(sheet, listing, unit);
-    let beside = columns::width(name) + 2 + columns::width(&sum) <= COLUMNS;
-    let between = if beside { " " } else { "\n  " };
     let mut tables = Tables {
-        text: format!("{}:{between}{sum}\n", paint.on(Paint::BOLD, name)),
+        text: heading(name, &sum(sheet, listing, unit), paint),
         paint,
     };
     let mut head = PIECE.to_vec();
@@ -127,6 +128,14 @@ pub fn plan(name: &str, sheet: &Sheet, listing: &Listing, unit: &str, paint: Pai
         tables.add_all("parts", &counted(count, "task"), &lines, false);
     }
     tables.text
+}
+
+/// A file's name and what is said of it above tables, on one line if there is room.
+#[must_use]
+pub fn heading(name: &str, said: &str, paint: Paint) -> String {
+    let beside = columns::width(name) + 2 + columns::width(said) <= COLUMNS;
+    let between = if beside { " " } else { "\n  " };
+    format!("{}:{between}{said}\n", paint.on(Paint::BOLD, name))
 }
 
 /// Tables, one below the other.

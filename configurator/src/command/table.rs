@@ -2,8 +2,9 @@
 //! its kind and x, D, T, J, P, M. It becomes the bytes that the library judges.
 
 use super::files::{RECORDS_MOST, SHEET_MOST};
+use crate::demand::lent;
 use crate::quoted;
-use crate::{Answer, Refusal, UnknownNumber};
+use crate::{Refusal, UnknownNumber};
 use std::str;
 
 /// The records and the costs of a table, as the library takes them.
@@ -30,12 +31,12 @@ pub fn read(table: &[u8]) -> Result<(Vec<u8>, Vec<u8>), Refusal> {
     for (above, line) in lines.iter().enumerate() {
         let (word, numbers) = numbers(line).ok_or_else(|| bad(above))?;
         match (above, word, numbers.len()) {
-            (0, "cost", 9) => costs = Some(bytes(&numbers)),
+            (0, "cost", 9) => costs = Some(lent(&numbers)),
             (1.., _, 6) => {
                 let kind = ["whole", "first", "last"].iter().position(|k| *k == word);
                 let kind = kind.and_then(|kind| u32::try_from(kind).ok());
-                records.extend(bytes(&[kind.ok_or_else(|| bad(above))?]));
-                records.extend(bytes(&numbers));
+                records.extend(lent(&[kind.ok_or_else(|| bad(above))?]));
+                records.extend(lent(&numbers));
             }
             _ => return Err(bad(above)),
         }
@@ -46,32 +47,33 @@ pub fn read(table: &[u8]) -> Result<(Vec<u8>, Vec<u8>), Refusal> {
     }
 }
 
-/// The library's verdict on a table. A refusal carries the table's line: 2 the first, 3 the record's, 6
-/// that of the first record that is one too many.
+/// What the library says about a table, asked on records and costs. A refusal carries the table's line: 2
+/// the first, 3 the record's, 6 that of the first record that is one too many.
 ///
 /// # Errors
 ///
 /// The library answers a number that stands for nothing, which a proved library never does.
-pub fn verdict(table: &[u8]) -> Result<Answer, UnknownNumber> {
+pub fn ask<T>(
+    table: &[u8],
+    library: impl Fn(&[u8], &[u8]) -> Result<Result<T, Refusal>, UnknownNumber>,
+) -> Result<Result<T, Refusal>, UnknownNumber> {
     if table.len() > SHEET_MOST {
-        return Ok(Answer::Refused(Refusal::new(9, 0)));
+        return Ok(Err(Refusal::new(9, 0)));
     }
     let (records, costs) = match read(table) {
         Ok(core) => core,
-        Err(refusal) => return Ok(Answer::Refused(refusal)),
+        Err(refusal) => return Ok(Err(refusal)),
     };
-    Ok(match crate::verdict(&records, &costs)? {
-        Answer::Refused(refusal) => {
-            let line = match (refusal.number(), refusal.carries()) {
-                (2, _) => 1,
-                (3, record) => record + 1,
-                (6, _) => u32::try_from(RECORDS_MOST + 2).unwrap_or(0),
-                _ => 0,
-            };
-            Answer::Refused(Refusal::new(refusal.number(), line))
-        }
-        answer => answer,
-    })
+    let answer = library(&records, &costs)?;
+    Ok(answer.map_err(|refusal| {
+        let line = match (refusal.number(), refusal.carries()) {
+            (2, _) => 1,
+            (3, record) => record + 1,
+            (6, _) => u32::try_from(RECORDS_MOST + 2).unwrap_or(0),
+            _ => 0,
+        };
+        Refusal::new(refusal.number(), line)
+    }))
 }
 
 /// A line's first word and the numbers behind it.
@@ -80,9 +82,4 @@ fn numbers(line: &[u8]) -> Option<(&str, Vec<u32>)> {
     let word = fields.next()?;
     let numbers = fields.map(quoted::number).collect::<Option<Vec<_>>>()?;
     Some((word, numbers))
-}
-
-/// Four bytes a number, lowest first.
-fn bytes(numbers: &[u32]) -> Vec<u8> {
-    numbers.iter().flat_map(|n| n.to_le_bytes()).collect()
 }

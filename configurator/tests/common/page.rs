@@ -40,3 +40,13 @@ pub fn drawings(page: &str) -> usize {
 pub fn bars(page: &str) -> usize {
     page.matches("<svg class=\"piece ").count() - page.matches("<span><svg class=\"piece ").count()
 }
+
+/// How many drawings of demand a page has.
+pub fn curves(page: &str) -> usize {
+    page.matches("<div class=\"plot\"").count()
+}
+
+/// How many cores these are of.
+pub fn figures(page: &str) -> usize {
+    page.matches("<figure class=\"demand\">").count()
+}

@@ -42,11 +42,7 @@ whyCoreTable sheet core room =
 
 -- what a sheet says, and what is listed of it, are looked at only where no rule before is broken
 unfoldable pub sheetTable : (sheet : List ℕ) → (room : ℕ) → List Rule
-sheetTable sheet room =
-    readTable sheet
-    ++ walkTable (machineIn sheet) (costsIn sheet) (tasksIn sheet)
-    ++ (10 if (room < length (textOf sheet)) carrying length (textOf sheet)
-    ∷ [])
+sheetTable sheet room = readTable sheet ++ walkTable (machineIn sheet) (costsIn sheet) (tasksIn sheet) ++ roomTable (textOf sheet) room
 
 -- ---- what a function that writes a text into a lent buffer promises
 

@@ -14,11 +14,8 @@ use crate::demands::sum_at;
 use crate::lengths::climb;
 use crate::lengths::tight_of;
 use crate::most_fitting::squeeze;
-use crate::shows::busy_ask;
-use crate::shows::due_ask;
 use crate::spans::descend;
 use crate::spans::judge_core;
-use demand::Ask;
 use demand::BUSY_MOST;
 use demand::COST_MOST;
 use demand::Charged;
@@ -32,10 +29,9 @@ ghost use Rattle.demand.specs.Sizes.{Each, Tells, runMost};
 ghost use Rattle.demand.specs.ways.Ranges.{Ranged};
 ghost use Rattle.demand.specs.Demand.{largestWindow, leastLive};
 ghost use Rattle.verdicts.specs.ChargedArray.{chargedIn, laidPieces};
-ghost use Rattle.verdicts.specs.Asks.{noAsk, askWithin};
 ghost use Rattle.verdicts.specs.Laid.{laid, laidSum, laidBusyLength, laidTightWindow, laidWait, laidSpan, laidVerdict, laidMostFitting};
 
-fn ranged_piece(q: Charged) -> bool
+pub fn ranged_piece(q: Charged) -> bool
     ensures { λ r. ⌜ Tells (Ranged q) r ⌝ }
 {
     if q.period < 1 {
@@ -63,33 +59,6 @@ fn ranged_piece(q: Charged) -> bool
         return false;
     }
     true
-}
-
-fn no_ask() -> Ask
-    ensures { λ r. ⌜ r ≡ noAsk ⌝ }
-{
-    Ask {
-        jobs: 0,
-        demand: 0,
-        interrupts: 0,
-    }
-}
-
-/// What a charged piece is shown to ask for at the length t, beside a verdict; nothing where a number is past its bound.
-pub fn ask_of(q: Charged, verdict: Verdict, t: u64) -> Ask
-    ensures exact { λ r. ⌜ r ≡ askWithin verdict t q ⌝ }
-{
-    if LENGTH_MOST < t {
-        return no_ask();
-    }
-    if !ranged_piece(q) {
-        return no_ask();
-    }
-    match verdict {
-        Verdict::Passes => due_ask(q, t),
-        Verdict::Overloaded(_) => due_ask(q, t),
-        Verdict::Undecided => busy_ask(q, t),
-    }
 }
 
 // Whether the first n places hold a core.

@@ -1,5 +1,6 @@
 // What is shown of a verdict: document 02, E1. The busy length and the descent are those of the verdict, worked out once.
 use crate::CORE_NUMBERS;
+use crate::LENGTH_MOST;
 use crate::Sum;
 use crate::busy_climb::climb_busy;
 use crate::demands::ceil_div;
@@ -9,6 +10,7 @@ use crate::demands::jobs_due;
 use crate::demands::largest_window;
 use crate::demands::least_live;
 use crate::demands::sum_at;
+use crate::queries::ranged_piece;
 use crate::slacks::least_slack;
 use crate::spans::hunt;
 use demand::Ask;
@@ -25,6 +27,7 @@ ghost use Rattle.demand.specs.declared.Found.the-variants.{At};
 ghost use Rattle.demand.specs.Busy.{busyLength};
 ghost use Rattle.demand.specs.Demand.{leastLive};
 ghost use Rattle.demand.specs.Why.{dueAsk, busyAsk, shown};
+ghost use Rattle.verdicts.specs.Asks.{noAsk, askWithin};
 ghost use Rattle.verdicts.specs.ChargedArray.{chargedIn};
 ghost use Rattle.demand.specs.ways.Ranges.{Ranged, stallMost};
 ghost use Rattle.demand.specs.Sizes.{Each, lengthMost, runMost};
@@ -55,6 +58,33 @@ pub fn busy_ask(q: Charged, l: u64) -> Ask
         jobs: jobs,
         demand: jobs * q.charge,
         interrupts: jobs * (q.release + q.ipi),
+    }
+}
+
+fn no_ask() -> Ask
+    ensures { λ r. ⌜ r ≡ noAsk ⌝ }
+{
+    Ask {
+        jobs: 0,
+        demand: 0,
+        interrupts: 0,
+    }
+}
+
+/// What a charged piece is shown to ask for at the length t, beside a verdict; nothing where a number is past its bound.
+pub fn ask_of(q: Charged, verdict: Verdict, t: u64) -> Ask
+    ensures exact { λ r. ⌜ r ≡ askWithin verdict t q ⌝ }
+{
+    if LENGTH_MOST < t {
+        return no_ask();
+    }
+    if !ranged_piece(q) {
+        return no_ask();
+    }
+    match verdict {
+        Verdict::Passes => due_ask(q, t),
+        Verdict::Overloaded(_) => due_ask(q, t),
+        Verdict::Undecided => busy_ask(q, t),
     }
 }
 

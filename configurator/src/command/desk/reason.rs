@@ -44,8 +44,12 @@ pub fn of(refusal: Refusal, number: usize, edit: &Line, held: &Held) -> Explaine
     let (part, why) = fault.map_or((0..0, None), |fault| (fault.part, Some(fault.why)));
     let line = explain::Line::cut(number, &edit.bytes, part.start, part.end);
     (explained.line, explained.why) = (Some(line), why);
-    if let (7, Some(name)) = (refusal.number(), held.after(edit).at(refusal.carries())) {
-        let _ = write!(explained.meaning, ", `{}`", shown(name));
+    if refusal.number() == 7 {
+        let after = held.after(edit);
+        if let Some(name) = after.at(refusal.carries()) {
+            let _ = write!(explained.meaning, ", `{}`", shown(name));
+        }
+        explained.no_room = explain::no_room(refusal, &after.sheet()).unwrap_or_default();
     }
     explained
 }

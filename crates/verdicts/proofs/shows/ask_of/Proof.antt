@@ -1,4 +1,4 @@
--- `queries::ask_of` meets its contract: what is asked for by the verdict's case, where no number is past its bound.
+-- `shows::ask_of` meets its contract: what is asked for by the verdict's case, where no number is past its bound.
 use mathlib.Core.Bool.{Bool}
 use mathlib.Core.Path.{sym, ap, subst, _∙_}
 use native.Mathlib.Omega.{arith}
@@ -9,11 +9,11 @@ use Rattle.demand.specs.Why.{ask}
 use Rattle.demand.specs.ways.Ranges.{Ranged}
 use Rattle.verdicts.proofs.AskLaws.{ask-held, ask-long, ask-unranged}
 use borrow.Author.Needs.{needs}
-use Rattle.verdicts.proofs.queries.ask_of.Statement.{statement}
-use Rattle.verdicts.proofs.queries.ask_of.Tie as tie
-use Rattle.verdicts.proofs.queries.ask_of.Reads as reads
-use Rattle.verdicts.proofs.queries.ask_of.Lts as lts
-use Rattle.verdicts.proofs.queries.no_ask.Reads as no-ask-reads
+use Rattle.verdicts.proofs.shows.ask_of.Statement.{statement}
+use Rattle.verdicts.proofs.shows.ask_of.Tie as tie
+use Rattle.verdicts.proofs.shows.ask_of.Reads as reads
+use Rattle.verdicts.proofs.shows.ask_of.Lts as lts
+use Rattle.verdicts.proofs.shows.no_ask.Reads as no-ask-reads
 use Rattle.verdicts.proofs.queries.ranged_piece.Reads as ranged-piece-reads
 use Rattle.verdicts.proofs.shows.busy_ask.Reads as busy-ask-reads
 use Rattle.verdicts.proofs.shows.due_ask.Reads as due-ask-reads
