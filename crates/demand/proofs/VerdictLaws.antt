@@ -1,7 +1,6 @@
 -- Laws of the verdict, over charged pieces. `Judgement.antt` says them of the pieces of a core.
 -- Assumes nothing.
 --
---   calm-more             a step of the descent passes over calm lengths only
 --   says-unique           what a span says is one, so that the descent and `scan` agree
 --   verdict-means         the executable definition satisfies the meaning
 --   verdict-unique        two verdicts that satisfy the meaning coincide
@@ -23,20 +22,11 @@ use Rattle.demand.specs.declared.Found.the-variants.{At, Nothing}
 use Rattle.demand.specs.declared.Verdict.{Verdict}
 use Rattle.demand.specs.declared.Verdict.the-variants.{Passes, Overloaded, Undecided}
 use Rattle.demand.specs.Sizes.{Each, busyMost}
-use Rattle.demand.specs.Demand.{demand, largestWindow, Live, leastLive}
+use Rattle.demand.specs.Demand.{demand, Live, leastLive}
 use Rattle.demand.specs.Busy.{Least, Holds, Finds, busySum, busyLength}
 use Rattle.demand.specs.Verdict.{Judged, Calm, Says, Means, scan, overSpan, verdict}
-use Rattle.demand.proofs.DemandLaws.{Recurs, demand-add, demand-mono, least-live-least}
+use Rattle.demand.proofs.DemandLaws.{Recurs, demand-add, least-live-least}
 use Rattle.demand.proofs.BusyLaws.{least-le, least-unique, busy-length-finds}
-
--- ---- the descent
-
-pub calm-more : (b : ℕ) (qs : List Charged) (t low end : ℕ) → demand b qs t ≤ low
-    → (largestWindow qs ≤ t → largestWindow qs ≤ low) → Calm b qs (t + 1) end → Calm b qs low end
-calm-more b qs t low end fits side calm u from below = elim (decLt t u) [
-  | yes above ↦ calm u (omega arith) below
-  | no under ↦ omega (arith, demand-mono qs b {t = u} {u = t} (omega arith) (λ w. omega (arith, side w)))
-]
 
 -- ---- what a span says
 

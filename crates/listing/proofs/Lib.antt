@@ -10,3 +10,4 @@ pub mod PlacedLaws
 pub mod PlainLaws
 pub mod WhyPlacedLaws
 pub mod Theorems
+pub mod WhyExamples

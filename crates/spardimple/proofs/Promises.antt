@@ -8,8 +8,7 @@
 --   add, withdraw, retime           answer editOf e s, from any state s
 --   why_records(records, costs, out)    answers whyRecordsNumber records costs room, and the buffer then holds whyRecordsLeft records costs old
 --   why_core(sheet, core, out)      answers whyCoreNumber sheet core room, and the buffer then holds whyCoreLeft sheet core old
---   why_run, why_plan               write the paper whyRun c n ps, or whyOf s k core of a state s; show_records shows what showingOf has, ask_of what a piece asks for
---   plan_reached                    answers reachedOf m c n ts: planOf, and with 7 what was placed before the walk stuck
+--   why_plan(s, k, core, out)       writes the paper whyOf s k core, of any state s
 --   demand_at(records, costs, t)    answers demandNumber records costs t
 --
 -- Each of these is an equation for any input, with nothing asked of the caller: so one input has one answer, and one content for what was lent.
@@ -23,19 +22,20 @@
 --   no-room                         7 comes exactly where the walk sticks, with the task
 --   refused-buffer, refused-state   a refusal changes no lent byte and no held plan
 --   written-buffer                  a listing that is written stands at the front of the buffer, and the bytes beyond stay
---   why-records-answered, why-core-answered     so do the answers of `why_records` and `why_core`, by their tables, in every buffer
---   why-records-left, why-core-left             and what the buffer then holds
+--   why-records-answered, why-core-answered     the answers of `why_records` and `why_core` come by their tables too, in every buffer
+--   why-records-left, why-core-left             and so does what the buffer then holds
 -- Demand 2, verdict and plan:
 --   passes, overloaded, undecided   each verdict comes exactly where no rule is broken and its meaning holds; `-told`: on lent bytes, by the number given back
 --   overloaded-shows                an overloaded length is one at which a job is due, and asks for more than itself
+--   split                           and so does a split
 --   why-verdict, why-adds           what is shown of a verdict names it, and its terms add up to its total
 --   why-overloaded, why-passes, why-undecided, why-empty     at the overloaded length, which asks for more than itself; at a live length of the judged span with the least
 --                                   slack, the shortest if several; with the busy sum at the limit, which is above it; with nothing
 --   why-records-shown, why-core-shown, why-stuck-shown       the listing of lent records, of a core, and of the last core of a walk that stuck, with that task added
 --   why-stuck-where                 where that is: what was placed by the walk over the tasks ahead of it, which ends well, and then the task is refused
---   why-plan-shown                  the same of a core of a held plan
---   demand-told                     the demand at a length, of lent records that break no rule
---   split                           and so does a split
+--   why-stuck-fails                 and with that task added the last core does not pass
+--   why-plan-shown, why-plan-outside     the same of a core of a held plan; a core that the machine has not is refused with 1
+--   demand-told, demand-untold      the demand at a length, of lent records that break no rule; 0 elsewhere
 --   verdict-means, split-means      the verdict and the split that the walk goes by are those that are meant
 --   packing, packing-ranked         the packing order has each task once, greater C/D first, ties by earlier task
 --   packing-one, walk-order         it is the only order that is so, and the walk goes over the tasks in it
@@ -74,8 +74,8 @@
 --   whyRecordsText    why-records-shown
 --   whyCoreText       why-core-shown, why-stuck-shown
 --   shownOf           why-verdict, why-adds, why-overloaded, why-passes, why-undecided, why-empty
---   whyOf             why-plan-shown
---   demandNumber      demand-told
+--   whyOf             why-plan-shown, why-plan-outside
+--   demandNumber      demand-told, demand-untold
 --   verdictOf         verdict-means
 --   greatestSplit     split-means
 --   packed            packing, packing-ranked, packing-one
@@ -133,19 +133,20 @@ use Rattle.walks.specs.Edits.{edited}
 use Rattle.walks.specs.Kept.{Among, Behind}
 use Rattle.walks.specs.Halves.{Stand}
 use Rattle.plan.specs.declared.Plan.{Plan}
-use Rattle.plan.specs.Walk.{placeWay, taskWay, denserAt, packed, walked, walkedUntil}
+use Rattle.plan.specs.Walk.{wholeAt, placeWay, taskWay, denserAt, packed, walked, walkedUntil}
 use Rattle.plan.specs.Layout.{tasksOn}
 use Rattle.plan.specs.Plan.{planOf}
 use Rattle.plan.specs.Refusals.{planTable}
 use Rattle.plan.specs.Places.{Rearranged, ofTask, TaskPlaced}
 use Rattle.plan.proofs.Theorems.{packing-order, packing-ranked as ranked, packing-one as only-order}
-use Rattle.plan.proofs.Theorems.{all-placed, budgets-add, windows-add, plan-counts}
+use Rattle.plan.proofs.Theorems.{all-placed, budgets-add, windows-add, plan-counts, no-room-last}
 use Rattle.plan.proofs.RefusalLaws.{plan-refused as told-plan, plan-kept}
 use Rattle.sheet.specs.Refusals.{readTable}
 use Rattle.listing.specs.Listing.{spelling, listingOf}
-use Rattle.listing.specs.Papers.{written}
+use Rattle.listing.specs.Papers.{refused, written}
 use Rattle.listing.specs.Why.{noRoomLine, whyText, byPlace, titledPlaced, wholeSeat, whyOf}
 use Rattle.listing.specs.Placed.{placedLines, placedListing}
+use Rattle.listing.proofs.WhyPlacedLaws.{asked-outside}
 use Rattle.edits.specs.Edits.{byName, TaskEdit, tasksHeld, editOf, accepted, Afresh, Held, played}
 use Rattle.edits.specs.Refusals.{editTable}
 use Rattle.edits.specs.Kept.{inOrder, Keeps, editedName, Ahead}
@@ -162,7 +163,7 @@ use Rattle.spardimple.proofs.RefusalLaws.{verdict-refused as told-verdi
 use Rattle.spardimple.proofs.RefusalLaws.{listing-refused as told-listing, listing-taken as taken-listing, listing-comes as some-listing}
 use Rattle.spardimple.proofs.RefusalLaws.{no-room as told-seven, buffer-kept, buffer-listed, sheet-sane as state-sane, sheet-walks as state-walks}
 use Rattle.spardimple.proofs.RefusalLaws.{sheet-read as kept-read, told-apart as lines-apart}
-use Rattle.spardimple.proofs.WhyLaws.{why-records-answered as records-answered, why-records-left as records-left, demand-told as told-demand}
+use Rattle.spardimple.proofs.WhyLaws.{why-records-answered as records-answered, why-records-left as records-left, demand-told as told-demand, demand-untold as untold-demand}
 use Rattle.spardimple.proofs.WhyLaws.{why-core-answered as core-answered, why-core-left as core-left}
 use Rattle.spardimple.proofs.WhyHeld.{plan-shown}
 use Rattle.spardimple.proofs.JudgedLaws.{run-passes, run-overloaded, run-undecided, run-split, verdict-passes, verdict-overloaded, verdict-undecided}
@@ -325,14 +326,25 @@ pub why-stuck-where : (m : Machine) (c : Costs) (ts : List Task) (k n : ℕ) →
 unfolding walked
 why-stuck-where m c ts k n so = stuck-where (placeWay m c ts) (placeWay m c ts .begin) (packed ts) k n so
 
+-- and with it the last core does not pass: so no listing of a task that found no room names a pass
+pub why-stuck-fails : (m : Machine) (c : Costs) (n : ℕ) (ts : List Task) → Kept (stateTable m c n ts) → (k : ℕ) → walked m c (take n ts) ≡ stuck k 7
+    → Not (verdictOf c (rowOf (m .cores - 1) (walkedUntil m c (take n ts)) ++ (wholeAt (take n ts) k ∷ [])) ≡ Passes)
+why-stuck-fails m c n ts sane k sticks = no-room-last m c n ts (state-kept m c n ts .1 sane) k sticks
+
 -- a core of a held plan
 pub why-plan-shown : (s : Plan) (held : Held s) (core : ℕ) → 1 ≤ core → core ≤ s .machine .cores
     → whyOf s 0 core ≡ written (whyText (s .costs) (map (titledPlaced (tasksHeld s)) (onCore (core - 1) (held .log))))
 why-plan-shown = plan-shown
 
+pub why-plan-outside : (s : Plan) (k core : ℕ) → Not ((1 ≤ core) × (core ≤ s .machine .cores)) → whyOf s k core ≡ refused 1 0
+why-plan-outside s k core out = asked-outside s k core (λ some within. out (some, within))
+
 pub demand-told : (rs cs : List ℕ) (t : ℕ) → Kept (lentTable rs cs) → t ≤ lengthMost
     → demandNumber rs cs t ≡ demand (stall (costsSpelt cs)) (coreOf (costsSpelt cs) (piecesOf rs)) t
 demand-told = told-demand
+
+pub demand-untold : (rs cs : List ℕ) (t : ℕ) → Not (Kept (lentTable rs cs) × (t ≤ lengthMost)) → demandNumber rs cs t ≡ 0
+demand-untold = untold-demand
 
 -- ---- demand 2: the plan
 

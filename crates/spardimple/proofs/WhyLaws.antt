@@ -5,7 +5,7 @@
 --   settled-answered, settled-left      so it is answered by the rules and then by 10, and so is what the buffer holds
 --   records-settled, core-settled       lent records; a sheet and a core
 --   why-records-answered, -left, why-core-answered, -left       so their answers come by their tables
---   demand-told           g(t) of lent records, where they are judged
+--   demand-told, demand-untold          g(t) of lent records, where they are judged, and 0 elsewhere
 use mathlib.Core.Path.{_≡_, refl, sym, ap, subst, _∙_}
 use mathlib.Core.Bool.{Bool, true, false, cond}
 use mathlib.Core.Logic.{_⊎_, inl, inr, _↔_}
@@ -13,7 +13,7 @@ use mathlib.Core.List.{List, [], _∷_, _++_, map}
 use Prim.Native.Nat.{ℕ, zero, suc, _+_, _*_, _-_, _%_, _^_, _≤_, _<_}
 use native.Mathlib.Decide.{decLt, decLe}
 use native.Mathlib.Omega.{arith}
-use borrow.Author.Tests.{eqb-true, eqb-false, le-leb}
+use borrow.Author.Tests.{eqb-true, eqb-false, le-leb, lt-leb}
 use lib.Dec.{leb, eqb}
 use lib.ListN.{length, take, drop, length-map, length-append}
 use lib.Seq.{take-length}
@@ -21,6 +21,7 @@ use Rattle.demand.specs.declared.Piece.{Piece}
 use Rattle.demand.specs.declared.Costs.{Costs}
 use Rattle.demand.specs.declared.Check.{Check}
 use Rattle.demand.specs.declared.Check.the-variants.{Fine, Bad}
+use Rattle.demand.specs.declared.Found.the-variants.{At, Nothing}
 use Rattle.demand.specs.declared.Refusal.the-variants.{TooMany, BadCosts, BadRecord}
 use Rattle.demand.specs.declared.Answer.{Answer}
 use Rattle.demand.specs.declared.Answer.the-variants.{Refused}
@@ -66,7 +67,7 @@ use Rattle.spardimple.proofs.NumberLaws.{told-one}
 use Rattle.spardimple.proofs.SheetLaws.{told-long, told-short}
 use Rattle.spardimple.proofs.PaperLaws.{said-sane, machine-said, costs-said, tasks-said, good, walkRead, said-walk, names-short, told-cases}
 use Rattle.spardimple.proofs.RefusalLaws.{Answers, refusal-answers, accepted-answers, number-refuses, odd-records as odd-records-come, odd-costs as odd-costs-come}
-use Rattle.spardimple.proofs.WhySteps.{odd-records, odd-costs, formed-records, unread-core, read-core, demand-formed}
+use Rattle.spardimple.proofs.WhySteps.{odd-records, odd-costs, formed-records, unread-core, read-core, demand-odd-records, demand-odd-costs, demand-formed}
 
 -- ---- a paper by its rules, and then by 10
 
@@ -230,6 +231,10 @@ module _ (rs cs : List ℕ) where
     either (length rs % 28) 0 (kept .0),
     either (length cs) 36 (kept .1 .0),
   )
+
+  lent-kept : length rs % 28 ≡ 0 → length cs ≡ 36 → checkRun c (length ps) ps ≡ Fine → Kept (lentTable rs cs)
+  lent-kept whole nine fine =
+      comes-kept (subst (λ (x : Check). Comes (lentTable rs cs) (badNumber x) (badCarries x)) fine (lent-comes whole nine (check-comes c (length ps) ps))) .0 refl
 
   lent-fine : Kept (lentTable rs cs) → checkRun c (length ps) ps ≡ Fine
   unfolding lentTable
@@ -432,3 +437,28 @@ module _ (rs cs : List ℕ) (t : ℕ) where
       figure : figureNumber (demandFigure (costsSpelt cs) (length (piecesOf rs)) (piecesOf rs) t)
           ≡ demand (stall (costsSpelt cs)) (coreOf (costsSpelt cs) (piecesOf rs)) t
       figure = unfold demandFigure in rw (lent-fine rs cs kept, le-leb t lengthMost low, take-length (piecesOf rs))
+
+  -- and 0 elsewhere
+  pub demand-untold : Not (Kept (lentTable rs cs) × (t ≤ lengthMost)) → demandNumber rs cs t ≡ 0
+  demand-untold never = by (eqb (length rs % 28) 0) refl
+    where
+      many : length rs % 28 ≡ 0 → length cs ≡ 36 → (k : Check) → checkRun (costsSpelt cs) (length (piecesOf rs)) (piecesOf rs) ≡ k
+          → figureNumber (figured k (cond (leb t lengthMost) (At (demand (stall (costsSpelt cs)) (coreOf (costsSpelt cs) (take (length (piecesOf rs)) (piecesOf rs))) t)) Nothing)) ≡ 0
+      many whole nine Fine fine = elim (decLe t lengthMost) [
+        | yes low ↦ absurd (never (lent-kept rs cs whole nine fine, low))
+        | no high ↦ rw (lt-leb t lengthMost (omega arith))
+      ]
+      many whole nine (Bad r) bad = refl
+
+      nine-by : length rs % 28 ≡ 0 → (b : Bool) → eqb (length cs) 36 ≡ b → demandNumber rs cs t ≡ 0
+      nine-by whole true e =
+          let nine = eqb-true (length cs) 36 e in
+          demand-formed rs cs t whole nine
+          ∙ (unfold demandFigure in subst (λ (k : Check). figureNumber (figured k (cond (leb t lengthMost) (At (demand (stall (costsSpelt cs))
+          (coreOf (costsSpelt cs) (take (length (piecesOf rs)) (piecesOf rs))) t)) Nothing)) ≡ 0) refl
+          (many whole nine (checkRun (costsSpelt cs) (length (piecesOf rs)) (piecesOf rs)) refl))
+      nine-by whole false e = sym (demand-odd-costs rs cs t whole (eqb-false (length cs) 36 e))
+
+      by : (b : Bool) → eqb (length rs % 28) 0 ≡ b → demandNumber rs cs t ≡ 0
+      by true e = nine-by (eqb-true (length rs % 28) 0 e) (eqb (length cs) 36) refl
+      by false e = sym (demand-odd-records rs cs t (eqb-false (length rs % 28) 0 e))

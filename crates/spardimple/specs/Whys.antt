@@ -4,7 +4,7 @@
 --   whyRecordsText rs cs       the listing of lent records
 --   whyCoreText sheet core     the listing of a core, from 1, of a sheet's plan; where the walk sticks, that of the last core as it stood then, with the whole stuck
 --                              task added, and a line in front
--- And as it is worked out, which `proofs/WhyNumberLaws.antt` ties to it:
+-- And as it is worked out, which `proofs/WhyLaws.antt` ties to it:
 --   whyRecords rs cs           what lent records come to: 8 first, then as their verdict is refused; else the listing
 --   whyCore sheet core         what a sheet and a core come to: the sheet's own refusal; 1 where the machine has no such core; else the listing
 --   whyRecordsNumber, whyRecordsLeft, whyCoreNumber, whyCoreLeft       what is given back for them, and what the buffer then holds
