@@ -64,22 +64,29 @@ fn many_files() {
     let sheet = folder.join("s.sheet");
     let path = sheet.to_str().unwrap();
     let dir = folder.to_str().unwrap();
-    let others: [&[&str]; 5] = [
+    let of_a_sheet: [&[&str]; 5] = [
         &["show", path],
         &["report", path],
         &["batch", dir],
+        &["why", path],
+        &["why", "--json", path],
+    ];
+    let of_a_core: [&[&str]; 4] = [
         &["verdict", "--table", path],
         &["verdict", path, path],
+        &["why", "--table", path],
+        &["why", "--records", path, path],
     ];
+    let others = of_a_sheet.iter().chain(&of_a_core).cycle();
     let mut planned = 0;
     let files = rounds(3_000);
-    for (_, other) in (0..files).zip(others.into_iter().cycle()) {
+    for (_, other) in (0..files).zip(others) {
         let bytes = random_file(&mut random);
         put(&sheet, &bytes);
         let (status, out, err) = said(&["plan", path]);
         let (second, ..) = said(other);
-        let of_the_sheet = other[0] != "verdict";
-        assert!(second == status || !of_the_sheet && second <= Status::Refused);
+        let of_core = of_a_core.contains(other);
+        assert!(second == status || of_core && second <= Status::Refused);
         match plan(&bytes).unwrap() {
             Ok(listing) => {
                 assert_eq!((status, out, err.as_str()), (Status::Accepted, listing, ""));
@@ -99,6 +106,8 @@ fn many_files() {
                     err.contains(&format!(": refused ({}): ", refusal.number())),
                     "{err}"
                 );
+                let says_why = err.contains("\n  why: core ");
+                assert_eq!(says_why, refusal.number() == 7, "{err}");
             }
         }
     }
