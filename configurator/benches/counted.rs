@@ -1,6 +1,7 @@
 //! The library's own algorithms once more, in plain Rust: the busy length by leaps, the walk down
-//! with care at the largest window, and the lean search for a split. They are written from the
-//! Rattle source to be counted, and to be timed by another compiler; the listings are compared.
+//! with care at the largest window, the least slack, and the lean search for a split. They are
+//! written from the Rattle source to be counted, and to be timed by another compiler; the listings
+//! and the lengths that are shown are compared.
 
 #![allow(clippy::many_single_char_names)] // the letters are those of document 01 and of the source
 
@@ -279,18 +280,27 @@ impl<T: Tally> Lean<T> {
         None
     }
 
-    fn descend(&mut self, core: &[Lane], b: u64, a: u64, l: u64) -> Verdict {
-        let w = largest_window(core);
+    /// The greatest of the l lengths from a at which the demand, with the bar added, is above the
+    /// length.
+    fn hunt(&mut self, core: &[Lane], b: u64, w: u64, bar: u64, a: u64, l: u64) -> Option<u64> {
         let mut end = a + l;
         while a < end {
             let t = end - 1;
             let g = self.demand(core, b, w, t);
-            if t < g {
-                return Verdict::Overloaded(t);
+            if t < g + bar {
+                return Some(t);
             }
-            end = next_end(g, w, t);
+            end = next_end(g + bar, w, t);
         }
-        Verdict::Passes
+        None
+    }
+
+    fn descend(&mut self, core: &[Lane], b: u64, a: u64, l: u64) -> Verdict {
+        let w = largest_window(core);
+        match self.hunt(core, b, w, 0, a, l) {
+            Some(t) => Verdict::Overloaded(t),
+            None => Verdict::Passes,
+        }
     }
 
     /// The verdict on a core.
@@ -304,9 +314,59 @@ impl<T: Tally> Lean<T> {
         }
     }
 
+    /// From where on the demand of the pieces and of q is as at t.
+    fn stretch_start(&mut self, core: &[Lane], q: &Lane, t: u64) -> u64 {
+        self.tally.note(Event::Stretch(core.len() + 1));
+        self.tally
+            .note(Event::Divided(due(core, t) + calls(core) + 1));
+        let starts = core.iter().map(|q| lane_start(q, t)).max().unwrap_or(0);
+        starts.max(lane_start(q, t))
+    }
+
+    /// The start of t's stretch, not below a and not past the largest window w; or t, where the
+    /// demand there is another.
+    fn level(&mut self, core: &[Lane], b: u64, w: u64, a: u64, t: u64) -> u64 {
+        let start = a.max(self.stretch_start(core, &core[0], t));
+        let v = next_end(t.min(start), w, t);
+        if v == t {
+            return t;
+        }
+        let x = self.demand(core, b, w, t);
+        let y = self.demand(core, b, w, v);
+        if x == y {
+            v
+        } else {
+            t
+        }
+    }
+
+    /// The shortest of the l lengths from a with the least slack.
+    fn least_slack(&mut self, core: &[Lane], b: u64, w: u64, a: u64, l: u64) -> u64 {
+        let (mut best, mut end) = (a, a + l);
+        while a < end {
+            let x = self.demand(core, b, w, best);
+            let bar = best.saturating_sub(x) + 1;
+            match self.hunt(core, b, w, bar, a, end - a) {
+                None => return best,
+                Some(t) => {
+                    let v = self.level(core, b, w, a, t);
+                    best = v;
+                    end = v;
+                }
+            }
+        }
+        best
+    }
+
+    /// The length that is shown of a core with pieces that passes.
+    pub fn slack_length(&mut self, core: &[Lane], b: u64) -> Option<u64> {
+        let l = self.busy_length(core)?;
+        Some(self.least_slack(core, b, largest_window(core), least_live(core), l))
+    }
+
     /// The greatest charge of q up to f that fits at t, what is asked for there beside it, and the
     /// jobs that are charged.
-    fn level(&mut self, core: &[Lane], b: u64, w: u64, q: &Lane, f: u64, t: u64) -> [u64; 3] {
+    fn level_at(&mut self, core: &[Lane], b: u64, w: u64, q: &Lane, f: u64, t: u64) -> [u64; 3] {
         let g = self.demand(core, b, w, t);
         let calls = self.calls(std::slice::from_ref(q), t);
         self.tally.note(Event::Divided(1));
@@ -326,17 +386,13 @@ impl<T: Tally> Lean<T> {
         let (mut charge, mut end) = (f, a + l);
         while a < end {
             let t = end - 1;
-            let [most, rest, jobs] = self.level(core, b, w, q, charge, t);
+            let [most, rest, jobs] = self.level_at(core, b, w, q, charge, t);
             if most == 0 {
                 return 0;
             }
             if most < charge {
-                self.tally.note(Event::Stretch(core.len() + 1));
-                self.tally
-                    .note(Event::Divided(due(core, t) + calls(core) + 1));
-                let starts = core.iter().map(|q| lane_start(q, t)).max().unwrap_or(0);
-                let start = starts.max(lane_start(q, t));
-                charge = self.level(core, b, w, q, most, a.max(start).min(t))[0];
+                let start = self.stretch_start(core, q, t);
+                charge = self.level_at(core, b, w, q, most, a.max(start).min(t))[0];
             }
             end = next_end(rest + jobs * charge, w, t);
         }

@@ -4,6 +4,7 @@
 //! `--quick` (a tenth of the sheets), `--svg DIR` (plots besides), and `--spin NAME`, which only has
 //! the library plan the workload of that name for five seconds, for a profiler to look on.
 //! `--first-fit` only counts the sheets that the walk plans, and those that first fit would.
+//! `--why` only counts and times what it costs to say why.
 //! `--core LIST` only looks at the core of such pieces as `1/2, 3/7`, a budget in a period.
 //! `--hunt SECONDS` searches for slow inputs instead, from the seed in the environment variable
 //! `SPARDIMPLE_SEED`.
@@ -28,6 +29,7 @@ mod papers;
 mod report;
 mod sheets;
 mod tally;
+mod why;
 
 use std::env;
 use std::path::PathBuf;
@@ -44,12 +46,19 @@ use report::{median, Measured, SlowCore, Timed, COLUMNS};
 use sheets::{Placed, Sheet};
 use tally::{Counts, Silent};
 
+/// A part that stands apart from the rest of what is measured.
+#[derive(Clone, Copy)]
+enum Part {
+    FirstFit,
+    Why,
+}
+
 /// What the command line asks for.
 #[derive(Default)]
 struct Options {
     json: bool,
     quick: bool,
-    first_fit: bool,
+    only: Option<Part>,
     svg: Option<PathBuf>,
     spin: Option<String>,
     hunt: Option<u64>,
@@ -64,13 +73,14 @@ fn options() -> Options {
             "--bench" => {} // cargo says so
             "--json" => options.json = true,
             "--quick" => options.quick = true,
-            "--first-fit" => options.first_fit = true,
+            "--first-fit" => options.only = Some(Part::FirstFit),
+            "--why" => options.only = Some(Part::Why),
             "--svg" => options.svg = words.next().map(PathBuf::from),
             "--spin" => options.spin = words.next(),
             "--core" => options.core = words.next(),
             "--hunt" => options.hunt = words.next().and_then(|word| word.parse().ok()),
             _ => {
-                eprintln!("plan [--json] [--quick] [--first-fit] [--svg DIR] [--spin NAME] [--core LIST] [--hunt SECONDS], not {word}");
+                eprintln!("plan [--json] [--quick] [--first-fit] [--why] [--svg DIR] [--spin NAME] [--core LIST] [--hunt SECONDS], not {word}");
                 process::exit(2);
             }
         }
@@ -91,8 +101,13 @@ fn main() {
         return hunt(Duration::from_secs(seconds));
     }
     let (each, rounds) = if options.quick { (1, 3) } else { (10, 9) };
-    if options.first_fit {
-        return println!("{}", first_fit::table(&loads::loads(each)));
+    if let Some(part) = options.only {
+        let loads = loads::loads(each);
+        let text = match part {
+            Part::FirstFit => first_fit::table(&loads),
+            Part::Why => why::tables(&loads, &loads::slow()),
+        };
+        return println!("{text}");
     }
     let mut measured = Vec::new();
     for load in loads::loads(each) {
@@ -196,12 +211,19 @@ fn measure(load: &Load, rounds: usize) -> Measured {
 
 /// Whether the library passes each core of a plan.
 fn all_pass(sheet: &Sheet<'_>, placed: &[Placed]) -> bool {
+    let passes = |(records, costs): &Question| ffi::verdict(records, costs) == 0;
+    rows(sheet, placed).iter().all(passes)
+}
+
+/// The cores of a plan that have pieces.
+fn rows(sheet: &Sheet<'_>, placed: &[Placed]) -> Vec<Question> {
     let costs = bytes_of(&sheet.costs.numbers());
-    let mut rows = vec![Vec::new(); sheet.cores];
+    let mut rows = vec![(Vec::new(), costs); sheet.cores];
     for piece in placed {
-        rows[piece.core].extend(record(piece.kind, &piece.fields));
+        rows[piece.core].0.extend(record(piece.kind, &piece.fields));
     }
-    rows.iter().all(|row| ffi::verdict(row, &costs) == 0)
+    rows.retain(|(records, _)| !records.is_empty());
+    rows
 }
 
 /// A record as lent bytes.

@@ -182,7 +182,7 @@ fn times(ratio: f64) -> String {
 }
 
 /// A count with its digits in groups of three.
-fn grouped(count: u64) -> String {
+pub fn grouped(count: u64) -> String {
     let digits = count.to_string();
     let mut text = String::new();
     for (place, digit) in digits.chars().enumerate() {
@@ -195,7 +195,7 @@ fn grouped(count: u64) -> String {
 }
 
 /// Whether a target is met.
-fn met(yes: bool) -> &'static str {
+pub fn met(yes: bool) -> &'static str {
     if yes {
         "met"
     } else {

@@ -1,5 +1,6 @@
 //! The benchmark's copy of the library's algorithms against the library, so that what it counts is
-//! what the library does; and the next ideas, which must give the same listings.
+//! what the library does, and its least slack against the oracle's too; and the next ideas, which must
+//! give the same listings.
 
 #![warn(clippy::all, clippy::pedantic)]
 
@@ -14,10 +15,14 @@ mod tally;
 
 use std::fmt::Write as _;
 
-use configurator::plan;
-use counted::Lean;
+use configurator::{plan, why_records};
+use counted::{Lean, Verdict};
+use inputs::cores::{self, lent_costs, lent_records, Draw};
 use inputs::sheets::{full_load, SheetDraw, SMALL};
 use inputs::{bytes, cases, Random};
+use plain::demand::Core;
+use plain::verdict::Way;
+use plain::why::Figures;
 use tally::{Counts, Silent};
 
 /// Plans a sheet by the copy, as it is and with the next ideas, and compares; gives the candidates
@@ -100,4 +105,57 @@ fn long_blocking() {
     }
     println!("{splits} splits");
     assert!(splits > 500);
+}
+
+/// Compares the length that is shown of a core: the copy's, the oracle's and the library's. Whether
+/// it passes.
+fn compare_shown(core: &Core, way: Way) -> bool {
+    let (records, costs) = (lent_records(core), lent_costs(core));
+    let (lanes, stall) = sheets::lanes(&records, &costs);
+    let mut lean = Lean::new(Silent);
+    let (word, length) = match lean.judge(&lanes, stall) {
+        Verdict::Passes if lanes.is_empty() => ("passes", 0),
+        Verdict::Passes => ("passes", lean.slack_length(&lanes, stall).unwrap()),
+        Verdict::Overloaded(length) => ("overloaded", length),
+        Verdict::Undecided => ("undecided", 100_000_000),
+    };
+    let oracle = Figures::of(core, way).map_or(0, |figures| figures.length);
+    assert_eq!(length, oracle, "{core:?}");
+    let text = why_records(&records, &costs).unwrap().unwrap();
+    let begins = format!("why\t{word}\t{length}\t");
+    assert!(text.starts_with(begins.as_bytes()), "{begins} {core:?}");
+    word == "passes"
+}
+
+#[test]
+fn least_slacks() {
+    let mut random = Random::for_test();
+    let small = [
+        Draw::new(7, 60, 0, 0),
+        Draw::new(4, 40, 25, 2),
+        Draw::new(5, 60, 220, 0),
+        Draw::new(6, 200, 120, 6),
+    ];
+    let long = [
+        Draw::new(79, 900, 10, 1),
+        Draw::new(8, 50_000, 10, 100),
+        Draw::new(10, 1_000_000, 5, 2_000),
+    ];
+    let mut passes = 0;
+    for (draws, way, each) in [
+        (&small[..], Way::EveryLength, 1_000),
+        (&long, Way::Stretches, 200),
+    ] {
+        for draw in draws {
+            for _ in 0..each {
+                passes += u64::from(compare_shown(&draw.core(&mut random), way));
+            }
+        }
+    }
+    for _ in 0..1_000 {
+        let core = cores::full_load(&mut random);
+        passes += u64::from(compare_shown(&core, Way::Stretches));
+    }
+    println!("{passes} pass");
+    assert!(passes > 1_500);
 }
