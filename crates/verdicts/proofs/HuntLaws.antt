@@ -4,9 +4,10 @@
 --   core-rises                                      the demand of a core is such a one
 --   test-moves                                      the test that does not wrap
 --   quiet-more                                      a step passes over lengths only that are not overloaded
---   hunt-hit, hunt-none                             a hunt with no bar is the verdict's scan
---   hit-of, none-of, bar-is                         what a hunt's answer says, and the bar as the code has it
+--   hit-scans, quiet-scans, hunt-hit, hunt-none     what is found is what the verdict's scan finds
+--   hit-of, none-of, over-of, least-of, bar-is      what a search's answer says, and the bar as the code has it
 --   leads-start, leads-hit, leads-none, leads-low   how the search for the least slack begins, goes on and ends
+--   over-hit, over-stretch, calm-stretch, calm-none      and what it tells of overloaded lengths on the way
 use mathlib.Core.Path.{_≡_, refl, subst}
 use mathlib.Core.List.{List}
 use Prim.Native.Nat.{ℕ, _+_, _-_, _≤_, _<_}
@@ -20,10 +21,12 @@ use Rattle.demand.specs.declared.Found.the-variants.{At, Nothing}
 use Rattle.demand.specs.declared.Verdict.the-variants.{Passes, Overloaded}
 use Rattle.demand.specs.Demand.{demand, largestWindow}
 use Rattle.demand.specs.Verdict.{scan}
-use Rattle.demand.specs.Why.{slack, LeastSlack}
+use Rattle.demand.specs.Why.{slack, LeastSlack, leastSlack}
 use Rattle.demand.proofs.DemandLaws.{demand-mono}
 use Rattle.demand.proofs.VerdictLaws.{scan-is}
-use Rattle.verdicts.specs.ways.SlackHunt.{Rises, raised, Quiet, Hit, Hunts, Level, Leads}
+use Rattle.verdicts.specs.ways.SlackHunt.{Rises, raised, Quiet, Hit, Hunts, Level, Seeks, Leads}
+use Rattle.verdicts.specs.declared.slacks.Sought.{Sought}
+use Rattle.verdicts.specs.declared.slacks.Sought.the-variants.{Over, Least}
 
 pub core-rises : (b : ℕ) (qs : List Charged) → Rises (demand b qs) (largestWindow qs)
 core-rises b qs t u up side = demand-mono qs b {t = t} {u = u} up side
@@ -44,12 +47,25 @@ quiet-more g w bar rises t low end fits side quiet u from below = elim (decLt t 
 ]
 
 module _ (b : ℕ) (qs : List Charged) (a l : ℕ) where
+  pub hit-scans : (t : ℕ) → Hit (demand b qs) a l t → Overloaded t ≡ scan b qs a l
+  hit-scans t hit = scan-is b qs a l (Overloaded t) (record { from = hit .from; below = hit .below; over = hit .over; calm = hit .quiet })
+
+  pub quiet-scans : Quiet (demand b qs) a (a + l) → Passes ≡ scan b qs a l
+  quiet-scans quiet = scan-is b qs a l Passes quiet
+
+  -- with no bar
   pub hunt-hit : (t : ℕ) → Hunts (raised (demand b qs) 0) a l (At t) → Overloaded t ≡ scan b qs a l
-  hunt-hit t hit = scan-is b qs a l (Overloaded t)
-      (record { from = hit .from; below = hit .below; over = omega (arith, hit .over); calm = λ u from below. omega (arith, hit .quiet u from below) })
+  hunt-hit t hit = hit-scans t
+      (record { from = hit .from; below = hit .below; over = omega (arith, hit .over); quiet = λ u from below. omega (arith, hit .quiet u from below) })
 
   pub hunt-none : Hunts (raised (demand b qs) 0) a l Nothing → Passes ≡ scan b qs a l
-  hunt-none quiet = scan-is b qs a l Passes (λ u from below. omega (arith, quiet u from below))
+  hunt-none quiet = quiet-scans (λ u from below. omega (arith, quiet u from below))
+
+pub over-of : (g : ℕ → ℕ) (a l : ℕ) (r : Sought) (t : ℕ) → Seeks g a l r → r ≡ Over t → Hit g a l t
+over-of g a l r t seeks e = subst (λ (x : Sought). Seeks g a l x) e seeks
+
+pub least-of : (g : ℕ → ℕ) (a l : ℕ) (r : Sought) (t : ℕ) → Seeks g a l r → r ≡ Least t → Quiet g a (a + l) × (t ≡ leastSlack g a (l - 1))
+least-of g a l r t seeks e = subst (λ (x : Sought). Seeks g a l x) e seeks
 
 pub hit-of : (g : ℕ → ℕ) (a l : ℕ) (r : Found) (t : ℕ) → Hunts g a l r → r ≡ At t → Hit g a l t
 hit-of g a l r t hunts e = subst (λ (x : Found). Hunts g a l x) e hunts
@@ -100,3 +116,53 @@ module _ (g : ℕ → ℕ) (w a l best end : ℕ) (lead : Leads g a l best end) 
     least = λ u from near. lead .least u (omega arith) near;
     shortest = λ u from less. absurd (omega (arith, lead .upto));
   }
+
+-- ---- with the overloaded lengths told on the way
+
+module _ (g : ℕ → ℕ) (w a l best end : ℕ) (lead : Leads g a l best end) (calm : Quiet g end (a + l)) where
+  -- above a hit nothing is overloaded
+  pub above-hit : (bar t : ℕ) → 1 ≤ bar → Hit (raised g bar) a (end - a) t → Quiet g (t + 1) (a + l)
+  above-hit bar t some hit u from below = elim (decLt u end) [
+    | yes inner ↦ omega (arith, hit .quiet u (omega arith) (omega arith))
+    | no outer ↦ calm u (omega arith) below
+  ]
+
+  -- the stretch from v to t has one demand
+  flat : (t v : ℕ) → Rises g w → Level g w a t v → (u : ℕ) → v ≤ u → u ≤ t → g u ≡ g t
+  flat t v rises level u from upto =
+      let low = rises v u from (λ wide. level .side (omega arith)) in
+      let high = rises u t upto (λ wide. omega (arith, level .side wide)) in
+      omega (arith, level .same)
+
+  module _ (bar t : ℕ) (some : 1 ≤ bar) (hit : Hit (raised g bar) a (end - a) t) where
+    pub over-hit : t < g t → Hit g a l t
+    over-hit over = record {
+      from = hit .from;
+      below = omega (arith, hit .below, lead .inside);
+      over = over;
+      quiet = above-hit bar t some hit;
+    }
+
+    module _ (v : ℕ) (rises : Rises g w) (level : Level g w a t v) (fits : g t ≤ t) where
+      pub over-stretch : v < g t → Hit g a l (g t - 1)
+      over-stretch over = record {
+        from = omega (arith, level .from);
+        below = omega (arith, hit .below, lead .inside);
+        over = omega (arith, flat t v rises level (g t - 1) (omega arith) (omega arith));
+        quiet = λ u from below. elim (decLt t u) [
+          | yes high ↦ above-hit bar t some hit u (omega arith) below
+          | no low ↦ omega (arith, flat t v rises level u (omega arith) (omega arith))
+        ];
+      }
+
+      pub calm-stretch : g t ≤ v → Quiet g v (a + l)
+      calm-stretch room u from below = elim (decLt t u) [
+        | yes high ↦ above-hit bar t some hit u (omega arith) below
+        | no low ↦ omega (arith, flat t v rises level u from (omega arith))
+      ]
+
+  pub calm-none : (bar : ℕ) → Quiet (raised g bar) a (a + (end - a)) → Quiet g a (a + l)
+  calm-none bar quiet u from below = elim (decLt u end) [
+    | yes inner ↦ omega (arith, quiet u from (omega arith))
+    | no outer ↦ calm u (omega arith) below
+  ]

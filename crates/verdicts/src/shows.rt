@@ -1,4 +1,4 @@
-// What is shown of a verdict: document 02, E1. The busy length and the descent are those of the verdict, worked out once.
+// What is shown of a verdict: document 02, E1. One climb and one walk down tell both the verdict and the length that is shown.
 use crate::CORE_NUMBERS;
 use crate::LENGTH_MOST;
 use crate::Sum;
@@ -11,8 +11,8 @@ use crate::demands::largest_window;
 use crate::demands::least_live;
 use crate::demands::sum_at;
 use crate::queries::ranged_piece;
-use crate::slacks::least_slack;
-use crate::spans::hunt;
+use crate::slacks::Sought;
+use crate::slacks::seek;
 use demand::Ask;
 use demand::BUSY_MOST;
 use demand::Charged;
@@ -102,8 +102,8 @@ pub fn show_span(core: &[u64; CORE_NUMBERS], n: usize, b: u64, a: u64, l: u64) -
     ensures { λ r. ⌜ r ≡ shown b (chargedIn (now (core .entry)) n) ⌝ }
 {
     let w = largest_window(core, n);
-    match hunt(core, n, b, w, 0, a, l) {
-        Found::At(t) => {
+    match seek(core, n, b, w, a, l) {
+        Sought::Over(t) => {
             let total = demand_at(core, n, b, w, t);
             Shown {
                 verdict: Verdict::Overloaded(t),
@@ -112,8 +112,7 @@ pub fn show_span(core: &[u64; CORE_NUMBERS], n: usize, b: u64, a: u64, l: u64) -
                 total: total,
             }
         }
-        Found::Nothing => {
-            let least = least_slack(core, n, b, w, a, l);
+        Sought::Least(least) => {
             let total = demand_at(core, n, b, w, least);
             Shown {
                 verdict: Verdict::Passes,

@@ -6,12 +6,15 @@
 --   Hit g a l t          t is the greatest length of the l from a that is overloaded
 --   Hunts g a l r        r is that length, or says that there is none
 --   Level g w a t r      r is t, or a shorter length from a, on t's side of w, with the same demand
+--   Seeks g a l r        r is the greatest overloaded length of the l from a, or, where there is none, the length with the least slack
 --   Leads g a l best end     no length of the l from a which is not below `end` has less slack than `best`, and `best` is not above it
 use mathlib.Core.Path.{_≡_}
-use Prim.Native.Nat.{ℕ, _+_, _≤_, _<_}
+use Prim.Native.Nat.{ℕ, _+_, _-_, _≤_, _<_}
 use Rattle.demand.specs.declared.Found.{Found}
 use Rattle.demand.specs.declared.Found.the-variants.{At, Nothing}
-use Rattle.demand.specs.Why.{slack}
+use Rattle.demand.specs.Why.{slack, leastSlack}
+use Rattle.verdicts.specs.declared.slacks.Sought.{Sought}
+use Rattle.verdicts.specs.declared.slacks.Sought.the-variants.{Over, Least}
 
 abbrev pub Rises : (ℕ → ℕ) → ℕ → Type 0
 Rises g w = (t u : ℕ) → t ≤ u → (w ≤ u → w ≤ t) → g t ≤ g u
@@ -44,3 +47,8 @@ pub record Leads (g : ℕ → ℕ) (a l best end : ℕ) : Type 0 where
   pub below : best < a + l
   pub inside : end ≤ a + l
   pub least : (u : ℕ) → end ≤ u → u < a + l → slack g best ≤ slack g u
+
+-- where there is no overloaded length in the span, the length with the least slack
+abbrev pub Seeks : (ℕ → ℕ) → ℕ → ℕ → Sought → Type 0
+Seeks g a l (Over t) = Hit g a l t
+Seeks g a l (Least t) = Quiet g a (a + l) × (t ≡ leastSlack g a (l - 1))

@@ -1,20 +1,19 @@
--- `shows::show_span` meets its contract: a hunt with no bar tells the verdict, and its own length or the least slack is shown.
-use mathlib.Core.Path.{_≡_, sym, ap, subst, _∙_}
+-- `shows::show_span` meets its contract: the search tells the verdict, and its own length or the least slack is shown.
+use mathlib.Core.Path.{_≡_, sym, ap, _∙_}
 use Prim.Native.Nat.{ℕ, _≤_, _-_}
 use native.Mathlib.Omega.{arith}
 use lib.ListN.{length}
-use Rattle.demand.specs.declared.Verdict.the-variants.{Passes, Overloaded}
 use Rattle.demand.specs.Sizes.{busyMost, timeMost}
-use Rattle.demand.specs.Demand.{blocking, demand, leastLive, largestWindow}
+use Rattle.demand.specs.Demand.{blocking, demand, leastLive}
 use Rattle.demand.specs.Verdict.{scan}
 use Rattle.demand.specs.Why.{leastSlack}
 use Rattle.demand.proofs.BusyLaws.{busy-length-within, busy-length-some}
 use Rattle.demand.proofs.WhyLaws.{least-slack-of, shown-over, shown-calm}
 use Rattle.verdicts.specs.ChargedArray.{chargedIn}
-use Rattle.verdicts.specs.ways.SlackHunt.{raised, Hit}
+use Rattle.verdicts.specs.ways.SlackHunt.{Hit}
 use Rattle.verdicts.proofs.ChargedArrayLaws.{charged-in-length}
 use Rattle.verdicts.proofs.LaidLaws.{least-live-fits}
-use Rattle.verdicts.proofs.HuntLaws.{hit-of, none-of, hunt-hit, hunt-none}
+use Rattle.verdicts.proofs.HuntLaws.{over-of, least-of, hit-scans, quiet-scans}
 use borrow.Author.Needs.{needs}
 use Rattle.verdicts.proofs.shows.show_span.Statement.{statement}
 use Rattle.verdicts.proofs.shows.show_span.Tie as tie
@@ -23,21 +22,20 @@ use Rattle.verdicts.proofs.shows.show_span.Lts as lts
 use Rattle.verdicts.proofs.demands.demand_at.Reads as demand-at-reads
 use Rattle.verdicts.proofs.demands.largest_window.Reads as largest-window-reads
 use Rattle.verdicts.proofs.shows.blocking_at.Reads as blocking-at-reads
-use Rattle.verdicts.proofs.slacks.least_slack.Reads as least-slack-reads
-use Rattle.verdicts.proofs.spans.hunt.Reads as hunt-reads
+use Rattle.verdicts.proofs.slacks.seek.Reads as seek-reads
 
 largest-window-requires : tie.Need-largest-window-requires
 largest-window-requires c κs = search needs
 
-hunt-requires : tie.Need-hunt-requires
-hunt-requires c κs =
+seek-requires : tie.Need-seek-requires
+seek-requires c κs =
     let s = c .before .args in
     let pre = c .before .pre in
     let qs = chargedIn (s .core .now) (s .n) in
     let near : s .a ≤ timeMost = omega (arith, pre .1 .2, least-live-fits qs (pre .0 .1)) in
     let few : s .l ≤ busyMost = busy-length-within qs (s .l) (pre .1 .3) in
     let some : 1 ≤ s .l = busy-length-some qs (s .l) (pre .1 .3) in
-    (pre .0, (pre .1 .0, c .largest-window .ensures, near, few))
+    (pre .0, ((pre .1 .0, c .largest-window .ensures, pre .1 .1), (near, some, few)))
 
 enum-known-t : tie.Need-enum-known-t
 enum-known-t c = search needs
@@ -51,24 +49,14 @@ demand-at-requires c κs =
     let few : s .l ≤ busyMost = busy-length-within qs (s .l) (pre .1 .3) in
     let some : 1 ≤ s .l = busy-length-some qs (s .l) (pre .1 .3) in
     let t = c .before .t .given .0 .0 in
-    let hit : Hit (raised (demand (s .b) qs) 0) (s .a) (s .l) t = hit-of (raised (demand (s .b) qs) 0) (s .a) (s .l) (c .before .before .before .hunt .result) t (c .before .before .before .hunt .ensures) (c .before .t .given .1) in
+    let hit : Hit (demand (s .b) qs) (s .a) (s .l) t = over-of (demand (s .b) qs) (s .a) (s .l) (c .before .before .before .seek .result) t (c .before .before .before .seek .ensures) (c .before .t .given .1) in
     (pre .0, (pre .1 .0, c .before .before .before .before .largest-window .ensures, omega (arith, hit .below)))
 
 blocking-at-requires : tie.Need-blocking-at-requires
 blocking-at-requires c κs = search needs
 
-enum-told : tie.Need-enum-told
-enum-told c = search needs
-
-least-slack-requires : tie.Need-least-slack-requires
-least-slack-requires c κs =
-    let s = c .before .before .before .before .args in
-    let pre = c .before .before .before .before .pre in
-    let qs = chargedIn (s .core .now) (s .n) in
-    let near : s .a ≤ timeMost = omega (arith, pre .1 .2, least-live-fits qs (pre .0 .1)) in
-    let few : s .l ≤ busyMost = busy-length-within qs (s .l) (pre .1 .3) in
-    let some : 1 ≤ s .l = busy-length-some qs (s .l) (pre .1 .3) in
-    (pre .0, ((pre .1 .0, c .before .before .before .largest-window .ensures, pre .1 .1), (near, some, few)))
+enum-known-least : tie.Need-enum-known-least
+enum-known-least c = search needs
 
 demand-at-requires-2 : tie.Need-demand-at-requires-2
 demand-at-requires-2 c κs =
@@ -78,7 +66,9 @@ demand-at-requires-2 c κs =
     let near : s .a ≤ timeMost = omega (arith, pre .1 .2, least-live-fits qs (pre .0 .1)) in
     let few : s .l ≤ busyMost = busy-length-within qs (s .l) (pre .1 .3) in
     let some : 1 ≤ s .l = busy-length-some qs (s .l) (pre .1 .3) in
-    (pre .0, (pre .1 .0, c .before .before .before .before .largest-window .ensures, omega (arith, c .least-slack .ensures, least-slack-of (demand (s .b) qs) (s .a) (s .l) some .below)))
+    let t = c .before .least .given .0 .0 in
+    let found = least-of (demand (s .b) qs) (s .a) (s .l) (c .before .before .before .seek .result) t (c .before .before .before .seek .ensures) (c .before .least .given .1) in
+    (pre .0, (pre .1 .0, c .before .before .before .before .largest-window .ensures, omega (arith, found .1, least-slack-of (demand (s .b) qs) (s .a) (s .l) some .below)))
 
 blocking-at-requires-2 : tie.Need-blocking-at-requires-2
 blocking-at-requires-2 c κs = search needs
@@ -93,9 +83,9 @@ returns c =
     let few : s .l ≤ busyMost = busy-length-within qs (s .l) (pre .1 .3) in
     let some : 1 ≤ s .l = busy-length-some qs (s .l) (pre .1 .3) in
     let t = c .before .before .before .t .given .0 .0 in
-    let hit : Hit (raised (demand (s .b) qs) 0) (s .a) (s .l) t = hit-of (raised (demand (s .b) qs) 0) (s .a) (s .l) (c .before .before .before .before .before .hunt .result) t (c .before .before .before .before .before .hunt .ensures) (c .before .before .before .t .given .1) in
+    let hit : Hit (demand (s .b) qs) (s .a) (s .l) t = over-of (demand (s .b) qs) (s .a) (s .l) (c .before .before .before .before .before .seek .result) t (c .before .before .before .before .before .seek .ensures) (c .before .before .before .t .given .1) in
     let held : 1 ≤ length qs = omega (arith, charged-in-length (s .core .now) (s .n), pre .1 .1) in
-    let over = hunt-hit (s .b) qs (s .a) (s .l) t hit ∙ ap (λ (a : ℕ). scan (s .b) qs a (s .l)) (pre .1 .2) in
+    let over = hit-scans (s .b) qs (s .a) (s .l) t hit ∙ ap (λ (a : ℕ). scan (s .b) qs a (s .l)) (pre .1 .2) in
     rw (c .blocking-at .ensures, c .before .demand-at .ensures, c .before .before .before .before .before .before .largest-window .ensures) (sym (shown-over (s .b) qs held (s .l) (pre .1 .3) t over))
 
 returns-2 : tie.Need-returns-2
@@ -107,10 +97,12 @@ returns-2 c =
     let near : s .a ≤ timeMost = omega (arith, pre .1 .2, least-live-fits qs (pre .0 .1)) in
     let few : s .l ≤ busyMost = busy-length-within qs (s .l) (pre .1 .3) in
     let some : 1 ≤ s .l = busy-length-some qs (s .l) (pre .1 .3) in
+    let t = c .before .before .before .least .given .0 .0 in
+    let found = least-of (demand (s .b) qs) (s .a) (s .l) (c .before .before .before .before .before .seek .result) t (c .before .before .before .before .before .seek .ensures) (c .before .before .before .least .given .1) in
     let held : 1 ≤ length qs = omega (arith, charged-in-length (s .core .now) (s .n), pre .1 .1) in
-    let quiet = none-of (raised (demand (s .b) qs) 0) (s .a) (s .l) (c .before .before .before .before .before .hunt .result) (c .before .before .before .before .before .hunt .ensures) (c .before .before .before .enum-told .given .1) in
-    let calm = hunt-none (s .b) qs (s .a) (s .l) quiet ∙ ap (λ (a : ℕ). scan (s .b) qs a (s .l)) (pre .1 .2) in
-    let at-least : c .before .before .least-slack .result ≡ leastSlack (demand (s .b) qs) (leastLive qs) (s .l - 1) = c .before .before .least-slack .ensures ∙ ap (λ (a : ℕ). leastSlack (demand (s .b) qs) a (s .l - 1)) (pre .1 .2) in
+    let calm = quiet-scans (s .b) qs (s .a) (s .l) (found .0) ∙ ap (λ (a : ℕ). scan (s .b) qs a (s .l)) (pre .1 .2) in
+    let at-least : t ≡ leastSlack (demand (s .b) qs) (leastLive qs) (s .l - 1) =
+    found .1 ∙ ap (λ (a : ℕ). leastSlack (demand (s .b) qs) a (s .l - 1)) (pre .1 .2) in
     rw (c .blocking-at2 .ensures, c .before .demand-at2 .ensures, c .before .before .before .before .before .before .largest-window .ensures, at-least) (sym (shown-calm (s .b) qs held (s .l) (pre .1 .3) calm))
 
 pub show-span-spec : {M : Type 1} → statement M
@@ -118,12 +110,11 @@ show-span-spec =
     tie.close
     (tie.spec
     largest-window-requires
-    hunt-requires
+    seek-requires
     enum-known-t
     demand-at-requires
     blocking-at-requires
-    enum-told
-    least-slack-requires
+    enum-known-least
     demand-at-requires-2
     blocking-at-requires-2
     returns

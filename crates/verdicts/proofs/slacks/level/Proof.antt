@@ -46,9 +46,6 @@ demand-at-requires : tie.Need-demand-at-requires
 demand-at-requires c κs = search needs
 
 -- src/slacks.rt:35:9
-demand-at-requires-2 : tie.Need-demand-at-requires-2
-demand-at-requires-2 c κs = search needs
-
 -- src/slacks.rt:23:1
 returns-2 : tie.Need-returns-2
 returns-2 c = search needs
@@ -68,6 +65,5 @@ level-spec =
     next-end-requires
     returns
     demand-at-requires
-    demand-at-requires-2
     returns-2
     returns-3)
