@@ -23,9 +23,7 @@ whole x d t = record { kind = Whole; budget = x; window = d; period = t; jitter 
 
 k7-listed : whyText costs (byPlace 1 (whole 8 10 50 ∷ whole 1 12 50 ∷ []))
     ≡ bytesOf "why\toverloaded\t11\t4\npiece\t1\twhole\t1\t8\t0\npiece\t2\twhole\t0\t0\t0\ntotal\t12\nslack\t-1\n"
-unfolding whyText whyHead askLine whyFoot signed digitsOnto shownOf shown dueAsk busyAsk slack leastSlack verdict busyLength leastHolding busySum busyLoad demand load
-
-unfolding blocking interrupts jobsDue ceil leastLive coreOf charged charge ipiCost stall costs whole
+unfolding whyText whyHead askLine whyFoot signed digitsOnto shownOf shown dueAsk busyAsk slack leastSlack verdict busyLength leastHolding busySum busyLoad demand load blocking interrupts jobsDue ceil leastLive coreOf charged charge ipiCost stall costs whole
 k7-listed = refl
 
 none-listed : whyText noCosts [] ≡ bytesOf "why\tpasses\t0\t0\n"
