@@ -1,5 +1,5 @@
 //! The library's own algorithms once more, in plain Rust: the busy length by leaps, the walk down
-//! with care at the largest window, the least slack, and the lean search for a split. They are
+//! with care at the largest window, the search for what is shown, and the lean search for a split. They are
 //! written from the Rattle source to be counted, and to be timed by another compiler; the listings
 //! and the lengths that are shown are compared.
 
@@ -43,6 +43,15 @@ pub enum Verdict {
     Overloaded(u64),
     /// No busy length up to the limit.
     Undecided,
+}
+
+/// The length that is shown of a core with a busy length.
+#[derive(Clone, Copy, Debug, PartialEq, Eq)]
+pub enum Sought {
+    /// The greatest overloaded length of the judged span.
+    Over(u64),
+    /// The shortest length with the least slack, where none is overloaded.
+    Least(u64),
 }
 
 /// What a core with a piece behind tells: it passes, its own blocking overloads that length, or no
@@ -324,44 +333,49 @@ impl<T: Tally> Lean<T> {
     }
 
     /// The start of t's stretch, not below a and not past the largest window w; or t, where the
-    /// demand there is another.
-    fn level(&mut self, core: &[Lane], b: u64, w: u64, a: u64, t: u64) -> u64 {
+    /// demand there is not x, which it is at t.
+    fn level(&mut self, core: &[Lane], b: u64, w: u64, a: u64, [t, x]: [u64; 2]) -> u64 {
         let start = a.max(self.stretch_start(core, &core[0], t));
         let v = next_end(t.min(start), w, t);
-        if v == t {
-            return t;
-        }
-        let x = self.demand(core, b, w, t);
-        let y = self.demand(core, b, w, v);
-        if x == y {
+        if v == t || self.demand(core, b, w, v) == x {
             v
         } else {
             t
         }
     }
 
-    /// The shortest of the l lengths from a with the least slack.
-    fn least_slack(&mut self, core: &[Lane], b: u64, w: u64, a: u64, l: u64) -> u64 {
-        let (mut best, mut end) = (a, a + l);
+    /// The greatest overloaded one of the l lengths from a or, where there is none, the shortest
+    /// with the least slack.
+    fn seek(&mut self, core: &[Lane], b: u64, w: u64, a: u64, l: u64) -> Sought {
+        let (mut best, mut asked) = (a, self.demand(core, b, w, a));
+        let mut end = a + l;
         while a < end {
-            let x = self.demand(core, b, w, best);
-            let bar = best.saturating_sub(x) + 1;
-            match self.hunt(core, b, w, bar, a, end - a) {
-                None => return best,
-                Some(t) => {
-                    let v = self.level(core, b, w, a, t);
-                    best = v;
-                    end = v;
-                }
+            let bar = best.saturating_sub(asked) + 1;
+            let t = match self.hunt(core, b, w, bar, a, end - a) {
+                None => return Sought::Least(best),
+                Some(t) => t,
+            };
+            let x = self.demand(core, b, w, t);
+            if t < x {
+                return Sought::Over(t);
             }
+            let v = self.level(core, b, w, a, [t, x]);
+            if v < x {
+                return Sought::Over(x - 1);
+            }
+            (best, asked, end) = (v, x, v);
         }
-        best
+        Sought::Least(best)
     }
 
-    /// The length that is shown of a core with pieces that passes.
-    pub fn slack_length(&mut self, core: &[Lane], b: u64) -> Option<u64> {
+    /// What is shown of a core with pieces, and the demand there; nothing where it has no busy
+    /// length.
+    pub fn show(&mut self, core: &[Lane], b: u64) -> Option<(Sought, u64)> {
         let l = self.busy_length(core)?;
-        Some(self.least_slack(core, b, largest_window(core), least_live(core), l))
+        let w = largest_window(core);
+        let sought = self.seek(core, b, w, least_live(core), l);
+        let (Sought::Over(t) | Sought::Least(t)) = sought;
+        Some((sought, self.demand(core, b, w, t)))
     }
 
     /// The greatest charge of q up to f that fits at t, what is asked for there beside it, and the

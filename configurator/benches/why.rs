@@ -1,15 +1,15 @@
 //! What it costs to say why. On the workloads' cores that pass, those of the plans and those that the
-//! walk judges on its way, it counts the lengths that the verdict's descent looks at, and those that the
-//! search for the least slack does. On the cores made to be slow it also times the library.
+//! walk judges on its way, it counts the lengths that the verdict's descent looks at, and all that are
+//! looked at to say why. On the cores made to be slow it also times the library and its counted copy.
 
 use std::fmt::Write as _;
 
 use configurator::{ffi, why_records_into, Listed};
 
-use crate::counted::{Lean, Verdict};
+use crate::counted::{Lean, Sought, Verdict};
 use crate::loads::{Load, Slow, Source};
 use crate::report::{grouped, median, met};
-use crate::sheets;
+use crate::sheets::{self, Lane};
 use crate::tally::{Counts, Silent};
 use crate::{asked, clocked, rows, Question};
 
@@ -23,7 +23,7 @@ const TIME_ASKED: f64 = 1.5;
 #[derive(Default)]
 struct Looks {
     verdict: Vec<f64>,
-    slack: Vec<f64>,
+    why: Vec<f64>,
     ratio: Vec<f64>,
 }
 
@@ -32,11 +32,10 @@ impl Looks {
     fn of(cores: &[Question]) -> Self {
         let mut looks = Looks::default();
         for core in cores {
-            let [verdict, slack] = looks_at(core);
-            if slack > 0 {
+            if let (Verdict::Passes, [verdict, why]) = looks_at(core) {
                 looks.verdict.push(verdict as f64);
-                looks.slack.push(slack as f64);
-                looks.ratio.push(slack as f64 / verdict as f64);
+                looks.why.push(why as f64);
+                looks.ratio.push(why as f64 / verdict as f64);
             }
         }
         looks
@@ -53,31 +52,37 @@ impl Looks {
             "{} | {} | {} | {}",
             self.verdict.len(),
             spread(&self.verdict, 0),
-            spread(&self.slack, 0),
+            spread(&self.why, 0),
             spread(&self.ratio, 1)
         )
     }
 }
 
-/// How many lengths the verdict looks at, and how many the least slack, which is 0 where the core
-/// does not pass. The length that the library shows must be the copy's.
-fn looks_at((records, costs): &Question) -> [u64; 2] {
+/// The verdict on a core with pieces, how many lengths it looks at, and how many are looked at to say
+/// why. What the library shows must be the copy's.
+fn looks_at((records, costs): &Question) -> (Verdict, [u64; 2]) {
     let (core, stall) = sheets::lanes(records, costs);
     let mut lean = Lean::new(Counts::default());
     let verdict = lean.judge(&core, stall);
     let looked = lean.tally.demands;
-    let shown = match verdict {
-        Verdict::Passes => {
-            let length = lean.slack_length(&core, stall);
-            format!("why\tpasses\t{}\t", length.expect("there is a busy length"))
+    let (judged, begin, total) = match lean.show(&core, stall) {
+        Some((Sought::Least(t), asked)) => (Verdict::Passes, format!("passes\t{t}"), asked),
+        Some((Sought::Over(t), asked)) => {
+            (Verdict::Overloaded(t), format!("overloaded\t{t}"), asked)
         }
-        Verdict::Overloaded(length) => format!("why\toverloaded\t{length}\t"),
-        Verdict::Undecided => "why\tundecided\t100000000\t0\n".to_owned(),
+        None => {
+            let busy = |q: &Lane| (100_000_000 + q.period - 1) / q.period * q.job();
+            let begin = "undecided\t100000000".to_owned();
+            (Verdict::Undecided, begin, core.iter().map(busy).sum())
+        }
     };
+    assert_eq!(verdict, judged);
     let mut buffer = [0; 8_192];
-    let length = says_why(records, costs, &mut buffer);
-    assert!(buffer[..length].starts_with(shown.as_bytes()), "{shown}");
-    [looked, lean.tally.demands - looked]
+    let written = says_why(records, costs, &mut buffer);
+    let text = String::from_utf8_lossy(&buffer[..written]);
+    assert!(text.starts_with(&format!("why\t{begin}\t")), "{text}");
+    assert!(text.contains(&format!("\ntotal\t{total}\n")), "{text}");
+    (verdict, [looked, lean.tally.demands - looked])
 }
 
 /// Has the library say why, and gives the text's length.
@@ -104,7 +109,7 @@ fn spread(numbers: &[f64], places: usize) -> String {
 /// All tables, in Markdown.
 pub fn tables(loads: &[Load], slow: &[Slow]) -> String {
     let mut counts = String::from(
-        "| workload | cores of plans | verdict | least slack | ratio | cores of the walk | verdict | least slack | ratio |\n|---|---|---|---|---|---|---|---|---|\n",
+        "| workload | cores of plans | verdict | why | ratio | cores of the walk | verdict | why | ratio |\n|---|---|---|---|---|---|---|---|---|\n",
     );
     let (mut most_planned, mut most_walked, mut all) = (0_f64, 0_f64, Looks::default());
     for load in loads {
@@ -127,17 +132,20 @@ pub fn tables(loads: &[Load], slow: &[Slow]) -> String {
         let _ = writeln!(counts, "| {} | {planned} | {walked} |", load.name);
     }
     let mut times = String::from(
-        "| budgets in periods | lengths of the verdict | of the least slack | time, the verdict's being 1 |\n|---|---|---|---|\n",
+        "| budgets in periods | lengths of the verdict | to say why | time of the library, its verdict's being 1 | of the copy |\n|---|---|---|---|---|\n",
     );
-    let mut slowest = 0_f64;
+    let mut slowest = [0_f64; 2];
     for core in slow {
         eprintln!("slow core {}", core.name);
         let question = (core.records.clone(), vec![0; 36]);
-        let [verdict, slack] = looks_at(&question);
-        let ratio = time_ratio(&question);
-        slowest = slowest.max(ratio);
-        let (name, verdict, slack) = (&core.name, grouped(verdict), grouped(slack));
-        let _ = writeln!(times, "| {name} | {verdict} | {slack} | {ratio:.2} |");
+        let (_, [verdict, why]) = looks_at(&question);
+        let [library, copy] = time_ratios(&question);
+        slowest = [slowest[0].max(library), slowest[1].max(copy)];
+        let (name, verdict, why) = (&core.name, grouped(verdict), grouped(why));
+        let _ = writeln!(
+            times,
+            "| {name} | {verdict} | {why} | {library:.2} | {copy:.2} |"
+        );
     }
     let mut targets = String::from("| target | asked | measured | |\n|---|---|---|---|\n");
     for (what, asked, measured) in [
@@ -152,7 +160,8 @@ pub fn tables(loads: &[Load], slow: &[Slow]) -> String {
             most_walked,
         ),
         ("lengths, mean of all cores", LENGTHS_ASKED, all.mean()),
-        ("time, any core made to be slow", TIME_ASKED, slowest),
+        ("time of the library, slow cores", TIME_ASKED, slowest[0]),
+        ("time of the copy, slow cores", TIME_ASKED, slowest[1]),
     ] {
         let met = met(measured <= asked);
         let _ = writeln!(targets, "| {what} | {asked} | {measured:.2} | {met} |");
@@ -160,18 +169,23 @@ pub fn tables(loads: &[Load], slow: &[Slow]) -> String {
     [targets, counts, times].join("\n")
 }
 
-/// The library's time to say why in that of its verdict: the median of the rounds, after one that does
-/// not count.
-fn time_ratio((records, costs): &Question) -> f64 {
+/// The library's time to say why in that of its verdict, and the copy's: medians of the rounds, after
+/// one that does not count.
+fn time_ratios((records, costs): &Question) -> [f64; 2] {
     const ROUNDS: usize = 5;
     let mut buffer = [0; 8_192];
-    let mut ratios = Vec::new();
+    let (core, stall) = sheets::lanes(records, costs);
+    let (mut library, mut copy) = (Vec::new(), Vec::new());
     for round in 0..=ROUNDS {
         let (verdict, _) = clocked(|| ffi::verdict(records, costs));
         let (why, _) = clocked(|| says_why(records, costs, &mut buffer));
+        let (judged_took, judged) = clocked(|| Lean::new(Silent).judge(&core, stall));
+        let (shown_took, shown) = clocked(|| Lean::new(Silent).show(&core, stall));
+        assert_eq!(judged == Verdict::Undecided, shown.is_none());
         if round > 0 {
-            ratios.push(why / verdict);
+            library.push(why / verdict);
+            copy.push(shown_took / judged_took);
         }
     }
-    median(&ratios)
+    [median(&library), median(&copy)]
 }

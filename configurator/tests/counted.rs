@@ -1,5 +1,5 @@
 //! The benchmark's copy of the library's algorithms against the library, so that what it counts is
-//! what the library does, and its least slack against the oracle's too; and the next ideas, which must
+//! what the library does, and the length it shows against its own verdict and the oracle's too; and the next ideas, which must
 //! give the same listings.
 
 #![warn(clippy::all, clippy::pedantic)]
@@ -16,7 +16,7 @@ mod tally;
 use std::fmt::Write as _;
 
 use configurator::{plan, why_records};
-use counted::{Lean, Verdict};
+use counted::{Lean, Sought, Verdict};
 use inputs::cores::{self, lent_costs, lent_records, Draw};
 use inputs::sheets::{full_load, SheetDraw, SMALL};
 use inputs::{bytes, cases, Random};
@@ -113,12 +113,23 @@ fn compare_shown(core: &Core, way: Way) -> bool {
     let (records, costs) = (lent_records(core), lent_costs(core));
     let (lanes, stall) = sheets::lanes(&records, &costs);
     let mut lean = Lean::new(Silent);
-    let (word, length) = match lean.judge(&lanes, stall) {
-        Verdict::Passes if lanes.is_empty() => ("passes", 0),
-        Verdict::Passes => ("passes", lean.slack_length(&lanes, stall).unwrap()),
-        Verdict::Overloaded(length) => ("overloaded", length),
-        Verdict::Undecided => ("undecided", 100_000_000),
+    let verdict = lean.judge(&lanes, stall);
+    let (judged, word, length) = if lanes.is_empty() {
+        (Verdict::Passes, "passes", 0)
+    } else {
+        match lean.show(&lanes, stall) {
+            Some((Sought::Least(t), asked)) => {
+                assert!(asked <= t, "{core:?}");
+                (Verdict::Passes, "passes", t)
+            }
+            Some((Sought::Over(t), asked)) => {
+                assert!(t < asked, "{core:?}");
+                (Verdict::Overloaded(t), "overloaded", t)
+            }
+            None => (Verdict::Undecided, "undecided", 100_000_000),
+        }
     };
+    assert_eq!(verdict, judged, "{core:?}");
     let oracle = Figures::of(core, way).map_or(0, |figures| figures.length);
     assert_eq!(length, oracle, "{core:?}");
     let text = why_records(&records, &costs).unwrap().unwrap();
