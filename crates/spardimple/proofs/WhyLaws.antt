@@ -233,8 +233,8 @@ module _ (rs cs : List ℕ) where
   )
 
   lent-kept : length rs % 28 ≡ 0 → length cs ≡ 36 → checkRun c (length ps) ps ≡ Fine → Kept (lentTable rs cs)
-  lent-kept whole nine fine =
-      comes-kept (subst (λ (x : Check). Comes (lentTable rs cs) (badNumber x) (badCarries x)) fine (lent-comes whole nine (check-comes c (length ps) ps))) .0 refl
+  lent-kept whole nine checked =
+      comes-kept (subst (λ (x : Check). Comes (lentTable rs cs) (badNumber x) (badCarries x)) checked (lent-comes whole nine (check-comes c (length ps) ps))) .0 refl
 
   lent-fine : Kept (lentTable rs cs) → checkRun c (length ps) ps ≡ Fine
   unfolding lentTable
@@ -438,14 +438,23 @@ module _ (rs cs : List ℕ) (t : ℕ) where
           ≡ demand (stall (costsSpelt cs)) (coreOf (costsSpelt cs) (piecesOf rs)) t
       figure = unfold demandFigure in rw (lent-fine rs cs kept, le-leb t lengthMost low, take-length (piecesOf rs))
 
+  -- the figure, by the check
+  abbrev figureBy : Check → ℕ
+  figureBy k = figureNumber (figured k
+      (cond (leb t lengthMost) (At (demand (stall (costsSpelt cs)) (coreOf (costsSpelt cs) (take (length (piecesOf rs)) (piecesOf rs))) t)) Nothing))
+
+  figure-is : figureBy (checkRun (costsSpelt cs) (length (piecesOf rs)) (piecesOf rs)) ≡ 0
+      → figureNumber (demandFigure (costsSpelt cs) (length (piecesOf rs)) (piecesOf rs) t) ≡ 0
+  unfolding demandFigure
+  figure-is e = e
+
   -- and 0 elsewhere
   pub demand-untold : Not (Kept (lentTable rs cs) × (t ≤ lengthMost)) → demandNumber rs cs t ≡ 0
   demand-untold never = by (eqb (length rs % 28) 0) refl
     where
-      many : length rs % 28 ≡ 0 → length cs ≡ 36 → (k : Check) → checkRun (costsSpelt cs) (length (piecesOf rs)) (piecesOf rs) ≡ k
-          → figureNumber (figured k (cond (leb t lengthMost) (At (demand (stall (costsSpelt cs)) (coreOf (costsSpelt cs) (take (length (piecesOf rs)) (piecesOf rs))) t)) Nothing)) ≡ 0
-      many whole nine Fine fine = elim (decLe t lengthMost) [
-        | yes low ↦ absurd (never (lent-kept rs cs whole nine fine, low))
+      many : length rs % 28 ≡ 0 → length cs ≡ 36 → (k : Check) → checkRun (costsSpelt cs) (length (piecesOf rs)) (piecesOf rs) ≡ k → figureBy k ≡ 0
+      many whole nine Fine checked = elim (decLe t lengthMost) [
+        | yes low ↦ absurd (never (lent-kept rs cs whole nine checked, low))
         | no high ↦ rw (lt-leb t lengthMost (omega arith))
       ]
       many whole nine (Bad r) bad = refl
@@ -453,10 +462,7 @@ module _ (rs cs : List ℕ) (t : ℕ) where
       nine-by : length rs % 28 ≡ 0 → (b : Bool) → eqb (length cs) 36 ≡ b → demandNumber rs cs t ≡ 0
       nine-by whole true e =
           let nine = eqb-true (length cs) 36 e in
-          demand-formed rs cs t whole nine
-          ∙ (unfold demandFigure in subst (λ (k : Check). figureNumber (figured k (cond (leb t lengthMost) (At (demand (stall (costsSpelt cs))
-          (coreOf (costsSpelt cs) (take (length (piecesOf rs)) (piecesOf rs))) t)) Nothing)) ≡ 0) refl
-          (many whole nine (checkRun (costsSpelt cs) (length (piecesOf rs)) (piecesOf rs)) refl))
+          demand-formed rs cs t whole nine ∙ figure-is (many whole nine (checkRun (costsSpelt cs) (length (piecesOf rs)) (piecesOf rs)) refl)
       nine-by whole false e = sym (demand-odd-costs rs cs t whole (eqb-false (length cs) 36 e))
 
       by : (b : Bool) → eqb (length rs % 28) 0 ≡ b → demandNumber rs cs t ≡ 0
