@@ -28,7 +28,7 @@ use Rattle.demand.specs.Sizes.{busyMost}
 use Rattle.demand.specs.Demand.{ceil, total, jobsDue, interrupts, blocking, load, demand, Live, leastLive}
 use Rattle.demand.specs.Busy.{Least, Finds, leastHolding, busyLoad, busySum, busyLength}
 use Rattle.demand.specs.Verdict.{Judged, Calm, Means, scan, overSpan, verdict}
-use Rattle.demand.specs.Why.{slack, LeastSlack, tighter, leastSlack, dueAsk, busyAsk, askSum, tightestOver, lengthShown, shownAt, shown}
+use Rattle.demand.specs.Why.{slack, LeastSlack, tighter, leastSlack, dueAsk, busyAsk, askSum, tightestOver, lengthShown, shownAt, coreShown}
 use Rattle.demand.proofs.Sums.{total-same}
 use Rattle.demand.proofs.BusyLaws.{least-unique, busy-length-finds}
 use Rattle.demand.proofs.DemandLaws.{live-mono, least-live-least}
@@ -122,39 +122,39 @@ least-live-is [] t least = absurd (least .here)
 least-live-is (q ∷ qs) t least = least-unique (least-live-least q qs) least
 
 module _ (b : ℕ) (qs : List Charged) where
-  pub shown-verdict : shown b qs .verdict ≡ verdict b qs
-  unfolding shown
+  pub shown-verdict : coreShown b qs .verdict ≡ verdict b qs
+  unfolding coreShown
   shown-verdict = refl
 
-  pub shown-adds : shown b qs .blocking + total (askSum (verdict b qs) (shown b qs .length)) qs ≡ shown b qs .total
-  unfolding shown
+  pub shown-adds : coreShown b qs .blocking + total (askSum (verdict b qs) (coreShown b qs .length)) qs ≡ coreShown b qs .total
+  unfolding coreShown
   shown-adds = ask-adds b qs (verdict b qs) (lengthShown b qs (verdict b qs))
 
-  pub shown-is : (v : Verdict) → verdict b qs ≡ v → shown b qs ≡ shownAt b qs v (lengthShown b qs v)
-  unfolding shown
+  pub shown-is : (v : Verdict) → verdict b qs ≡ v → coreShown b qs ≡ shownAt b qs v (lengthShown b qs v)
+  unfolding coreShown
   shown-is v e = ap (λ (w : Verdict). shownAt b qs w (lengthShown b qs w)) e
 
   means : (v : Verdict) → verdict b qs ≡ v → Means b qs v
   means v e = subst (λ (w : Verdict). Means b qs w) e (verdict-means b qs)
 
   -- as the engine goes: by the busy length, then by the span
-  pub shown-beyond : 1 ≤ length qs → busyLength qs ≡ Nothing → shown b qs ≡ shownAt b qs Undecided busyMost
+  pub shown-beyond : 1 ≤ length qs → busyLength qs ≡ Nothing → coreShown b qs ≡ shownAt b qs Undecided busyMost
   shown-beyond some none = shown-is Undecided (verdict-span b qs some ∙ ap (overSpan b qs (leastLive qs)) none)
 
   module _ (some : 1 ≤ length qs) (l : ℕ) (busy : busyLength qs ≡ At l) where
     verdict-is : verdict b qs ≡ scan b qs (leastLive qs) l
     verdict-is = verdict-span b qs some ∙ ap (overSpan b qs (leastLive qs)) busy
 
-    pub shown-over : (t : ℕ) → Overloaded t ≡ scan b qs (leastLive qs) l → shown b qs ≡ shownAt b qs (Overloaded t) t
+    pub shown-over : (t : ℕ) → Overloaded t ≡ scan b qs (leastLive qs) l → coreShown b qs ≡ shownAt b qs (Overloaded t) t
     shown-over t over = shown-is (Overloaded t) (verdict-is ∙ sym over)
 
-    pub shown-calm : Passes ≡ scan b qs (leastLive qs) l → shown b qs ≡ shownAt b qs Passes (leastSlack (demand b qs) (leastLive qs) (l - 1))
+    pub shown-calm : Passes ≡ scan b qs (leastLive qs) l → coreShown b qs ≡ shownAt b qs Passes (leastSlack (demand b qs) (leastLive qs) (l - 1))
     shown-calm calm = shown-is Passes (verdict-is ∙ sym calm) ∙ ap (λ (r : Found). shownAt b qs Passes (tightestOver b qs r)) busy
 
-  pub shown-overloaded : (t : ℕ) → verdict b qs ≡ Overloaded t → (shown b qs ≡ shownAt b qs (Overloaded t) t) × (t < demand b qs t)
+  pub shown-overloaded : (t : ℕ) → verdict b qs ≡ Overloaded t → (coreShown b qs ≡ shownAt b qs (Overloaded t) t) × (t < demand b qs t)
   shown-overloaded t e = (shown-is (Overloaded t) e, means (Overloaded t) e .3 .over)
 
-  pub shown-undecided : verdict b qs ≡ Undecided → (shown b qs ≡ shownAt b qs Undecided busyMost) × (busyMost < busySum qs busyMost)
+  pub shown-undecided : verdict b qs ≡ Undecided → (coreShown b qs ≡ shownAt b qs Undecided busyMost) × (busyMost < busySum qs busyMost)
   shown-undecided e = (shown-is Undecided e, beyond (means Undecided e))
     where
       beyond : Means b qs Undecided → busyMost < busySum qs busyMost
@@ -177,11 +177,11 @@ module _ (b : ℕ) (qs : List Charged) where
       by Nothing none = absurd (none l (span .within) (span .busy .here))
 
   pub shown-passes : verdict b qs ≡ Passes → (qs ≡ [] → ⊥) → (t : ℕ) × (t₀ : ℕ) × (l : ℕ) × Judged qs t₀ l × LeastSlack (demand b qs) t₀ l t
-      × Live qs t × (demand b qs t ≤ t) × (shown b qs ≡ shownAt b qs Passes t)
+      × Live qs t × (demand b qs t ≤ t) × (coreShown b qs ≡ shownAt b qs Passes t)
   shown-passes e some = ⊎-elim (λ none. absurd (some none)) found (means Passes e)
     where
       found : (t₀ : ℕ) × (l : ℕ) × Judged qs t₀ l × Calm b qs t₀ (t₀ + l) → (t : ℕ) × (t₀ : ℕ) × (l : ℕ) × Judged qs t₀ l × LeastSlack (demand b qs) t₀ l t
-          × Live qs t × (demand b qs t ≤ t) × (shown b qs ≡ shownAt b qs Passes t)
+          × Live qs t × (demand b qs t ≤ t) × (coreShown b qs ≡ shownAt b qs Passes t)
       found (t₀, l, span, calm) =
           let tight = tightest t₀ l span in (
             lengthShown b qs Passes,
@@ -194,8 +194,8 @@ module _ (b : ℕ) (qs : List Charged) where
             shown-is Passes e,
           )
 
-pub shown-empty : (b : ℕ) → shown b [] ≡ record { verdict = Passes; length = 0; blocking = 0; total = 0 }
-unfolding shown
+pub shown-empty : (b : ℕ) → coreShown b [] ≡ record { verdict = Passes; length = 0; blocking = 0; total = 0 }
+unfolding coreShown
 shown-empty b = ap (λ (w : Verdict). shownAt b [] w (lengthShown b [] w)) (verdict-empty b) ∙ nothing
   where
     nothing : shownAt b [] Passes (lengthShown b [] Passes) ≡ record { verdict = Passes; length = 0; blocking = 0; total = 0 }

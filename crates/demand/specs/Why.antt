@@ -9,7 +9,7 @@
 --   ask v t q            which of the two is shown beside the verdict v
 --   askSum v t q         the sum of it
 --   lengthShown b qs v   the length that is shown: the verdict's own; of a pass the one with the least slack in the judged span; of an undecided core the limit
---   shown b qs           what is shown of a core, its pieces' asks beside it
+--   coreShown b qs       what is shown of a core, its pieces' asks beside it
 --   shownOf c ps         the same of the pieces ps at the costs c
 use mathlib.Core.Bool.{cond}
 use mathlib.Core.List.{List}
@@ -92,8 +92,8 @@ totalShown b qs Undecided t = busySum qs t
 abbrev pub shownAt : ℕ → List Charged → Verdict → ℕ → Shown
 shownAt b qs v t = record { verdict = v; length = t; blocking = blockingShown b qs v t; total = totalShown b qs v t }
 
-unfoldable pub shown : ℕ → List Charged → Shown
-shown b qs = shownAt b qs (verdict b qs) (lengthShown b qs (verdict b qs))
+unfoldable pub coreShown : ℕ → List Charged → Shown
+coreShown b qs = shownAt b qs (verdict b qs) (lengthShown b qs (verdict b qs))
 
 unfoldable pub shownOf : Costs → List Piece → Shown
-shownOf c ps = shown (stall c) (coreOf c ps)
+shownOf c ps = coreShown (stall c) (coreOf c ps)

@@ -37,7 +37,7 @@ use Rattle.listing.specs.Text.{decimal}
 use Rattle.listing.specs.Listing.{rowPieces}
 use Rattle.listing.specs.Papers.{refused}
 use Rattle.listing.specs.Why.{Titled, piecesIn, whyPaper, byPlace, whyRun, titledPlaced, rowSeats, whySeats}
-use Rattle.listing.specs.ways.SeatArrays.{seatIn, seatsIn, titledAt, titledIn, SeatLaid}
+use Rattle.listing.specs.ways.SeatArrays.{seatIn, seatsLaid, titledAt, titledIn, SeatLaid}
 use Rattle.listing.proofs.EntryLaws.{rowNumbers, numbers-long, number-at, numbers-all}
 
 -- ---- one more is laid
@@ -58,10 +58,10 @@ module _ (ks a : List ℕ) (i k : ℕ) (p : Piece) (low : i < 79) (long : length
       (firsts-front (recordAt (putRecord a i p)) i (firsts (recordAt a) i) p (firsts-length (recordAt a) i) first-put)
       ∙ firsts-at (recordAt a) i j outside h)
 
-  seat-behind : (q : ℕ) → length ks ≡ 79 → seatsIn q (set ks i k) (putRecord a i p) (i + 1) ≡ seatsIn q ks a i ++ (record { on = q; item = k; piece = p } ∷ [])
+  seat-behind : (q : ℕ) → length ks ≡ 79 → seatsLaid q (set ks i k) (putRecord a i p) (i + 1) ≡ seatsLaid q ks a i ++ (record { on = q; item = k; piece = p } ∷ [])
   seat-behind q wide =
       let f : ℕ → Placed ℕ = seatIn q (set ks i k) (putRecord a i p) in
-      let before : firsts f i ≡ seatsIn q ks a i =
+      let before : firsts f i ≡ seatsLaid q ks a i =
       firsts-same f (seatIn q ks a) i
       (λ j h. cc (put-before j h, getD-set-other ks i j k 0 (λ (e : j ≡ i). omega arith))) in
       rw add-one (cc (before, put-here, getD-set-same ks i k 0 (omega arith)))
@@ -88,9 +88,9 @@ module _ (s : Layout) (q : ℕ) (long : length (s .rows) ≡ 1024) (low : q < 16
       map-more (λ j. seatOf q (getD (s .pieces) j blank)) (rowNumbers (s .rows) q) i 0 (omega (arith, numbers-long (s .rows) q long low))
       ∙ ap (λ (j : ℕ). rowTo s q i ++ (seatOf q (getD (s .pieces) j blank) ∷ [])) (number-at (s .rows) q long low i h)
 
-  pub seats-more : (ks a : List ℕ) (i : ℕ) (t : Stored) (p : Piece) (ls b : List ℕ) → i < 64 → seatsIn q ks a i ≡ rowTo s q i
+  pub seats-more : (ks a : List ℕ) (i : ℕ) (t : Stored) (p : Piece) (ls b : List ℕ) → i < 64 → seatsLaid q ks a i ≡ rowTo s q i
       → t ≡ getD (s .pieces) (getD (s .rows) (q * 64 + i) 0) blank → p ≡ keptPiece t → SeatLaid ks a i (t .task) p ls b
-      → seatsIn q ls b (i + 1) ≡ rowTo s q (i + 1)
+      → seatsLaid q ls b (i + 1) ≡ rowTo s q (i + 1)
   seats-more ks a i t p ls b h lies here piece laid =
       let seat : _≡_ {A = Placed ℕ} (record { on = q; item = t .task; piece = p }) (seatOf q (getD (s .pieces) (getD (s .rows) (q * 64 + i) 0) blank)) =
       ap (λ (x : Piece). record { on = q; item = t .task; piece = x }) piece ∙ ap (seatOf q) here in
@@ -112,7 +112,7 @@ map-firsts : {A B : Type 0} (f : A → B) (g : ℕ → A) (n : ℕ) → map f (f
 map-firsts f g zero = refl
 map-firsts f g (suc n) = map-snoc f (firsts g n) (g n) ∙ ap (λ l. l ++ (f (g n) ∷ [])) (map-firsts f g n)
 
-pub titled-seats : (ts : List Task) (q : ℕ) (ks a : List ℕ) (n : ℕ) → titledIn true ts ks a n ≡ map (titledPlaced ts) (seatsIn q ks a n)
+pub titled-seats : (ts : List Task) (q : ℕ) (ks a : List ℕ) (n : ℕ) → titledIn true ts ks a n ≡ map (titledPlaced ts) (seatsLaid q ks a n)
 titled-seats ts q ks a n = sym (map-firsts (titledPlaced ts) (seatIn q ks a) n)
 
 pub titled-pieces : (b : Bool) (ts : List Task) (ks a : List ℕ) (n : ℕ) → piecesIn (titledIn b ts ks a n) ≡ firsts (recordAt a) n
@@ -162,7 +162,7 @@ pub run-paper : (c : Costs) (n : ℕ) (ts : List Task) (ks a : List ℕ) → why
 unfolding whyRun recordsOf
 run-paper c n ts ks a = ap (whyPaper [] c n) (titled-run ts ks a 79)
 
-pub seats-paper : (f : List ℕ) (c : Costs) (ts : List Task) (q n : ℕ) (ks a : List ℕ) (es : List (Placed ℕ)) → n ≤ 79 → seatsIn q ks a n ≡ es
+pub seats-paper : (f : List ℕ) (c : Costs) (ts : List Task) (q n : ℕ) (ks a : List ℕ) (es : List (Placed ℕ)) → n ≤ 79 → seatsLaid q ks a n ≡ es
     → whyPaper f c n (titledIn true ts ks a 79) ≡ whySeats f c ts es
 seats-paper f c ts q n ks a es h lies =
     let long : n ≡ length es = sym (firsts-length (seatIn q ks a) n) ∙ ap (λ (l : List (Placed ℕ)). length l) lies in

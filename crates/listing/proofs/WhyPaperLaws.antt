@@ -38,7 +38,7 @@ use Rattle.listing.specs.Text.{over}
 use Rattle.listing.specs.Papers.{Paper, refused, written, noteOf, left}
 use Rattle.listing.specs.Listing.{spelling}
 use Rattle.listing.specs.Why.{piecesIn, noRoomLine, whyText, unlessBad, whyPaper, whyRun, rowSeats, whyRow, wholeSeat, whyStuck, whyAsked, whyOf}
-use Rattle.listing.specs.ways.SeatArrays.{seatsIn, titledIn, frontOf}
+use Rattle.listing.specs.ways.SeatArrays.{seatsLaid, titledIn, frontOf}
 use Rattle.listing.proofs.SeatLaws.{titled-pieces, titled-take, run-paper, seats-paper}
 use Rattle.listing.proofs.WhyPlacedLaws.{asked-inside}
 
@@ -112,7 +112,7 @@ pub run-asked : (f : List ℕ) → f ≡ [] → (c : Costs) (n : ℕ) (ts : List
 run-asked f none c n ts ks a = ap (λ (g : List ℕ). whyPaper g c n (titledIn false ts ks a runMost)) none ∙ run-paper c n ts ks a
 
 module _ (p : Plan) (stuck core : ℕ) (some : 1 ≤ core) (within : core ≤ p .machine .cores) (f : List ℕ) (n : ℕ) (ks a : List ℕ) where
-  pub row-asked : stuck ≡ 0 → f ≡ [] → n ≤ runMost → seatsIn (core - 1) ks a n ≡ rowSeats (p .layout) (core - 1)
+  pub row-asked : stuck ≡ 0 → f ≡ [] → n ≤ runMost → seatsLaid (core - 1) ks a n ≡ rowSeats (p .layout) (core - 1)
       → whyPaper f (p .costs) n (titledIn true (p .tasks .list) ks a runMost) ≡ whyOf p stuck core
   unfolding whyRow
   row-asked none front few laid =
@@ -121,7 +121,7 @@ module _ (p : Plan) (stuck core : ℕ) (some : 1 ≤ core) (within : core ≤ p 
       ∙ sym (asked-inside p stuck core some within ∙ ap (λ (k : ℕ). whyAsked p k core) none))
 
   pub stuck-asked : (k : ℕ) → stuck ≡ suc k → f ≡ noRoomLine stuck (spelling (taskAt (p .tasks .list) k .name)) (p .machine .cores) → n ≤ runMost
-      → seatsIn (p .machine .cores - 1) ks a n ≡ rowSeats (p .layout) (p .machine .cores - 1) ++ (wholeSeat (p .tasks .list) (p .machine .cores - 1) k ∷ [])
+      → seatsLaid (p .machine .cores - 1) ks a n ≡ rowSeats (p .layout) (p .machine .cores - 1) ++ (wholeSeat (p .tasks .list) (p .machine .cores - 1) k ∷ [])
       → whyPaper f (p .costs) n (titledIn true (p .tasks .list) ks a runMost) ≡ whyOf p stuck core
   unfolding whyStuck
   stuck-asked k is front few laid =

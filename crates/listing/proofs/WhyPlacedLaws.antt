@@ -46,7 +46,7 @@ use Rattle.plan.specs.declared.Layout.{Layout}
 use Rattle.plan.specs.declared.Plan.{Plan}
 use Rattle.plan.specs.declared.Reply.{Reply}
 use Rattle.plan.specs.Walk.{placeWay, packed, walked, walkedUntil}
-use Rattle.plan.specs.Plan.{planWith, finished, reaching, reachedOf}
+use Rattle.plan.specs.Plan.{planPlaced, finished, reaching, reachedOf}
 use Rattle.plan.specs.Shows.{storedOf, LayoutShows}
 use Rattle.plan.proofs.GoingLaws.{piece-stored}
 use Rattle.plan.proofs.PlanLaws.{sized-at}
@@ -131,7 +131,7 @@ module _ (m : Machine) (c : Costs) (n : ℕ) (ts : List Task) (good : stateFault
   placed = walkedUntil m c (take n ts)
 
   abbrev reached : Plan
-  reached = planWith m c (take n ts) placed
+  reached = planPlaced m c (take n ts) placed
 
   few-tasks : length (take n ts) ≤ 64
   few-tasks = omega (arith, length-take n ts, sane .few)

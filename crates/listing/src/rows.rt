@@ -17,7 +17,7 @@ ghost use lib.ListN.{length};
 ghost use Rattle.demand.specs.Sizes.{runMost};
 ghost use Rattle.plan.specs.Sizes.{rowMost};
 ghost use Rattle.listing.specs.Why.{rowSeats};
-ghost use Rattle.listing.specs.ways.SeatArrays.{SeatLaid, seatsIn};
+ghost use Rattle.listing.specs.ways.SeatArrays.{SeatLaid, seatsLaid};
 
 // A piece of the task at that place is laid behind the first i.
 pub fn lay_seat<'a>(
@@ -42,7 +42,7 @@ pub fn lay_seats<'a>(
     core: usize,
 ) -> usize
     requires { ⌜ (length (now records) ≡ 7 * runMost) × (length (now places) ≡ runMost) ⌝ }
-    ensures { λ r. ⌜ (seatsIn core (now (places .exit)) (now (records .exit)) r ≡ rowSeats layout core) × (r ≤ rowMost) × (length (now (records .exit)) ≡ 7 * runMost) × (length (now (places .exit)) ≡ runMost) ⌝ }
+    ensures { λ r. ⌜ (seatsLaid core (now (places .exit)) (now (records .exit)) r ≡ rowSeats layout core) × (r ≤ rowMost) × (length (now (records .exit)) ≡ 7 * runMost) × (length (now (places .exit)) ≡ runMost) ⌝ }
 {
     if CORES_MOST <= core {
         return 0;

@@ -27,7 +27,7 @@ use Rattle.plan.specs.declared.Plan.{Plan}
 use Rattle.plan.specs.declared.Reply.{Reply}
 use Rattle.plan.specs.Walk.{placeWay, packed, walked, walkedUntil}
 use Rattle.plan.specs.Layout.{none, layoutOn}
-use Rattle.plan.specs.Plan.{refused, planWith, finished, unlessFault, planOf, reachedOf}
+use Rattle.plan.specs.Plan.{refused, planPlaced, finished, unlessFault, planOf, reachedOf}
 use Rattle.plan.specs.ways.PlacedArray.{placedIn, HasRoom}
 use Rattle.plan.specs.ways.WalkGoing.{Reach}
 use Rattle.plan.proofs.LentLaws.{placed-length}
@@ -65,7 +65,7 @@ module _ (m : Machine) (c : Costs) (n : ℕ) (ts : List Task) (good : stateFault
   -- the plan, whole or of what was placed until the walk stuck
   module _ (long : length ts ≡ 64) (clean : Tasks) (count : clean .count ≡ n) (list : clean .list ≡ padded tasksMost noTask (take n ts)) (s : Layout)
       (laid-out : s ≡ layoutOn none (placedIn placed (g .count))) where
-    plan-is : _≡_ {A = Plan} (record { machine = m; costs = c; tasks = clean; layout = s }) (planWith m c (take n ts) (walkedUntil m c (take n ts)))
+    plan-is : _≡_ {A = Plan} (record { machine = m; costs = c; tasks = clean; layout = s }) (planPlaced m c (take n ts) (walkedUntil m c (take n ts)))
     plan-is = cc (laid-out, ap (layoutOn none) placed-until, tidied)
       where
         tidied : clean ≡ record { count = length (take n ts); list = padded tasksMost noTask (take n ts) }

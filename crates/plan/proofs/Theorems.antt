@@ -65,7 +65,7 @@ use Rattle.plan.specs.declared.Plan.{Plan}
 use Rattle.plan.specs.declared.Reply.{Reply}
 use Rattle.plan.specs.Walk.{wholeAt, placeWay, upto, denserAt, packed, walked, walkedUntil}
 use Rattle.plan.specs.Layout.{layoutOn, none, blank}
-use Rattle.plan.specs.Plan.{refused, planWith, finished, unlessFault, planOf, reaching, reachedOf}
+use Rattle.plan.specs.Plan.{refused, planPlaced, finished, unlessFault, planOf, reaching, reachedOf}
 use Rattle.plan.specs.Places.{Rearranged, ofTask, TaskPlaced}
 use Rattle.plan.specs.Shows.{LayoutShows, WordShows}
 use Rattle.plan.proofs.WalkLaws.{whole-kind, claims, walk-planned, only-seven}
@@ -118,7 +118,7 @@ module _ (m : Machine) (c : Costs) (n : ℕ) (ts : List Task) where
 
   pub reached-number : (reachedOf m c n ts .number ≡ planOf m c n ts .number) × (reachedOf m c n ts .carries ≡ planOf m c n ts .carries)
   unfolding planOf reachedOf
-  reached-number = by (stateFault m c n ts) (planWith m c (take n ts) (walkedUntil m c (take n ts))) (finished m c (take n ts) (walked m c (take n ts)))
+  reached-number = by (stateFault m c n ts) (planPlaced m c (take n ts) (walkedUntil m c (take n ts))) (finished m c (take n ts) (walked m c (take n ts)))
     where
       by : (k : ℕ) (p : Plan) (r : Reply)
           → (unlessFault k (reaching p r) .number ≡ unlessFault k r .number) × (unlessFault k (reaching p r) .carries ≡ unlessFault k r .carries)
@@ -372,7 +372,7 @@ module _ (m : Machine) (c : Costs) (n : ℕ) (ts : List Task) (faultless : state
   -- ---- what was placed before the walk stuck
 
   pub reached-ended : reachedOf m c n ts
-      ≡ reaching (planWith m c (take n ts) (walkedUntil m c (take n ts))) (finished m c (take n ts) (walked m c (take n ts)))
+      ≡ reaching (planPlaced m c (take n ts) (walkedUntil m c (take n ts))) (finished m c (take n ts) (walked m c (take n ts)))
   unfolding reachedOf
   reached-ended = rw faultless
 
@@ -384,14 +384,14 @@ module _ (m : Machine) (c : Costs) (n : ℕ) (ts : List Task) (faultless : state
       let fine-is = ap (finished m c (take n ts)) (w .2) in
       let all-is : walkedUntil m c (take n ts) ≡ w .1 = until-fine W (W .begin) (w .0) (packed (take n ts)) (w .1) (w .2) in
       reached-ended
-      ∙ (ap (reaching (planWith m c (take n ts) (walkedUntil m c (take n ts)))) fine-is
-      ∙ (ap (λ (z : List (Placed ℕ)). reaching (planWith m c (take n ts) z) (finished m c (take n ts) (fine (w .0) (w .1)))) all-is
+      ∙ (ap (reaching (planPlaced m c (take n ts) (walkedUntil m c (take n ts)))) fine-is
+      ∙ (ap (λ (z : List (Placed ℕ)). reaching (planPlaced m c (take n ts) z) (finished m c (take n ts) (fine (w .0) (w .1)))) all-is
       ∙ sym (ended ∙ fine-is)))
 
   pub reached-stuck : (k : ℕ) → walked m c (take n ts) ≡ stuck k 7
-      → reachedOf m c n ts ≡ record { number = 7; carries = suc k; plan = planWith m c (take n ts) (walkedUntil m c (take n ts)) }
+      → reachedOf m c n ts ≡ record { number = 7; carries = suc k; plan = planPlaced m c (take n ts) (walkedUntil m c (take n ts)) }
   reached-stuck k e = reached-ended
-      ∙ ap (λ (o : Ending Stand ℕ). reaching (planWith m c (take n ts) (walkedUntil m c (take n ts))) (finished m c (take n ts) o)) e
+      ∙ ap (λ (o : Ending Stand ℕ). reaching (planPlaced m c (take n ts) (walkedUntil m c (take n ts))) (finished m c (take n ts) o)) e
 
   reaches : Reaches (placeWay m c (take n ts)) (placeWay m c (take n ts) .begin) (packed (take n ts))
   reaches = until-reaches (placeWay m c (take n ts)) (placeWay m c (take n ts) .begin) (packed (take n ts))

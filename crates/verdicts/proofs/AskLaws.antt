@@ -20,7 +20,7 @@ use Rattle.demand.specs.Sizes.{Tells, Each, lengthMost}
 use Rattle.demand.specs.Answer.{Taken}
 use Rattle.demand.specs.Charge.{coreOf, stall}
 use Rattle.demand.specs.Verdict.{Judged, Means, verdict}
-use Rattle.demand.specs.Why.{ask, shown, shownOf}
+use Rattle.demand.specs.Why.{ask, coreShown, shownOf}
 use Rattle.demand.proofs.ChargeLaws.{core-ranged}
 use Rattle.demand.proofs.RunLaws.{taken-countable}
 use Rattle.demand.proofs.VerdictLaws.{verdict-means}
@@ -45,14 +45,14 @@ module _ (v : Verdict) (t : ℕ) (q : Charged) where
 
 -- ---- what is shown is at a length that can be judged
 
-pub shown-near : (b : ℕ) (qs : List Charged) → Each Ranged qs → shown b qs .length ≤ lengthMost
+pub shown-near : (b : ℕ) (qs : List Charged) → Each Ranged qs → coreShown b qs .length ≤ lengthMost
 shown-near b [] ok = rw (shown-empty b) (omega arith)
 shown-near b (q ∷ qs) ok = by (verdict b (q ∷ qs)) refl
   where
     within : (t₀ l t : ℕ) → Judged (q ∷ qs) t₀ l → t < t₀ + l → t ≤ lengthMost
     within t₀ l t span below = omega (arith, least-live-is (q ∷ qs) t₀ (span .start), least-live-fits (q ∷ qs) ok, span .within)
 
-    by : (v : Verdict) → verdict b (q ∷ qs) ≡ v → shown b (q ∷ qs) .length ≤ lengthMost
+    by : (v : Verdict) → verdict b (q ∷ qs) ≡ v → coreShown b (q ∷ qs) .length ≤ lengthMost
     by Passes e =
         let so = shown-passes b (q ∷ qs) e (λ none. absurd (omega (arith, ap length none))) in
         rw (so .7) (within (so .1) (so .2) (so .0) (so .3) (so .4 .below))

@@ -26,7 +26,7 @@ ghost use lib.Dec.{ltb};
 ghost use Rattle.demand.specs.declared.Found.the-variants.{At};
 ghost use Rattle.demand.specs.Busy.{busyLength};
 ghost use Rattle.demand.specs.Demand.{leastLive};
-ghost use Rattle.demand.specs.Why.{dueAsk, busyAsk, shown};
+ghost use Rattle.demand.specs.Why.{dueAsk, busyAsk, coreShown};
 ghost use Rattle.verdicts.specs.Asks.{noAsk, askWithin};
 ghost use Rattle.verdicts.specs.ChargedArray.{chargedIn};
 ghost use Rattle.demand.specs.ways.Ranges.{Ranged, stallMost};
@@ -99,7 +99,7 @@ pub fn blocking_at(b: u64, w: u64, t: u64) -> u64
 pub fn show_span(core: &[u64; CORE_NUMBERS], n: usize, b: u64, a: u64, l: u64) -> Shown
     requires { ⌜ (n ≤ runMost) × Each Ranged (chargedIn (now core) n) ⌝ }
     requires { ⌜ (b ≤ stallMost) × (1 ≤ n) × (a ≡ leastLive (chargedIn (now core) n)) × (busyLength (chargedIn (now core) n) ≡ At l) ⌝ }
-    ensures { λ r. ⌜ r ≡ shown b (chargedIn (now (core .entry)) n) ⌝ }
+    ensures { λ r. ⌜ r ≡ coreShown b (chargedIn (now (core .entry)) n) ⌝ }
 {
     let w = largest_window(core, n);
     match seek(core, n, b, w, a, l) {
@@ -128,7 +128,7 @@ pub fn show_span(core: &[u64; CORE_NUMBERS], n: usize, b: u64, a: u64, l: u64) -
 pub fn show_core(core: &[u64; CORE_NUMBERS], n: usize, b: u64) -> Shown
     requires { ⌜ (n ≤ runMost) × Each Ranged (chargedIn (now core) n) ⌝ }
     requires { ⌜ b ≤ stallMost ⌝ }
-    ensures { λ r. ⌜ r ≡ shown b (chargedIn (now (core .entry)) n) ⌝ }
+    ensures { λ r. ⌜ r ≡ coreShown b (chargedIn (now (core .entry)) n) ⌝ }
 {
     if n == 0 {
         return Shown {

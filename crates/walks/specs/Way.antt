@@ -86,13 +86,14 @@ module _ {A : Type 0} (W : Way A) where
   placedUntil s [] = []
   placedUntil s (a ∷ rest) = onwardPlaced (landed a (W .place s a)) (λ t. placedUntil t rest)
 
-  pub record SticksAt (s : W .State) (items : List A) (a : A) (n : ℕ) : Type 0 where
-    pub ahead : List A
-    pub later : List A
-    pub at : W .State
-    pub order : items ≡ ahead ++ (a ∷ later)
-    pub reached : walk s ahead ≡ fine at (placedUntil s items)
-    pub refused : W .place at a ≡ refuses n
+-- a is the first of the items that has no place
+pub record SticksAt {A : Type 0} (W : Way A) (s : W .State) (items : List A) (a : A) (n : ℕ) : Type 0 where
+  pub ahead : List A
+  pub later : List A
+  pub at : W .State
+  pub order : items ≡ ahead ++ (a ∷ later)
+  pub reached : walk W s ahead ≡ fine at (placedUntil W s items)
+  pub refused : W .place at a ≡ refuses n
 
 -- ---- items that stand for others
 

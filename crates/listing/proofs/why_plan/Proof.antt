@@ -14,7 +14,7 @@ use Rattle.plan.specs.Walk.{wholeAt}
 use Rattle.listing.specs.Papers.{Paper, noteOf, left}
 use Rattle.listing.specs.Listing.{spelling}
 use Rattle.listing.specs.Why.{noRoomLine, rowSeats, whyOf}
-use Rattle.listing.specs.ways.SeatArrays.{seatsIn, frontOf}
+use Rattle.listing.specs.ways.SeatArrays.{seatsLaid, frontOf}
 use Rattle.listing.proofs.EntryLaws.{at-within}
 use Rattle.listing.proofs.WhyTextLaws.{front-some}
 use Rattle.listing.proofs.WhyPlacedLaws.{asked-outside}

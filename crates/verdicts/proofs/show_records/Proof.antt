@@ -8,7 +8,7 @@ use Rattle.demand.specs.declared.Shown.{Shown}
 use Rattle.demand.specs.declared.Showing.the-variants.{Shows}
 use Rattle.demand.specs.Charge.{stall}
 use Rattle.demand.specs.Records.{recordsOf}
-use Rattle.demand.specs.Why.{shown, shownOf}
+use Rattle.demand.specs.Why.{coreShown, shownOf}
 use Rattle.verdicts.specs.ChargedArray.{chargedIn}
 use Rattle.demand.proofs.RunLaws.{check-taken, taken-countable, laid-ranged, showing-fine, showing-bad}
 use borrow.Author.Needs.{needs}
@@ -61,8 +61,8 @@ returns-2 c =
     let s = c .before .before .before .before .before .before .before .before .args in
     let lay-out = c .before .before .before .lay-out in
     let laid = chargedIn (lay-out .last .0) (s .count) in
-    ap (λ (v : Shown). Shows v) (c .show-core .ensures ∙ (ap (λ (b : ℕ). shown b laid) (c .before .stall-of .ensures .0)
-    ∙ ap (λ (qs : List Charged). shown (stall (s .costs)) qs) (lay-out .ensures .0)))
+    ap (λ (v : Shown). Shows v) (c .show-core .ensures ∙ (ap (λ (b : ℕ). coreShown b laid) (c .before .stall-of .ensures .0)
+    ∙ ap (λ (qs : List Charged). coreShown (stall (s .costs)) qs) (lay-out .ensures .0)))
     ∙ sym (showing-fine (s .costs) (s .count) (recordsOf (s .records .now)) (sym (c .before .before .before .before .before .before .before .check-records .ensures) ∙ c .before .before .before .before .before .enum-told .given .1))
 
 pub show-records-spec : {M : Type 1} → statement M

@@ -7,7 +7,7 @@ use lib.ListN.{length}
 use Rattle.demand.proofs.RunLaws.{length-mapped}
 use Rattle.plan.specs.declared.Stored.{Stored}
 use Rattle.plan.specs.Layout.{blank}
-use Rattle.listing.specs.ways.SeatArrays.{seatsIn}
+use Rattle.listing.specs.ways.SeatArrays.{seatsLaid}
 use Rattle.listing.proofs.EntryLaws.{at-within}
 use Rattle.listing.proofs.SeatLaws.{rowTo, seats-more, seats-all, seats-past}
 use Rattle.listing.proofs.rows.lay_seats.Statement.{statement}
@@ -22,7 +22,7 @@ use Rattle.plan.proofs.stored_piece.Reads as stored-piece-reads
 
 abbrev Inv-loop : tie.InvT-loop
 Inv-loop records₀ places₀ core layout n i₀ records places i =
-    (i ≤ n) × (seatsIn core places records i ≡ rowTo layout core i) × (length records ≡ 553) × (length places ≡ 79)
+    (i ≤ n) × (seatsLaid core places records i ≡ rowTo layout core i) × (length records ≡ 553) × (length places ≡ 79)
 
 abbrev μ-loop : tie.MeasureT-loop
 μ-loop records₀ places₀ core layout n i₀ records places i = n - i
@@ -116,7 +116,7 @@ returns-2 c =
     let l = c .before .loop in
     let n = c .before .before .seats in
     let all : l .i ≡ n .result = omega (arith, l .inv .0, c .loop-test .left) in (
-      ap (λ (i : ℕ). seatsIn (s .core) (l .places) (l .records) i) (sym all)
+      ap (λ (i : ℕ). seatsLaid (s .core) (l .places) (l .records) i) (sym all)
           ∙ (l .inv .1 ∙ (ap (rowTo (s .t3) (s .core)) all
           ∙ seats-all (s .t3) (s .core) (rows-long b) (omega (arith, c .before .before .before .before .if1 .left)) (n .result) (n .ensures .0) (n .ensures .2))),
       n .ensures .1,

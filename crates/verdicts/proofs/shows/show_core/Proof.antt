@@ -7,7 +7,7 @@ use lib.ListN.{length}
 use Rattle.demand.specs.declared.Charged.{Charged}
 use Rattle.demand.specs.Sizes.{busyMost}
 use Rattle.demand.specs.Busy.{busySum}
-use Rattle.demand.specs.Why.{shown}
+use Rattle.demand.specs.Why.{coreShown}
 use Rattle.demand.proofs.WhyLaws.{shown-empty, shown-beyond}
 use Rattle.verdicts.specs.ChargedArray.{chargedIn}
 use Rattle.verdicts.proofs.ChargedArrayLaws.{charged-in-length}
