@@ -8,7 +8,7 @@ mod common;
 use std::fs;
 use std::path::Path;
 
-use common::listings::{shown, Tally};
+use common::listings::{shown, stated, Tally};
 use configurator::{plan, plan_into, Listed, Refusal};
 use inputs::sheets::SHEET;
 use inputs::{bytes, cases};
@@ -16,19 +16,6 @@ use plain::verdict::Way;
 
 /// The first two lines of a sheet that is good so far.
 const HEAD: &str = "machine\t16\t1\ncost\t0\t0\t0\t0\t0\t0\t0\t0\t0\n";
-
-/// What a case's `.out` file states: `refusal`, its number and what it carries, or the listing.
-fn stated(out: Vec<u8>) -> Result<Vec<u8>, Refusal> {
-    let text = shown(&out);
-    let fields: Vec<&str> = text.trim_end_matches('\n').split('\t').collect();
-    match fields[..] {
-        ["refusal", number, carries] => Err(Refusal::new(
-            number.parse().unwrap(),
-            carries.parse().unwrap(),
-        )),
-        _ => Ok(out),
-    }
-}
 
 #[test]
 fn cases_with_stated_answers() {

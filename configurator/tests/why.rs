@@ -7,8 +7,8 @@ mod common;
 
 use std::fmt::Write as _;
 
-use common::listings::shown;
-use common::why::{stated, Asked, Said, Tally};
+use common::listings::{shown, stated};
+use common::why::{Asked, Said, Tally};
 use configurator::{demand_at, plan, verdict, Answer, Refusal};
 use inputs::cores::{lent, lent_costs, lent_records, piece, whole_core};
 use inputs::sheets::SHEET;

@@ -102,3 +102,16 @@ fn splits(listing: &[u8]) -> u64 {
 pub fn shown(bytes: &[u8]) -> String {
     String::from_utf8_lossy(bytes).into_owned()
 }
+
+/// What a case's `.out` file states: `refusal`, its number and what it carries, or the text.
+pub fn stated(out: Vec<u8>) -> Result<Vec<u8>, Refusal> {
+    let text = shown(&out);
+    let fields: Vec<&str> = text.trim_end_matches('\n').split('\t').collect();
+    match fields[..] {
+        ["refusal", number, carries] => Err(Refusal::new(
+            number.parse().unwrap(),
+            carries.parse().unwrap(),
+        )),
+        _ => Ok(out),
+    }
+}

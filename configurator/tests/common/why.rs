@@ -135,19 +135,6 @@ fn told(said: &Said) -> String {
     }
 }
 
-/// What a case's `.out` file states: `refusal`, its number and what it carries, or the text.
-pub fn stated(out: Vec<u8>) -> Said {
-    let text = shown(&out);
-    let fields: Vec<&str> = text.trim_end_matches('\n').split('\t').collect();
-    match fields[..] {
-        ["refusal", number, carries] => Err(Refusal::new(
-            number.parse().unwrap(),
-            carries.parse().unwrap(),
-        )),
-        _ => Ok(out),
-    }
-}
-
 /// A core to ask about: most are of the sheet's machine.
 pub fn core_of(sheet: &[u8], random: &mut Random) -> u64 {
     let cores = sheet::read(sheet).map_or(2, |sheet| sheet.machine.cores);
