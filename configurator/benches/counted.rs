@@ -45,13 +45,13 @@ pub enum Verdict {
     Undecided,
 }
 
-/// The length that is shown of a core with a busy length.
+/// The length that is shown of a core with a busy length, and the demand there.
 #[derive(Clone, Copy, Debug, PartialEq, Eq)]
 pub enum Sought {
     /// The greatest overloaded length of the judged span.
-    Over(u64),
+    Over(u64, u64),
     /// The shortest length with the least slack, where none is overloaded.
-    Least(u64),
+    Least(u64, u64),
 }
 
 /// What a core with a piece behind tells: it passes, its own blocking overloads that length, or no
@@ -290,14 +290,21 @@ impl<T: Tally> Lean<T> {
     }
 
     /// The greatest of the l lengths from a at which the demand, with the bar added, is above the
-    /// length.
-    fn hunt(&mut self, core: &[Lane], b: u64, w: u64, bar: u64, a: u64, l: u64) -> Option<u64> {
+    /// length; and the demand there.
+    fn hunt(
+        &mut self,
+        core: &[Lane],
+        b: u64,
+        w: u64,
+        bar: u64,
+        [a, l]: [u64; 2],
+    ) -> Option<[u64; 2]> {
         let mut end = a + l;
         while a < end {
             let t = end - 1;
             let g = self.demand(core, b, w, t);
             if t < g + bar {
-                return Some(t);
+                return Some([t, g]);
             }
             end = next_end(g + bar, w, t);
         }
@@ -306,8 +313,8 @@ impl<T: Tally> Lean<T> {
 
     fn descend(&mut self, core: &[Lane], b: u64, a: u64, l: u64) -> Verdict {
         let w = largest_window(core);
-        match self.hunt(core, b, w, 0, a, l) {
-            Some(t) => Verdict::Overloaded(t),
+        match self.hunt(core, b, w, 0, [a, l]) {
+            Some([t, _]) => Verdict::Overloaded(t),
             None => Verdict::Passes,
         }
     }
@@ -351,31 +358,27 @@ impl<T: Tally> Lean<T> {
         let mut end = a + l;
         while a < end {
             let bar = best.saturating_sub(asked) + 1;
-            let t = match self.hunt(core, b, w, bar, a, end - a) {
-                None => return Sought::Least(best),
-                Some(t) => t,
+            let [t, x] = match self.hunt(core, b, w, bar, [a, end - a]) {
+                None => return Sought::Least(best, asked),
+                Some(hit) => hit,
             };
-            let x = self.demand(core, b, w, t);
             if t < x {
-                return Sought::Over(t);
+                return Sought::Over(t, x);
             }
             let v = self.level(core, b, w, a, [t, x]);
             if v < x {
-                return Sought::Over(x - 1);
+                return Sought::Over(x - 1, x);
             }
             (best, asked, end) = (v, x, v);
         }
-        Sought::Least(best)
+        Sought::Least(best, asked)
     }
 
-    /// What is shown of a core with pieces, and the demand there; nothing where it has no busy
-    /// length.
-    pub fn show(&mut self, core: &[Lane], b: u64) -> Option<(Sought, u64)> {
+    /// What is shown of a core with pieces; nothing where it has no busy length.
+    pub fn show(&mut self, core: &[Lane], b: u64) -> Option<Sought> {
         let l = self.busy_length(core)?;
         let w = largest_window(core);
-        let sought = self.seek(core, b, w, least_live(core), l);
-        let (Sought::Over(t) | Sought::Least(t)) = sought;
-        Some((sought, self.demand(core, b, w, t)))
+        Some(self.seek(core, b, w, least_live(core), l))
     }
 
     /// The greatest charge of q up to f that fits at t, what is asked for there beside it, and the

@@ -66,10 +66,8 @@ fn looks_at((records, costs): &Question) -> (Verdict, [u64; 2]) {
     let verdict = lean.judge(&core, stall);
     let looked = lean.tally.demands;
     let (judged, begin, total) = match lean.show(&core, stall) {
-        Some((Sought::Least(t), asked)) => (Verdict::Passes, format!("passes\t{t}"), asked),
-        Some((Sought::Over(t), asked)) => {
-            (Verdict::Overloaded(t), format!("overloaded\t{t}"), asked)
-        }
+        Some(Sought::Least(t, asked)) => (Verdict::Passes, format!("passes\t{t}"), asked),
+        Some(Sought::Over(t, asked)) => (Verdict::Overloaded(t), format!("overloaded\t{t}"), asked),
         None => {
             let busy = |q: &Lane| (100_000_000 + q.period - 1) / q.period * q.job();
             let begin = "undecided\t100000000".to_owned();
@@ -132,19 +130,20 @@ pub fn tables(loads: &[Load], slow: &[Slow]) -> String {
         let _ = writeln!(counts, "| {} | {planned} | {walked} |", load.name);
     }
     let mut times = String::from(
-        "| budgets in periods | lengths of the verdict | to say why | time of the library, its verdict's being 1 | of the copy |\n|---|---|---|---|---|\n",
+        "| budgets in periods | lengths of the verdict | to say why | the library's verdict, µs | its time to say why, its verdict's being 1 | the copy's |\n|---|---|---|---|---|---|\n",
     );
     let mut slowest = [0_f64; 2];
     for core in slow {
         eprintln!("slow core {}", core.name);
         let question = (core.records.clone(), vec![0; 36]);
         let (_, [verdict, why]) = looks_at(&question);
-        let [library, copy] = time_ratios(&question);
+        let [took, library, copy] = times_of(&question);
         slowest = [slowest[0].max(library), slowest[1].max(copy)];
         let (name, verdict, why) = (&core.name, grouped(verdict), grouped(why));
+        let took = grouped((took / 1000.0).ceil() as u64);
         let _ = writeln!(
             times,
-            "| {name} | {verdict} | {why} | {library:.2} | {copy:.2} |"
+            "| {name} | {verdict} | {why} | {took} | {library:.2} | {copy:.2} |"
         );
     }
     let mut targets = String::from("| target | asked | measured | |\n|---|---|---|---|\n");
@@ -169,13 +168,13 @@ pub fn tables(loads: &[Load], slow: &[Slow]) -> String {
     [targets, counts, times].join("\n")
 }
 
-/// The library's time to say why in that of its verdict, and the copy's: medians of the rounds, after
-/// one that does not count.
-fn time_ratios((records, costs): &Question) -> [f64; 2] {
+/// The time of the library's verdict, its time to say why in that, and the copy's: medians of the
+/// rounds, after one that does not count.
+fn times_of((records, costs): &Question) -> [f64; 3] {
     const ROUNDS: usize = 5;
     let mut buffer = [0; 8_192];
     let (core, stall) = sheets::lanes(records, costs);
-    let (mut library, mut copy) = (Vec::new(), Vec::new());
+    let (mut took, mut library, mut copy) = (Vec::new(), Vec::new(), Vec::new());
     for round in 0..=ROUNDS {
         let (verdict, _) = clocked(|| ffi::verdict(records, costs));
         let (why, _) = clocked(|| says_why(records, costs, &mut buffer));
@@ -183,9 +182,10 @@ fn time_ratios((records, costs): &Question) -> [f64; 2] {
         let (shown_took, shown) = clocked(|| Lean::new(Silent).show(&core, stall));
         assert_eq!(judged == Verdict::Undecided, shown.is_none());
         if round > 0 {
+            took.push(verdict);
             library.push(why / verdict);
             copy.push(shown_took / judged_took);
         }
     }
-    [median(&library), median(&copy)]
+    [median(&took), median(&library), median(&copy)]
 }

@@ -118,11 +118,11 @@ fn compare_shown(core: &Core, way: Way) -> bool {
         (Verdict::Passes, "passes", 0)
     } else {
         match lean.show(&lanes, stall) {
-            Some((Sought::Least(t), asked)) => {
+            Some(Sought::Least(t, asked)) => {
                 assert!(asked <= t, "{core:?}");
                 (Verdict::Passes, "passes", t)
             }
-            Some((Sought::Over(t), asked)) => {
+            Some(Sought::Over(t, asked)) => {
                 assert!(t < asked, "{core:?}");
                 (Verdict::Overloaded(t), "overloaded", t)
             }

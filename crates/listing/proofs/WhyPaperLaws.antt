@@ -4,11 +4,12 @@
 --   showing-shows, showing-unshown        what is shown, or refused, by the check
 --   why-written, why-barred               so the paper is the listing, or the refusal
 --   run-asked, row-asked, stuck-asked     what is answered for the arrays is what was asked for
---   note-long, note-short, left-written   what is said of a listing, and what the buffer then holds
+--   wrote-answers, count-answers          what is said of a listing that was written, or only counted, and what the buffer then holds
 use mathlib.Core.Path.{_≡_, refl, sym, ap, subst, _∙_}
 use mathlib.Core.Bool.{Bool, true, false}
 use mathlib.Core.List.{List, [], _∷_, _++_}
 use Prim.Native.Nat.{ℕ, suc, _+_, _-_, _≤_, _<_}
+use native.Mathlib.Nat.{zero-add}
 use native.Mathlib.Numerals.{add-one}
 use native.Mathlib.Omega.{arith}
 use borrow.Author.Tests.{le-leb, lt-leb}
@@ -34,11 +35,12 @@ use Rattle.task.specs.declared.Task.{Task}
 use Rattle.task.specs.Tasks.{taskAt}
 use Rattle.plan.specs.declared.Plan.{Plan}
 use Rattle.listing.specs.declared.Note.{Note}
-use Rattle.listing.specs.Text.{over}
+use Rattle.listing.specs.Text.{Wrote}
 use Rattle.listing.specs.Papers.{Paper, refused, written, noteOf, left}
 use Rattle.listing.specs.Listing.{spelling}
 use Rattle.listing.specs.Why.{piecesIn, noRoomLine, whyText, unlessBad, whyPaper, whyRun, rowSeats, whyRow, wholeSeat, whyStuck, whyAsked, whyOf}
 use Rattle.listing.specs.ways.SeatArrays.{seatsLaid, titledIn, frontOf}
+use Rattle.listing.proofs.TextLaws.{over-whole, over-short, first-pass}
 use Rattle.listing.proofs.SeatLaws.{titled-pieces, titled-take, run-paper, seats-paper}
 use Rattle.listing.proofs.WhyPlacedLaws.{asked-inside}
 
@@ -92,15 +94,25 @@ module _ (f : List ℕ) (c : Costs) (n : ℕ) (b : Bool) (ts : List Task) (ks a 
       by BadCosts small = (refl, refl, omega arith, omega arith)
       by (BadRecord k) small = (refl, refl, omega arith, small)
 
-module _ (p : Paper) (text : List ℕ) (room : ℕ) (is : p ≡ written text) where
-  pub note-long : length text ≤ room → _≡_ {A = Note} (record { number = 0; carries = length text }) (noteOf p room)
-  note-long fits = rw (is, le-leb (length text) room fits)
+-- ---- what is said of a listing, and what the buffer then holds
 
-  pub note-short : room < length text → _≡_ {A = Note} (record { number = 10; carries = length text }) (noteOf p room)
-  note-short short = rw (is, lt-leb (length text) room short)
+module _ (p : Paper) (text old : List ℕ) (is : p ≡ written text) where
+  -- where it was written
+  pub wrote-answers : (new : List ℕ) (r : ℕ) → Wrote old 0 text r new → r ≤ length old
+      → _≡_ {A = Note} (record { number = 0; carries = r }) (noteOf p (length old)) × (new ≡ left p old)
+  wrote-answers new r w room =
+      let all : r ≡ length text = w .place ∙ rw zero-add in
+      let fits : length text ≤ length old = omega arith in
+      (rw (is, all, le-leb (length text) (length old) fits), over-whole text old new r w fits ∙ rw is)
 
-pub left-written : (p : Paper) (text old : List ℕ) → p ≡ written text → over text old ≡ left p old
-left-written p text old is = rw is
+  -- where it was only counted
+  pub count-answers : (none : List ℕ) (r : ℕ) → Wrote [] 0 text r none → length (none ++ old) < r
+      → _≡_ {A = Note} (record { number = 10; carries = r }) (noteOf p (length old)) × (none ++ old ≡ left p old)
+  count-answers none r w room =
+      let all : r ≡ length text = w .place ∙ rw zero-add in
+      let same = first-pass text none old r w in
+      let short : length old < length text = omega (arith, ap length same) in
+      (rw (is, all, lt-leb (length text) (length old) short), same ∙ (sym (over-short text old short) ∙ rw is))
 
 -- ---- as the code comes to it
 

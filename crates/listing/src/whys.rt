@@ -159,7 +159,7 @@ pub fn put_why<'a>(
     shown: Shown,
 ) -> usize
     requires { ⌜ Taken costs n (recordsOf (now records)) × (shown ≡ shownOf costs (take n (recordsOf (now records)))) ⌝ }
-    ensures { λ r. ⌜ (Wrote (now (buf .entry)) 0 (frontOf (stuck .place) (spelling (stuck .name)) (stuck .cores) ++ whyText costs (titledIn «by_name» (tasks .list) (now (places .entry)) (now (records .entry)) n)) r (now (buf .exit))) × (r ≤ 10000) ⌝ }
+    ensures { λ r. ⌜ (Wrote (now (buf .entry)) 0 (frontOf (stuck .place) (spelling (stuck .name)) (stuck .cores) ++ whyText costs (titledIn «by_name» (tasks .list) (now (places .entry)) (now (records .entry)) n)) r (now (buf .exit))) × (r ≤ 186 + 100 * n) ⌝ }
 {
     let front = put_no_room(buf, stuck);
     let head = put_head(buf, front, shown);
@@ -220,6 +220,14 @@ pub fn write_why<'a>(
     match show_records(costs, records, n) {
         Showing::Unshown(why) => refusal_note(why),
         Showing::Shows(shown) => {
+            // in one go where the buffer has room for any listing of n records
+            if 186 + 100 * n <= buf.len() {
+                let k = put_why(buf, stuck, costs, by_name, tasks, places, records, n, shown);
+                return Note {
+                    number: 0,
+                    carries: k as u64,
+                };
+            }
             let m = put_why(
                 &mut buf[..0],
                 stuck,

@@ -5,10 +5,10 @@
 --   test-moves                                      the test that does not wrap
 --   quiet-more                                      a step passes over lengths only that are not overloaded
 --   hit-scans, quiet-scans, hunt-hit, hunt-none     what is found is what the verdict's scan finds
---   hit-of, none-of, over-of, least-of, bar-is      what a search's answer says, and the bar as the code has it
+--   struck-of, none-of, over-of, least-of, bar-is   what a search's answer says, and the bar as the code has it
 --   leads-start, leads-hit, leads-none, leads-low   how the search for the least slack begins, goes on and ends
 --   over-hit, over-stretch, calm-stretch, calm-none      and what it tells of overloaded lengths on the way
-use mathlib.Core.Path.{_≡_, refl, subst}
+use mathlib.Core.Path.{_≡_, refl, sym, subst}
 use mathlib.Core.List.{List}
 use Prim.Native.Nat.{ℕ, _+_, _-_, _≤_, _<_}
 use native.Mathlib.Decide.{decLt}
@@ -16,8 +16,6 @@ use native.Mathlib.Omega.{arith}
 use borrow.Author.Tests.{lt-ltb, le-ltb}
 use lib.Dec.{ltb}
 use Rattle.demand.specs.declared.Charged.{Charged}
-use Rattle.demand.specs.declared.Found.{Found}
-use Rattle.demand.specs.declared.Found.the-variants.{At, Nothing}
 use Rattle.demand.specs.declared.Verdict.the-variants.{Passes, Overloaded}
 use Rattle.demand.specs.Demand.{demand, largestWindow}
 use Rattle.demand.specs.Verdict.{scan}
@@ -27,6 +25,8 @@ use Rattle.demand.proofs.VerdictLaws.{scan-is}
 use Rattle.verdicts.specs.ways.SlackHunt.{Rises, raised, Quiet, Hit, Hunts, Level, Seeks, Leads}
 use Rattle.verdicts.specs.declared.slacks.Sought.{Sought}
 use Rattle.verdicts.specs.declared.slacks.Sought.the-variants.{Over, Least}
+use Rattle.verdicts.specs.declared.spans.Hunted.{Hunted}
+use Rattle.verdicts.specs.declared.spans.Hunted.the-variants.{Struck, Missed}
 
 pub core-rises : (b : ℕ) (qs : List Charged) → Rises (demand b qs) (largestWindow qs)
 core-rises b qs t u up side = demand-mono qs b {t = t} {u = u} up side
@@ -54,24 +54,27 @@ module _ (b : ℕ) (qs : List Charged) (a l : ℕ) where
   quiet-scans quiet = scan-is b qs a l Passes quiet
 
   -- with no bar
-  pub hunt-hit : (t : ℕ) → Hunts (raised (demand b qs) 0) a l (At t) → Overloaded t ≡ scan b qs a l
+  pub hunt-hit : (t : ℕ) → Hit (raised (demand b qs) 0) a l t → Overloaded t ≡ scan b qs a l
   hunt-hit t hit = hit-scans t
       (record { from = hit .from; below = hit .below; over = omega (arith, hit .over); quiet = λ u from below. omega (arith, hit .quiet u from below) })
 
-  pub hunt-none : Hunts (raised (demand b qs) 0) a l Nothing → Passes ≡ scan b qs a l
+  pub hunt-none : Quiet (raised (demand b qs) 0) a (a + l) → Passes ≡ scan b qs a l
   hunt-none quiet = quiet-scans (λ u from below. omega (arith, quiet u from below))
 
-pub over-of : (g : ℕ → ℕ) (a l : ℕ) (r : Sought) (t : ℕ) → Seeks g a l r → r ≡ Over t → Hit g a l t
-over-of g a l r t seeks e = subst (λ (x : Sought). Seeks g a l x) e seeks
+-- ---- what an answer says
 
-pub least-of : (g : ℕ → ℕ) (a l : ℕ) (r : Sought) (t : ℕ) → Seeks g a l r → r ≡ Least t → Quiet g a (a + l) × (t ≡ leastSlack g a (l - 1))
-least-of g a l r t seeks e = subst (λ (x : Sought). Seeks g a l x) e seeks
+pub struck-of : (g : ℕ → ℕ) (bar a l : ℕ) (r : Hunted) (t x : ℕ) → Hunts g bar a l r → r ≡ Struck t x → Hit (raised g bar) a l t × (x ≡ g t)
+struck-of g bar a l r t x hunts e = subst (λ (z : Hunted). Hunts g bar a l z) e hunts
 
-pub hit-of : (g : ℕ → ℕ) (a l : ℕ) (r : Found) (t : ℕ) → Hunts g a l r → r ≡ At t → Hit g a l t
-hit-of g a l r t hunts e = subst (λ (x : Found). Hunts g a l x) e hunts
+pub none-of : (g : ℕ → ℕ) (bar a l : ℕ) (r : Hunted) → Hunts g bar a l r → r ≡ Missed → Quiet (raised g bar) a (a + l)
+none-of g bar a l r hunts e = subst (λ (z : Hunted). Hunts g bar a l z) e hunts
 
-pub none-of : (g : ℕ → ℕ) (a l : ℕ) (r : Found) → Hunts g a l r → r ≡ Nothing → Quiet g a (a + l)
-none-of g a l r hunts e = subst (λ (x : Found). Hunts g a l x) e hunts
+pub over-of : (g : ℕ → ℕ) (a l : ℕ) (r : Sought) (t x : ℕ) → Seeks g a l r → r ≡ Over t x → Hit g a l t × (x ≡ g t)
+over-of g a l r t x seeks e = subst (λ (z : Sought). Seeks g a l z) e seeks
+
+pub least-of : (g : ℕ → ℕ) (a l : ℕ) (r : Sought) (t x : ℕ) → Seeks g a l r → r ≡ Least t x
+    → Quiet g a (a + l) × (t ≡ leastSlack g a (l - 1)) × (x ≡ g t)
+least-of g a l r t x seeks e = subst (λ (z : Sought). Seeks g a l z) e seeks
 
 -- ---- to the least slack
 
@@ -144,16 +147,20 @@ module _ (g : ℕ → ℕ) (w a l best end : ℕ) (lead : Leads g a l best end) 
     }
 
     module _ (v : ℕ) (rises : Rises g w) (level : Level g w a t v) (fits : g t ≤ t) where
-      pub over-stretch : v < g t → Hit g a l (g t - 1)
-      over-stretch over = record {
-        from = omega (arith, level .from);
-        below = omega (arith, hit .below, lead .inside);
-        over = omega (arith, flat t v rises level (g t - 1) (omega arith) (omega arith));
-        quiet = λ u from below. elim (decLt t u) [
-          | yes high ↦ above-hit bar t some hit u (omega arith) below
-          | no low ↦ omega (arith, flat t v rises level u (omega arith) (omega arith))
-        ];
-      }
+      pub over-stretch : v < g t → Hit g a l (g t - 1) × (g t ≡ g (g t - 1))
+      over-stretch over =
+          let one : g (g t - 1) ≡ g t = flat t v rises level (g t - 1) (omega arith) (omega arith) in (
+            record {
+              from = omega (arith, level .from);
+              below = omega (arith, hit .below, lead .inside);
+              over = omega (arith, one);
+              quiet = λ u from below. elim (decLt t u) [
+                | yes high ↦ above-hit bar t some hit u (omega arith) below
+                | no low ↦ omega (arith, flat t v rises level u (omega arith) (omega arith))
+              ];
+            },
+            sym one,
+          )
 
       pub calm-stretch : g t ≤ v → Quiet g v (a + l)
       calm-stretch room u from below = elim (decLt t u) [

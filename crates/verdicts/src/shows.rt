@@ -4,7 +4,6 @@ use crate::LENGTH_MOST;
 use crate::Sum;
 use crate::busy_climb::climb_busy;
 use crate::demands::ceil_div;
-use crate::demands::demand_at;
 use crate::demands::interrupts_of;
 use crate::demands::jobs_due;
 use crate::demands::largest_window;
@@ -103,24 +102,18 @@ pub fn show_span(core: &[u64; CORE_NUMBERS], n: usize, b: u64, a: u64, l: u64) -
 {
     let w = largest_window(core, n);
     match seek(core, n, b, w, a, l) {
-        Sought::Over(t) => {
-            let total = demand_at(core, n, b, w, t);
-            Shown {
-                verdict: Verdict::Overloaded(t),
-                length: t,
-                blocking: blocking_at(b, w, t),
-                total: total,
-            }
-        }
-        Sought::Least(least) => {
-            let total = demand_at(core, n, b, w, least);
-            Shown {
-                verdict: Verdict::Passes,
-                length: least,
-                blocking: blocking_at(b, w, least),
-                total: total,
-            }
-        }
+        Sought::Over(t, total) => Shown {
+            verdict: Verdict::Overloaded(t),
+            length: t,
+            blocking: blocking_at(b, w, t),
+            total: total,
+        },
+        Sought::Least(least, total) => Shown {
+            verdict: Verdict::Passes,
+            length: least,
+            blocking: blocking_at(b, w, least),
+            total: total,
+        },
     }
 }
 

@@ -3,10 +3,10 @@
 use crate::CORE_NUMBERS;
 use crate::arrays::charged_at;
 use crate::demands::demand_at;
+use crate::spans::Hunted;
 use crate::spans::hunt;
 use crate::spans::next_end;
 use crate::stretches::stretch_start;
-use demand::Found;
 use demand::greater;
 use demand::less;
 use demand::lesser;
@@ -18,10 +18,10 @@ ghost use Rattle.verdicts.specs.ways.SlackHunt.{Level, Seeks};
 ghost use Rattle.demand.specs.ways.Ranges.{Ranged, stallMost};
 ghost use Rattle.demand.specs.Sizes.{Each, busyMost, lengthMost, timeMost, runMost};
 
-// What is found of a span.
+// What is found of a span: a length, and the demand there.
 pub enum Sought {
-    Over(u64),
-    Least(u64),
+    Over(u64, u64),
+    Least(u64, u64),
 }
 
 // The start of t's stretch, whose demand is x, not below a and not past the largest window w; or t, where the demand there is another.
@@ -53,17 +53,16 @@ pub fn seek(core: &[u64; CORE_NUMBERS], n: usize, b: u64, w: u64, a: u64, l: u64
     while a < end {
         let bar = less(best, asked) + 1;
         match hunt(core, n, b, w, bar, a, end - a) {
-            Found::Nothing => {
-                return Sought::Least(best);
+            Hunted::Missed => {
+                return Sought::Least(best, asked);
             }
-            Found::At(t) => {
-                let x = demand_at(core, n, b, w, t);
+            Hunted::Struck(t, x) => {
                 if t < x {
-                    return Sought::Over(t);
+                    return Sought::Over(t, x);
                 }
                 let v = level(core, n, b, w, a, t, x);
                 if v < x {
-                    return Sought::Over(x - 1);
+                    return Sought::Over(x - 1, x);
                 }
                 best = v;
                 asked = x;
@@ -71,5 +70,5 @@ pub fn seek(core: &[u64; CORE_NUMBERS], n: usize, b: u64, w: u64, a: u64, l: u64
             }
         }
     }
-    Sought::Least(best)
+    Sought::Least(best, asked)
 }

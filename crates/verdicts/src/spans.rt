@@ -15,7 +15,13 @@ ghost use Rattle.demand.specs.ways.Ranges.{Ranged, stallMost};
 ghost use Rattle.demand.specs.Sizes.{Each, busyMost, timeMost, runMost};
 ghost use Rattle.demand.specs.Demand.{demand, largestWindow};
 ghost use Rattle.demand.specs.Verdict.{scan, verdict};
-ghost use Rattle.verdicts.specs.ways.SlackHunt.{Hunts, raised};
+ghost use Rattle.verdicts.specs.ways.SlackHunt.{Hunts};
+
+// What a hunt finds: a length, and the demand there.
+pub enum Hunted {
+    Struck(u64, u64),
+    Missed,
+}
 
 // The end below which the descent goes on, after the demand g at t. The demand falls at the largest window w, so from at or above it
 // the descent never steps past it.
@@ -38,21 +44,29 @@ pub fn reaches(g: u64, bar: u64, t: u64) -> bool
 
 // The greatest of the l lengths from a at which the demand, with the bar added, is above the length; w is the largest window. All lengths from `end` up are known to be
 // below it.
-pub fn hunt(core: &[u64; CORE_NUMBERS], n: usize, b: u64, w: u64, bar: u64, a: u64, l: u64) -> Found
+pub fn hunt(
+    core: &[u64; CORE_NUMBERS],
+    n: usize,
+    b: u64,
+    w: u64,
+    bar: u64,
+    a: u64,
+    l: u64,
+) -> Hunted
     requires { ⌜ (n ≤ runMost) × Each Ranged (chargedIn (now core) n) ⌝ }
     requires { ⌜ (b ≤ stallMost) × (w ≡ largestWindow (chargedIn (now core) n)) × (a ≤ timeMost) × (l ≤ busyMost) ⌝ }
-    ensures { λ r. ⌜ Hunts (raised (demand b (chargedIn (now (core .entry)) n)) bar) a l r ⌝ }
+    ensures { λ r. ⌜ Hunts (demand b (chargedIn (now (core .entry)) n)) bar a l r ⌝ }
 {
     let mut end = a + l;
     while a < end {
         let t = end - 1;
         let g = demand_at(core, n, b, w, t);
         if reaches(g, bar, t) {
-            return Found::At(t);
+            return Hunted::Struck(t, g);
         }
         end = next_end(g + bar, w, t);
     }
-    Found::Nothing
+    Hunted::Missed
 }
 
 // The greatest overloaded length among the l from a: a hunt with no bar.
@@ -63,8 +77,8 @@ pub fn descend(core: &[u64; CORE_NUMBERS], n: usize, b: u64, a: u64, l: u64) -> 
 {
     let w = largest_window(core, n);
     match hunt(core, n, b, w, 0, a, l) {
-        Found::At(t) => Verdict::Overloaded(t),
-        Found::Nothing => Verdict::Passes,
+        Hunted::Struck(t, _) => Verdict::Overloaded(t),
+        Hunted::Missed => Verdict::Passes,
     }
 }
 

@@ -66,12 +66,17 @@ same-length c = search needs
 
 returns-3 : tie.Need-returns-3
 returns-3 c =
-    let s = c .before .before .before .before .before .before .before .before .before .before .before .before .before .before .before .before .before .before .args in
-    let old = s .buf .now in
+    let back = c .before .before .before .before .before .before .before .before .before .before .before .before in
+    let s = back .before .before .before .before .before .before .args in
     let w = c .before .before .write-why in
     let none = c .before .before .before .before .before .before .room-for-all in
-    let laid = c .before .before .before .before .before .before .before .lay-seats .ensures in
-    let same = row-asked (s .plan) (s .stuck) (s .core) (omega (arith, c .before .before .before .before .before .before .before .before .before .before .before .before .before .before .before .if1 .left)) (omega (arith, c .before .before .before .before .before .before .before .before .before .before .before .before .before .before .if2 .left)) _ (c .before .before .before .before .before .before .before .lay-seats .result) (c .before .before .before .before .before .before .before .lay-seats .last .1 .0) (c .before .before .before .before .before .before .before .lay-seats .last .0) (c .before .before .before .before .before .before .before .before .before .before .if3 .taken)
+    let lay-seats = c .before .before .before .before .before .before .before .lay-seats in
+    let if1 = back .before .before .before .if1 in
+    let if2 = back .before .before .if2 in
+    let if3 = c .before .before .before .before .before .before .before .before .before .before .if3 in
+    let old = s .buf .now in
+    let laid = lay-seats .ensures in
+    let same = row-asked (s .plan) (s .stuck) (s .core) (omega (arith, if1 .left)) (omega (arith, if2 .left)) _ (lay-seats .result) (lay-seats .last .1 .0) (lay-seats .last .0) (if3 .taken)
     (front-none (none .result .place) (spelling (none .result .name)) (none .result .cores) (none .ensures)) (omega (arith, laid .1)) (laid .0) in
     (w .ensures .0 .0 ∙ ap (λ (p : Paper). noteOf p (length old)) same, w .ensures .0 .1 ∙ ap (λ (p : Paper). left p old) same, w .ensures .1 .0, w .ensures .1 .1)
 
@@ -122,26 +127,41 @@ same-length-2 c = search needs
 
 returns-4 : tie.Need-returns-4
 returns-4 c =
-    let s = c .before .before .before .before .before .before .before .before .before .before .before .before .before .before .before .before .before .before .before .before .before .before .before .before .before .before .before .args in
-    let old = s .buf .now in
+    let back = c .before .before .before .before .before .before .before .before .before .before .before .before in
+    let far = back .before .before .before .before .before .before .before .before .before .before .before .before in
+    let s = far .before .before .before .args in
     let w = c .before .before .write-why2 in
-    let laid = c .before .before .before .before .before .before .before .before .before .before .before .before .before .before .before .before .lay-seats2 .ensures in
-    let seat = c .before .before .before .before .before .before .before .before .lay-seat .ensures in
+    let lay-seats2 = back .before .before .before .before .lay-seats2 in
+    let lay-seat = c .before .before .before .before .before .before .before .before .lay-seat in
+    let start = far .before .before .before in
+    let if3 = back .before .before .before .before .before .before .before .if3 in
+    let named = back .before .named in
+    let within = back .before .before .before .within in
+    let whole-piece = c .before .before .before .before .before .before .before .before .before .before .before .whole-piece in
+    let timed = back .timed in
+    let wide = c .before .before .before .before .before .before .before .wide in
+    let wide2 = c .before .before .before .before .before .before .wide2 in
+    let if1 = far .if1 in
+    let if2 = back .before .before .before .before .before .before .before .before .before .before .before .if2 in
+    let old = s .buf .now in
+    let laid = lay-seats2 .ensures in
+    let seat = lay-seat .ensures in
     let k = s .stuck - 1 in
     let ts = s .plan .tasks .list in
     let q = s .plan .machine .cores - 1 in
-    let long : length ts ≡ 64 = tasks-long (c .before .before .before .before .before .before .before .before .before .before .before .before .before .before .before .before .before .before .before .before .before .before .before .before .before .before .before) in
-    let is : s .stuck ≡ suc k = omega (arith, c .before .before .before .before .before .before .before .before .before .before .before .before .before .before .before .before .before .before .before .if3 .left) in
-    let name : spelling (c .before .before .before .before .before .before .before .before .before .before .before .before .before .named .result) ≡ spelling (taskAt ts k .name) =
-    c .before .before .before .before .before .before .before .before .before .before .before .before .before .named .ensures ∙ at-within (λ (t : Task). spelling (t .name)) ts 64 k _ _ past long (c .before .before .before .before .before .before .before .before .before .before .before .before .before .before .before .within .ensures .1) in
-    let whole : c .before .before .before .before .before .before .before .before .before .before .before .whole-piece .result ≡ wholeAt ts k =
-    c .before .before .before .before .before .before .before .before .before .before .before .whole-piece .ensures ∙ (ap wholePiece (c .before .before .before .before .before .before .before .before .before .before .before .before .timed .ensures) ∙ ap wholePiece (at-within (λ (t : Task). t .times) ts 64 k _ _ past long (c .before .before .before .before .before .before .before .before .before .before .before .before .before .before .before .within .ensures .1))) in
-    let front = front-some (c .before .before .before .before .before .before .before .wide .result) (spelling (c .before .before .before .before .before .before .before .before .before .before .before .before .before .named .result)) (c .before .before .before .before .before .before .wide2 .result) (λ e. omega (arith, c .before .before .before .before .before .before .before .wide .ensures, c .before .before .before .before .before .before .before .before .before .before .before .before .before .before .before .before .before .before .before .if3 .left))
-    ∙ ((λ i. noRoomLine (c .before .before .before .before .before .before .before .wide .ensures i) (name i) (c .before .before .before .before .before .before .wide2 .ensures i))) in
+    let long : length ts ≡ 64 = tasks-long start in
+    let is : s .stuck ≡ suc k = omega (arith, if3 .left) in
+    let name : spelling (named .result) ≡ spelling (taskAt ts k .name) =
+    named .ensures ∙ at-within (λ (t : Task). spelling (t .name)) ts 64 k _ _ past long (within .ensures .1) in
+    let whole : whole-piece .result ≡ wholeAt ts k =
+    whole-piece .ensures ∙ (ap wholePiece (timed .ensures) ∙ ap wholePiece (at-within (λ (t : Task). t .times) ts 64 k _ _ past long (within .ensures .1))) in
+    let front = front-some (wide .result) (spelling (named .result)) (wide2 .result) (λ e. omega (arith, wide .ensures, if3 .left))
+    ∙ ((λ i. noRoomLine (wide .ensures i) (name i) (wide2 .ensures i))) in
     let seats = seat .seats q
-    ∙ (ap (λ (es : List (Placed ℕ)). es ++ (record { on = q; item = k; piece = c .before .before .before .before .before .before .before .before .before .before .before .whole-piece .result } ∷ [])) (laid .0)
+    ∙ (ap (λ (es : List (Placed ℕ)). es ++ (record { on = q; item = k; piece = whole-piece .result } ∷ [])) (laid .0)
     ∙ ap (λ (x : Piece). rowSeats (s .plan .layout) q ++ (record { on = q; item = k; piece = x } ∷ [])) whole) in
-    let same = stuck-asked (s .plan) (s .stuck) (s .core) (omega (arith, c .before .before .before .before .before .before .before .before .before .before .before .before .before .before .before .before .before .before .before .before .before .before .before .before .if1 .left)) (omega (arith, c .before .before .before .before .before .before .before .before .before .before .before .before .before .before .before .before .before .before .before .before .before .before .before .if2 .left)) _ (c .before .before .before .before .before .before .before .before .before .before .before .before .before .before .before .before .lay-seats2 .result + 1) (c .before .before .before .before .before .before .before .before .lay-seat .last .1 .0) (c .before .before .before .before .before .before .before .before .lay-seat .last .0) k is front (omega (arith, laid .1)) seats in
+    let same = stuck-asked (s .plan) (s .stuck) (s .core) (omega (arith, if1 .left)) (omega (arith, if2 .left))
+    _ (lay-seats2 .result + 1) (lay-seat .last .1 .0) (lay-seat .last .0) k is front (omega (arith, laid .1)) seats in
     (w .ensures .0 .0 ∙ ap (λ (p : Paper). noteOf p (length old)) same, w .ensures .0 .1 ∙ ap (λ (p : Paper). left p old) same, w .ensures .1 .0, w .ensures .1 .1)
 
 pub why-plan-spec : {M : Type 1} → statement M

@@ -29,10 +29,11 @@ same-length c = search needs
 returns : tie.Need-returns
 returns c =
     let s = c .before .before .before .before .before .before .before .before .args in
-    let old = s .buf .now in
     let w = c .before .before .write-why in
     let none = c .before .before .before .before .before .room-for-all in
-    let same = run-asked _ (front-none (none .result .place) (spelling (none .result .name)) (none .result .cores) (none .ensures)) (s .costs) (s .count) (replicate 64 noTask) (replicate 79 0) (s .records .now) in
+    let old = s .buf .now in
+    let empty = front-none (none .result .place) (spelling (none .result .name)) (none .result .cores) (none .ensures) in
+    let same = run-asked _ empty (s .costs) (s .count) (replicate 64 noTask) (replicate 79 0) (s .records .now) in
     (w .ensures .0 .0 ∙ ap (λ (p : Paper). noteOf p (length old)) same, w .ensures .0 .1 ∙ ap (λ (p : Paper). left p old) same, w .ensures .1 .0, w .ensures .1 .1)
 
 pub why-run-spec : {M : Type 1} → statement M

@@ -25,7 +25,10 @@ returns : tie.Need-returns
 returns c = demand-odd-records (c .before .before .before .args .records .now) (c .before .before .before .args .costs .now) (c .before .before .before .args .t) (c .if1 .taken)
 
 returns-2 : tie.Need-returns-2
-returns-2 c = demand-odd-costs (c .before .before .before .before .args .records .now) (c .before .before .before .before .args .costs .now) (c .before .before .before .before .args .t) (c .before .if1 .left) (c .if2 .taken)
+returns-2 c =
+    let s = c .before .before .before .before .args in
+    let if1 = c .before .if1 in
+    demand-odd-costs (s .records .now) (s .costs .now) (s .t) (if1 .left) (c .if2 .taken)
 
 read-records-requires : tie.Need-read-records-requires
 read-records-requires c κs = search needs
@@ -51,41 +54,60 @@ enum-told-2 c = search needs
 returns-3 : tie.Need-returns-3
 returns-3 c =
     let s = c .before .before .before .before .before .before .before .before .before .before .before .args in
+    let read-records = c .before .before .before .before .before .read-records in
+    let demand-of = c .before .before .demand-of in
+    let read-costs = c .before .before .before .before .read-costs in
+    let if1 = c .before .before .before .before .before .before .before .before .if1 in
+    let if2 = c .before .before .before .before .before .before .before .if2 in
     let rs = s .records .now in
     let cs = s .costs .now in
-    let run = recordsOf (c .before .before .before .before .before .read-records .last .0) in
-    let same : c .before .before .demand-of .result ≡ demandFigure (costsSpelt cs) (length (piecesOf rs)) (piecesOf rs) (s .t) =
-    c .before .before .demand-of .ensures
-    ∙ (ap (λ (k : Costs). demandFigure k (length rs / 28) run (s .t)) (c .before .before .before .before .read-costs .ensures)
-    ∙ (ap (λ (n : ℕ). demandFigure (costsSpelt cs) n run (s .t)) (sym (pieces-length rs)) ∙ holds-demand (piecesOf rs) (costsSpelt cs) run (c .before .before .before .before .before .read-records .ensures) (s .t))) in
-    let is = ap figureNumber same ∙ sym (demand-formed rs cs (s .t) (c .before .before .before .before .before .before .before .before .if1 .left) (c .before .before .before .before .before .before .before .if2 .left)) in
+    let run = recordsOf (read-records .last .0) in
+    let same : demand-of .result ≡ demandFigure (costsSpelt cs) (length (piecesOf rs)) (piecesOf rs) (s .t) =
+    demand-of .ensures
+    ∙ (ap (λ (k : Costs). demandFigure k (length rs / 28) run (s .t)) (read-costs .ensures)
+    ∙ (ap (λ (n : ℕ). demandFigure (costsSpelt cs) n run (s .t)) (sym (pieces-length rs)) ∙ holds-demand (piecesOf rs) (costsSpelt cs) run (read-records .ensures) (s .t))) in
+    let is = ap figureNumber same ∙ sym (demand-formed rs cs (s .t) (if1 .left) (if2 .left)) in
     ap figureNumber (sym (c .enum-told .given .1)) ∙ is
 
 returns-4 : tie.Need-returns-4
 returns-4 c =
-    let s = c .before .before .before .before .before .before .before .before .before .before .before .before .before .before .before .args in
+    let back = c .before .before .before .before .before .before .before .before .before .before .before .before in
+    let s = back .before .before .before .args in
+    let read-records = c .before .before .before .before .before .before .before .before .before .read-records in
+    let demand-of = c .before .before .before .before .before .before .demand-of in
+    let read-costs = c .before .before .before .before .before .before .before .before .read-costs in
+    let if1 = back .if1 in
+    let if2 = c .before .before .before .before .before .before .before .before .before .before .before .if2 in
+    let figure = c .before .before .before .before .figure in
+    let found = c .before .found in
     let rs = s .records .now in
     let cs = s .costs .now in
-    let run = recordsOf (c .before .before .before .before .before .before .before .before .before .read-records .last .0) in
-    let same : c .before .before .before .before .before .before .demand-of .result ≡ demandFigure (costsSpelt cs) (length (piecesOf rs)) (piecesOf rs) (s .t) =
-    c .before .before .before .before .before .before .demand-of .ensures
-    ∙ (ap (λ (k : Costs). demandFigure k (length rs / 28) run (s .t)) (c .before .before .before .before .before .before .before .before .read-costs .ensures)
-    ∙ (ap (λ (n : ℕ). demandFigure (costsSpelt cs) n run (s .t)) (sym (pieces-length rs)) ∙ holds-demand (piecesOf rs) (costsSpelt cs) run (c .before .before .before .before .before .before .before .before .before .read-records .ensures) (s .t))) in
-    let is = ap figureNumber same ∙ sym (demand-formed rs cs (s .t) (c .before .before .before .before .before .before .before .before .before .before .before .before .if1 .left) (c .before .before .before .before .before .before .before .before .before .before .before .if2 .left)) in
-    ap figureNumber (sym (c .before .before .before .before .figure .given .1 ∙ ap (λ (f : Found). Of f) (c .before .found .given .1))) ∙ is
+    let run = recordsOf (read-records .last .0) in
+    let same : demand-of .result ≡ demandFigure (costsSpelt cs) (length (piecesOf rs)) (piecesOf rs) (s .t) =
+    demand-of .ensures
+    ∙ (ap (λ (k : Costs). demandFigure k (length rs / 28) run (s .t)) (read-costs .ensures)
+    ∙ (ap (λ (n : ℕ). demandFigure (costsSpelt cs) n run (s .t)) (sym (pieces-length rs)) ∙ holds-demand (piecesOf rs) (costsSpelt cs) run (read-records .ensures) (s .t))) in
+    let is = ap figureNumber same ∙ sym (demand-formed rs cs (s .t) (if1 .left) (if2 .left)) in
+    ap figureNumber (sym (figure .given .1 ∙ ap (λ (f : Found). Of f) (found .given .1))) ∙ is
 
 returns-5 : tie.Need-returns-5
 returns-5 c =
     let s = c .before .before .before .before .before .before .before .before .before .before .before .before .before .before .args in
+    let read-records = c .before .before .before .before .before .before .before .before .read-records in
+    let demand-of = c .before .before .before .before .before .demand-of in
+    let read-costs = c .before .before .before .before .before .before .before .read-costs in
+    let if1 = c .before .before .before .before .before .before .before .before .before .before .before .if1 in
+    let if2 = c .before .before .before .before .before .before .before .before .before .before .if2 in
+    let figure = c .before .before .before .figure in
     let rs = s .records .now in
     let cs = s .costs .now in
-    let run = recordsOf (c .before .before .before .before .before .before .before .before .read-records .last .0) in
-    let same : c .before .before .before .before .before .demand-of .result ≡ demandFigure (costsSpelt cs) (length (piecesOf rs)) (piecesOf rs) (s .t) =
-    c .before .before .before .before .before .demand-of .ensures
-    ∙ (ap (λ (k : Costs). demandFigure k (length rs / 28) run (s .t)) (c .before .before .before .before .before .before .before .read-costs .ensures)
-    ∙ (ap (λ (n : ℕ). demandFigure (costsSpelt cs) n run (s .t)) (sym (pieces-length rs)) ∙ holds-demand (piecesOf rs) (costsSpelt cs) run (c .before .before .before .before .before .before .before .before .read-records .ensures) (s .t))) in
-    let is = ap figureNumber same ∙ sym (demand-formed rs cs (s .t) (c .before .before .before .before .before .before .before .before .before .before .before .if1 .left) (c .before .before .before .before .before .before .before .before .before .before .if2 .left)) in
-    ap figureNumber (sym (c .before .before .before .figure .given .1 ∙ ap (λ (f : Found). Of f) (c .enum-told2 .given .1))) ∙ is
+    let run = recordsOf (read-records .last .0) in
+    let same : demand-of .result ≡ demandFigure (costsSpelt cs) (length (piecesOf rs)) (piecesOf rs) (s .t) =
+    demand-of .ensures
+    ∙ (ap (λ (k : Costs). demandFigure k (length rs / 28) run (s .t)) (read-costs .ensures)
+    ∙ (ap (λ (n : ℕ). demandFigure (costsSpelt cs) n run (s .t)) (sym (pieces-length rs)) ∙ holds-demand (piecesOf rs) (costsSpelt cs) run (read-records .ensures) (s .t))) in
+    let is = ap figureNumber same ∙ sym (demand-formed rs cs (s .t) (if1 .left) (if2 .left)) in
+    ap figureNumber (sym (figure .given .1 ∙ ap (λ (f : Found). Of f) (c .enum-told2 .given .1))) ∙ is
 
 pub demand-at-spec : {M : Type 1} → statement M
 demand-at-spec =

@@ -29,14 +29,16 @@ read-sheet-requires c κs = search needs
 add-numbered : tie.Need-add-numbered
 add-numbered c =
     let r = c .before .before .before .read-sheet in
-    let small = subst (λ (t : Read). (t .number ≤ 9) × (t .carries ≤ 16385)) (sym (r .ensures)) (read-small (c .before .before .before .before .before .before .args .sheet .now)) in
+    let s = c .before .before .before .before .before .before .args in
+    let small = subst (λ (t : Read). (t .number ≤ 9) × (t .carries ≤ 16385)) (sym (r .ensures)) (read-small (s .sheet .now)) in
     let n : r .result .number ≤ 9 = small .0 in
     search needs
 
 numbered-requires : tie.Need-numbered-requires
 numbered-requires c κs =
     let r = c .before .before .before .read-sheet in
-    let small = subst (λ (t : Read). (t .number ≤ 9) × (t .carries ≤ 16385)) (sym (r .ensures)) (read-small (c .before .before .before .before .before .before .args .sheet .now)) in
+    let s = c .before .before .before .before .before .before .args in
+    let small = subst (λ (t : Read). (t .number ≤ 9) × (t .carries ≤ 16385)) (sym (r .ensures)) (read-small (s .sheet .now)) in
     (omega (arith, small .0), omega (arith, small .1))
 
 returns : tie.Need-returns
@@ -65,12 +67,13 @@ returns-2 : tie.Need-returns-2
 unfolding whyCoreNumber whyCoreLeft
 returns-2 c =
     let s = c .before .before .before .before .before .before .before .before .before .before .before .before .before .args in
-    let old = s .out .now in
     let r = c .before .before .before .before .before .before .before .before .before .before .read-sheet in
     let q = c .before .before .before .before .before .before .plan-reached in
     let w = c .before .before .before .why-plan in
+    let if1 = c .before .before .before .before .before .before .before .before .if1 in
+    let old = s .out .now in
     let same : whyOf (q .result .plan) (q .result .carries) (s .core) ≡ whyCore (s .sheet .now) (s .core) =
-    ap (λ (x : Reply). whyReached x (s .core)) (q .ensures) ∙ sym (read-core (s .sheet .now) (r .result) (r .ensures) (s .core) (c .before .before .before .before .before .before .before .before .if1 .left)) in (
+    ap (λ (x : Reply). whyReached x (s .core)) (q .ensures) ∙ sym (read-core (s .sheet .now) (r .result) (r .ensures) (s .core) (if1 .left)) in (
       c .note-number .ensures
           ∙ (note-told (whyOf (q .result .plan) (q .result .carries) (s .core)) (core-numbered (q .result .plan) (q .result .carries) (s .core)) (length old) (w .result) (w .ensures .0)
           ∙ ap (λ (p : Paper). number (toldPaper p (length old))) same),

@@ -67,17 +67,21 @@ returns-3 : tie.Need-returns-3
 unfolding whyRecordsNumber whyRecordsLeft
 returns-3 c =
     let s = c .before .before .before .before .before .before .before .before .before .before .before .before .before .before .args in
+    let w = c .before .before .before .why-run in
+    let read-records = c .before .before .before .before .before .before .before .read-records in
+    let read-costs = c .before .before .before .before .before .before .read-costs in
+    let if1 = c .before .before .before .before .before .before .before .before .before .before .if1 in
+    let if2 = c .before .before .before .before .before .before .before .before .before .if2 in
     let rs = s .records .now in
     let cs = s .costs .now in
     let old = s .out .now in
-    let w = c .before .before .before .why-run in
-    let run = recordsOf (c .before .before .before .before .before .before .before .read-records .last .0) in
-    let same : whyRun (c .before .before .before .before .before .before .read-costs .result) (length rs / 28) run ≡ whyRecords rs cs =
-    ap (λ (k : Costs). whyRun k (length rs / 28) run) (c .before .before .before .before .before .before .read-costs .ensures)
+    let run = recordsOf (read-records .last .0) in
+    let same : whyRun (read-costs .result) (length rs / 28) run ≡ whyRecords rs cs =
+    ap (λ (k : Costs). whyRun k (length rs / 28) run) (read-costs .ensures)
     ∙ (ap (λ (n : ℕ). whyRun (costsSpelt cs) n run) (sym (pieces-length rs))
-    ∙ (holds-why (piecesOf rs) (costsSpelt cs) run (c .before .before .before .before .before .before .before .read-records .ensures) ∙ sym (formed-records rs cs (c .before .before .before .before .before .before .before .before .before .before .if1 .left) (c .before .before .before .before .before .before .before .before .before .if2 .left)))) in (
+    ∙ (holds-why (piecesOf rs) (costsSpelt cs) run (read-records .ensures) ∙ sym (formed-records rs cs (if1 .left) (if2 .left)))) in (
       c .note-number .ensures
-          ∙ (note-told (whyRun (c .before .before .before .before .before .before .read-costs .result) (length rs / 28) run) (run-numbered (c .before .before .before .before .before .before .read-costs .result) (length rs / 28) run) (length old) (w .result) (w .ensures .0)
+          ∙ (note-told (whyRun (read-costs .result) (length rs / 28) run) (run-numbered (read-costs .result) (length rs / 28) run) (length old) (w .result) (w .ensures .0)
           ∙ ap (λ (p : Paper). number (toldPaper p (length old))) same),
       w .ensures .1 ∙ ap (λ (p : Paper). left p old) same,
     )

@@ -40,30 +40,39 @@ lay-out-requires c κs =
 stall-of-requires : tie.Need-stall-of-requires
 stall-of-requires c κs =
     let s = c .before .before .before .before .before .before .args in
-    check-taken (s .costs) (s .count) (recordsOf (s .records .now)) (sym (c .before .before .before .before .before .check-records .ensures) ∙ c .before .before .before .enum-told .given .1) .costs
+    let check-records = c .before .before .before .before .before .check-records in
+    let enum-told = c .before .before .before .enum-told in
+    check-taken (s .costs) (s .count) (recordsOf (s .records .now)) (sym (check-records .ensures) ∙ enum-told .given .1) .costs
 
 show-core-requires : tie.Need-show-core-requires
 show-core-requires c κs =
     let s = c .before .before .before .before .before .before .before .args in
-    let ps = recordsOf (s .records .now) in
-    let ok = check-taken (s .costs) (s .count) ps (sym (c .before .before .before .before .before .before .check-records .ensures) ∙ c .before .before .before .before .enum-told .given .1) in
     let lay-out = c .before .before .lay-out in
+    let check-records = c .before .before .before .before .before .before .check-records in
+    let enum-told = c .before .before .before .before .enum-told in
+    let ps = recordsOf (s .records .now) in
+    let ok = check-taken (s .costs) (s .count) ps (sym (check-records .ensures) ∙ enum-told .given .1) in
     ((ok .few, laid-ranged (s .costs) (s .count) ps ok (chargedIn (lay-out .last .0) (s .count)) (lay-out .ensures .0)), c .stall-of .ensures .1)
 
 returns : tie.Need-returns
 returns c =
     let s = c .before .before .before .before .args in
-    sym (showing-bad (s .costs) (s .count) (recordsOf (s .records .now)) (c .before .why .given .0 .0) (sym (c .before .before .before .check-records .ensures) ∙ c .before .why .given .1))
+    let why = c .before .why in
+    let check-records = c .before .before .before .check-records in
+    sym (showing-bad (s .costs) (s .count) (recordsOf (s .records .now)) (why .given .0 .0) (sym (check-records .ensures) ∙ why .given .1))
 
 returns-2 : tie.Need-returns-2
 unfolding shownOf
 returns-2 c =
     let s = c .before .before .before .before .before .before .before .before .args in
     let lay-out = c .before .before .before .lay-out in
+    let stall-of = c .before .stall-of in
+    let check-records = c .before .before .before .before .before .before .before .check-records in
+    let enum-told = c .before .before .before .before .before .enum-told in
     let laid = chargedIn (lay-out .last .0) (s .count) in
-    ap (λ (v : Shown). Shows v) (c .show-core .ensures ∙ (ap (λ (b : ℕ). coreShown b laid) (c .before .stall-of .ensures .0)
+    ap (λ (v : Shown). Shows v) (c .show-core .ensures ∙ (ap (λ (b : ℕ). coreShown b laid) (stall-of .ensures .0)
     ∙ ap (λ (qs : List Charged). coreShown (stall (s .costs)) qs) (lay-out .ensures .0)))
-    ∙ sym (showing-fine (s .costs) (s .count) (recordsOf (s .records .now)) (sym (c .before .before .before .before .before .before .before .check-records .ensures) ∙ c .before .before .before .before .before .enum-told .given .1))
+    ∙ sym (showing-fine (s .costs) (s .count) (recordsOf (s .records .now)) (sym (check-records .ensures) ∙ enum-told .given .1))
 
 pub show-records-spec : {M : Type 1} → statement M
 show-records-spec =

@@ -85,7 +85,9 @@ stored-piece-requires c κs = search needs
 lay-seat-requires : tie.Need-lay-seat-requires Inv-loop μ-loop
 lay-seat-requires c κs =
     let l = c .before .before .before .before .before .before .before .before .loop in
-    (omega (arith, c .before .before .before .before .before .before .before .before .before .seats .ensures .1, c .before .before .before .before .before .before .before .loop-test .taken), l .inv .2, l .inv .3)
+    let seats = c .before .before .before .before .before .before .before .before .before .seats in
+    let loop-test = c .before .before .before .before .before .before .before .loop-test in
+    (omega (arith, seats .ensures .1, loop-test .taken), l .inv .2, l .inv .3)
 
 add-i : tie.Need-add-i Inv-loop μ-loop
 add-i c = search needs
@@ -96,15 +98,19 @@ loop-less c = omega (arith, c .before .before .before .before .before .before .b
 loop-again : tie.Need-loop-again Inv-loop μ-loop
 loop-again c =
     let b = c .before .before .before .before .before .before .before .before .before .before .before .before .before in
-    let s = b .args in
     let l = c .before .before .before .before .before .before .before .before .before .loop in
     let n = c .before .before .before .before .before .before .before .before .before .before .seats in
     let within = c .before .before .before .before .before .before .within in
+    let numbered = c .before .before .before .before .numbered in
+    let loop-test = c .before .before .before .before .before .before .before .before .loop-test in
+    let if1 = c .before .before .before .before .before .before .before .before .before .before .before .before .if1 in
+    let stored-piece = c .before .stored-piece in
+    let s = b .args in
     let laid = c .lay-seat .ensures in
-    let stored = c .before .before .before .before .numbered .ensures ∙ at-within (λ (x : Stored). x) (s .t3 .pieces) 79 _ _ _ blank (pieces-long b) (within .ensures .1) in (
-      omega (arith, c .before .before .before .before .before .before .before .before .loop-test .taken),
-      seats-more (s .t3) (s .core) (rows-long b) (omega (arith, c .before .before .before .before .before .before .before .before .before .before .before .before .if1 .left)) (l .places) (l .records) (l .i) _ _ _ _
-          (omega (arith, n .ensures .1, c .before .before .before .before .before .before .before .before .loop-test .taken)) (l .inv .1) stored (c .before .stored-piece .ensures) laid,
+    let stored = numbered .ensures ∙ at-within (λ (x : Stored). x) (s .t3 .pieces) 79 _ _ _ blank (pieces-long b) (within .ensures .1) in (
+      omega (arith, loop-test .taken),
+      seats-more (s .t3) (s .core) (rows-long b) (omega (arith, if1 .left)) (l .places) (l .records) (l .i) _ _ _ _
+          (omega (arith, n .ensures .1, loop-test .taken)) (l .inv .1) stored (stored-piece .ensures) laid,
       laid .records-size,
       laid .places-size,
     )

@@ -38,7 +38,8 @@ same-length c = search needs
 returns : tie.Need-returns
 unfolding whyFoot
 returns c =
-    let a = c .before .before .before .before .before .before .before .before .before .before .before .before .before .before .before .put-bytes in
+    let back = c .before .before .before .before .before .before .before .before .before .before .before .before in
+    let a = back .before .before .before .put-bytes in
     let b = c .before .before .before .before .before .before .before .before .before .before .before .put-number in
     let d = c .before .before .before .before .before .before .put-bytes2 in
     let e = c .before .before .put-signed in (

@@ -46,13 +46,15 @@ same-length c = search needs
 returns-2 : tie.Need-returns-2
 unfolding noRoomLine
 returns-2 c =
-    let s = c .before .before .before .before .before .before .before .before .before .before .before .before .before .before .before .before .before .before .before .before .before .args in
-    let a = c .before .before .before .before .before .before .before .before .before .before .before .before .before .before .put-bytes in
+    let back = c .before .before .before .before .before .before .before .before .before .before .before .before in
+    let s = back .before .before .before .before .before .before .before .before .before .args in
+    let a = back .before .before .put-bytes in
     let b = c .before .before .before .before .before .before .before .before .before .before .put-number in
     let n = c .before .before .before .before .before .before .put-name in
     let d = c .before .before .put-number2 in
+    let if1 = back .before .before .before .before .before .before .if1 in
     let w = wrote-both (a .ensures) (wrote-both (b .ensures .0) (wrote-both (n .ensures .0) (d .ensures .0))) in (
-      subst (λ (t : List ℕ). Wrote (s .buf .now) 0 t (d .result) (d .last .0)) (sym (front-some (s .stuck .place) (spelling (s .stuck .name)) (s .stuck .cores) (c .before .before .before .before .before .before .before .before .before .before .before .before .before .before .before .before .before .before .if1 .left))) w,
+      subst (λ (t : List ℕ). Wrote (s .buf .now) 0 t (d .result) (d .last .0)) (sym (front-some (s .stuck .place) (spelling (s .stuck .name)) (s .stuck .cores) (if1 .left))) w,
       omega (arith, a .ensures .place, b .ensures .1, n .ensures .1, d .ensures .1),
     )
 

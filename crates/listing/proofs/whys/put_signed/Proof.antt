@@ -39,8 +39,11 @@ returns-2 : tie.Need-returns-2
 unfolding signed
 returns-2 c =
     let s = c .before .before .before .before .before .before .before .before .before .before .args in
-    rw (lt-leb (s .b) (s .a) (omega (arith, c .before .before .before .before .before .before .before .before .if1 .left)))
-    (wrote-both (c .before .before .before .before .before .before .put-byte .ensures) (c .before .before .put-number2 .ensures .0), omega (arith, c .before .before .before .before .before .before .put-byte .ensures .place, c .before .before .put-number2 .ensures .1))
+    let if1 = c .before .before .before .before .before .before .before .before .if1 in
+    let put-byte = c .before .before .before .before .before .before .put-byte in
+    let put-number2 = c .before .before .put-number2 in
+    rw (lt-leb (s .b) (s .a) (omega (arith, if1 .left)))
+    (wrote-both (put-byte .ensures) (put-number2 .ensures .0), omega (arith, put-byte .ensures .place, put-number2 .ensures .1))
 
 pub put-signed-spec : {M : Type 1} → statement M
 put-signed-spec =

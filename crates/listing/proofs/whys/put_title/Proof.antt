@@ -34,7 +34,10 @@ same-length-2 c = search needs
 
 returns-2 : tie.Need-returns-2
 returns-2 c =
-    rw (c .before .before .before .before .before .if1 .left, sym (c .before .before .before .wide .ensures)) (c .before .before .put-number .ensures .0, omega (arith, c .before .before .put-number .ensures .1))
+    let if1 = c .before .before .before .before .before .if1 in
+    let wide = c .before .before .before .wide in
+    let put-number = c .before .before .put-number in
+    rw (if1 .left, sym (wide .ensures)) (put-number .ensures .0, omega (arith, put-number .ensures .1))
 
 pub put-title-spec : {M : Type 1} → statement M
 put-title-spec =

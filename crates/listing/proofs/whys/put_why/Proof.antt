@@ -56,15 +56,19 @@ returns c =
     let s = c .before .before .before .before .before .before .before .before .before .before .args in
     let front = c .before .before .before .before .before .before .before .put-no-room in
     let head = c .before .before .before .put-head in
+    let pre = c .before .before .before .before .before .before .before .before .before .before .pre in
     let none : s .n ≡ 0 = c .if1 .taken in (
       subst (λ (t : List ℕ). Wrote (s .buf .now) 0 t (head .result) (head .last .0))
           (ap (λ (t : List ℕ). frontOf (s .stuck .place) (spelling (s .stuck .name)) (s .stuck .cores) ++ t)
-          (why-none (s .costs) (s .by-name) (s .t5 .list) (s .places .now) (s .records .now) (s .n) (s .shown) none (c .before .before .before .before .before .before .before .before .before .before .pre .1))) (wrote-both (front .ensures .0) (head .ensures .0)),
+          (why-none (s .costs) (s .by-name) (s .t5 .list) (s .places .now) (s .records .now) (s .n) (s .shown) none (pre .1))) (wrote-both (front .ensures .0) (head .ensures .0)),
       omega (arith, front .ensures .1, head .ensures .1),
     )
 
 loop-holds : tie.Need-loop-holds Inv-loop μ-loop
-loop-holds c = (search needs, omega (arith, c .before .before .before .before .before .before .before .put-no-room .ensures .1, c .before .before .before .put-head .ensures .1), wrote-none _ _)
+loop-holds c =
+    let put-no-room = c .before .before .before .before .before .before .before .put-no-room in
+    let put-head = c .before .before .before .put-head in
+    (search needs, omega (arith, put-no-room .ensures .1, put-head .ensures .1), wrote-none _ _)
 
 mul-place : tie.Need-mul-place Inv-loop μ-loop
 mul-place c = search needs
@@ -94,57 +98,84 @@ ask-of-requires : tie.Need-ask-of-requires Inv-loop μ-loop
 ask-of-requires c κs = search needs
 
 put-asking-requires : tie.Need-put-asking-requires Inv-loop μ-loop
-put-asking-requires c κs = (omega (arith, c .before .before .before .before .before .before .before .before .before .loop .inv .1, c .before .before .before .before .before .before .before .before .before .before .before .before .before .before .before .before .before .before .before .before .pre .0 .few), omega (arith, c .before .before .before .before .before .before .before .before .before .before .before .before .before .before .before .before .before .before .before .before .pre .0 .few))
+put-asking-requires c κs =
+    let back = c .before .before .before .before .before .before .before .before .before .before .before .before in
+    let now = c .before .before .before .before .before .before .before .before .before .loop in
+    let pre = back .before .before .before .before .before .before .before .before .pre in
+    (omega (arith, now .inv .1, pre .0 .few), omega (arith, pre .0 .few))
 
 add-i : tie.Need-add-i Inv-loop μ-loop
-add-i c = record { fits = omega (arith, c .before .before .before .before .before .before .before .before .before .before .before .loop-test .taken, c .before .before .before .before .before .before .before .before .before .before .before .before .before .before .before .before .before .before .before .before .before .before .before .pre .0 .few) }
+add-i c =
+    let back = c .before .before .before .before .before .before .before .before .before .before .before .before in
+    let loop-test = c .before .before .before .before .before .before .before .before .before .before .before .loop-test in
+    let pre = back .before .before .before .before .before .before .before .before .before .before .before .pre in
+    record { fits = omega (arith, loop-test .taken, pre .0 .few) }
 
 loop-less : tie.Need-loop-less Inv-loop μ-loop
 loop-less c = search needs
 
 loop-again : tie.Need-loop-again Inv-loop μ-loop
 loop-again c =
-    let s = c .before .before .before .before .before .before .before .before .before .before .before .before .before .before .before .before .before .before .before .before .before .before .before .args in
-    let pre = c .before .before .before .before .before .before .before .before .before .before .before .before .before .before .before .before .before .before .before .before .before .before .before .pre in
-    let taken = pre .0 in
-    let now = c .before .before .before .before .before .before .before .before .before .before .before .before .loop in
-    let head = c .before .before .before .before .before .before .before .before .before .before .before .before .before .before .before .before .put-head in
+    let back = c .before .before .before .before .before .before .before .before .before .before .before .before in
+    let s = back .before .before .before .before .before .before .before .before .before .before .before .args in
+    let pre = back .before .before .before .before .before .before .before .before .before .before .before .pre in
+    let now = back .loop in
+    let head = back .before .before .before .before .put-head in
     let f = c .before .before .put-asking in
-    let low : now .i < s .n = c .before .before .before .before .before .before .before .before .before .before .before .loop-test .taken in
-    let name = c .before .before .before .before .before .before .before .named .ensures ∙ at-within (λ (t : Task). spelling (t .name)) (s .t5 .list) 64 _ _ _ past (tasks-long (c .before .before .before .before .before .before .before .before .before .before .before .before .before .before .before .before .before .before .before .before .before .before .before)) (c .before .before .before .before .before .before .before .before .before .within .ensures .1) in
+    let loop-test = c .before .before .before .before .before .before .before .before .before .before .before .loop-test in
+    let named = c .before .before .before .before .before .before .before .named in
+    let start = back .before .before .before .before .before .before .before .before .before .before .before in
+    let within = c .before .before .before .before .before .before .before .before .before .within in
+    let record-at = c .before .before .before .before .before .before .record-at in
+    let charged-piece = c .before .before .before .before .before .charged-piece in
+    let ask-of = c .before .before .before .before .ask-of in
+    let taken = pre .0 in
+    let low : now .i < s .n = loop-test .taken in
+    let name = named .ensures ∙ at-within (λ (t : Task). spelling (t .name)) (s .t5 .list) 64 _ _ _ past (tasks-long start) (within .ensures .1) in
     let title = title-is (s .by-name) (s .t5 .list) (s .places .now) (now .i) _ (name) in
-    let line = line-is (s .costs) (s .n) (s .records .now) taken (s .shown) (pre .1) (now .i) low (c .before .before .before .before .before .before .record-at .result) (c .before .before .before .before .before .before .record-at .ensures) (c .before .before .before .before .before .charged-piece .result) (c .before .before .before .before .before .charged-piece .ensures) (c .before .before .before .before .ask-of .result) (c .before .before .before .before .ask-of .ensures)
+    let line = line-is (s .costs) (s .n) (s .records .now) taken (s .shown) (pre .1) (now .i) low (record-at .result) (record-at .ensures)
+    (charged-piece .result) (charged-piece .ensures) (ask-of .result) (ask-of .ensures)
     (s .by-name) (s .t5 .list) (s .places .now) _ title in (
       omega arith,
       omega (arith, f .ensures .1, now .inv .1),
       subst (λ (t : List ℕ). Wrote (head .last .0) (head .result) t (f .result) (f .last .0))
-          (sym (asks-more (s .costs) (s .shown) (titledIn (s .by-name) (s .t5 .list) (s .places .now) (s .records .now) (now .i)) (titledAt (s .by-name) (s .t5 .list) (s .places .now) (s .records .now) (now .i))) ∙ more-titled (s .costs) (s .shown) (s .by-name) (s .t5 .list) (s .places .now) (s .records .now) (now .i))
+          (sym (asks-more (s .costs) (s .shown) (titledIn (s .by-name) (s .t5 .list) (s .places .now) (s .records .now) (now .i))
+          (titledAt (s .by-name) (s .t5 .list) (s .places .now) (s .records .now) (now .i)))
+          ∙ more-titled (s .costs) (s .shown) (s .by-name) (s .t5 .list) (s .places .now) (s .records .now) (now .i))
           (wrote-both (now .inv .2) (subst (λ (t : List ℕ). Wrote (now .buf) (now .k) t (f .result) (f .last .0)) line (f .ensures .0))),
     )
 
 put-foot-requires : tie.Need-put-foot-requires Inv-loop μ-loop
-put-foot-requires c κs = omega (arith, c .before .before .loop .inv .1, c .before .before .before .before .before .before .before .before .before .before .before .before .before .pre .0 .few, c .before .before .loop .inv .0)
+put-foot-requires c κs =
+    let now = c .before .before .loop in
+    let pre = c .before .before .before .before .before .before .before .before .before .before .before .before .before .pre in
+    omega (arith, now .inv .1, pre .0 .few, now .inv .0)
 
 same-length-2 : tie.Need-same-length-2 Inv-loop μ-loop
 same-length-2 c =
     let front = c .before .before .before .before .before .before .before .before .before .before .before .before .before .put-no-room in
     let head = c .before .before .before .before .before .before .before .before .before .put-head in
-    wrote-length _ _ _ _ _ (c .before .before .put-foot .ensures .0) ∙ (wrote-length _ _ _ _ _ (c .before .before .before .before .before .loop .inv .2) ∙ (wrote-length _ _ _ _ _ (head .ensures .0) ∙ wrote-length _ _ _ _ _ (front .ensures .0)))
+    let put-foot = c .before .before .put-foot in
+    let now = c .before .before .before .before .before .loop in
+    wrote-length _ _ _ _ _ (put-foot .ensures .0) ∙ (wrote-length _ _ _ _ _ (now .inv .2) ∙ (wrote-length _ _ _ _ _ (head .ensures .0) ∙ wrote-length _ _ _ _ _ (front .ensures .0)))
 
 returns-2 : tie.Need-returns-2 Inv-loop μ-loop
 returns-2 c =
-    let s = c .before .before .before .before .before .before .before .before .before .before .before .before .before .before .before .before .args in
-    let pre = c .before .before .before .before .before .before .before .before .before .before .before .before .before .before .before .before .pre in
-    let taken = pre .0 in
+    let back = c .before .before .before .before .before .before .before .before .before .before .before .before in
+    let s = back .before .before .before .before .args in
+    let pre = back .before .before .before .before .pre in
     let now = c .before .before .before .before .before .loop in
     let head = c .before .before .before .before .before .before .before .before .before .put-head in
-    let front = c .before .before .before .before .before .before .before .before .before .before .before .before .before .put-no-room in
+    let front = back .before .put-no-room in
     let foot = c .before .before .put-foot in
+    let if1 = c .before .before .before .before .before .before .if1 in
+    let taken = pre .0 in
     let all : now .i ≡ s .n = omega arith in
-    let lines : Wrote (head .last .0) (head .result) (askLines (s .costs) (s .shown) (titledIn (s .by-name) (s .t5 .list) (s .places .now) (s .records .now) (s .n))) (now .k) (now .buf) = rw all at (now .inv .2) in (
+    let titles = titledIn (s .by-name) (s .t5 .list) (s .places .now) (s .records .now) (s .n) in
+    let lines : Wrote (head .last .0) (head .result) (askLines (s .costs) (s .shown) titles) (now .k) (now .buf) = rw all at (now .inv .2) in (
       subst (λ (t : List ℕ). Wrote (s .buf .now) 0 t (foot .result) (foot .last .0))
           (ap (λ (t : List ℕ). frontOf (s .stuck .place) (spelling (s .stuck .name)) (s .stuck .cores) ++ t)
-          (why-some (s .costs) (s .by-name) (s .t5 .list) (s .places .now) (s .records .now) (s .n) (s .shown) (omega (arith, c .before .before .before .before .before .before .if1 .left)) (pre .0 .few) (pre .1)))
+          (why-some (s .costs) (s .by-name) (s .t5 .list) (s .places .now) (s .records .now) (s .n) (s .shown) (omega (arith, if1 .left)) (pre .0 .few) (pre .1)))
           (wrote-both (front .ensures .0) (wrote-both (head .ensures .0) (wrote-both lines (foot .ensures .0)))),
       omega (arith, foot .ensures .1, now .inv .1, now .inv .0, pre .0 .few),
     )

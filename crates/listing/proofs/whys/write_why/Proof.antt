@@ -1,18 +1,18 @@
--- `whys::write_why` meets its contract: refused as the records are; else the writer counts over none of the buffer, and writes where the buffer is long enough.
-use mathlib.Core.Path.{_≡_, sym, ap, subst, _∙_}
+-- `whys::write_why` meets its contract: refused as the records are; else it is written at once where there is room for any listing of n records, and else the writer
+-- counts over none of the buffer first.
+use mathlib.Core.Path.{_≡_, sym, ap, _∙_}
 use mathlib.Core.List.{List, _++_}
 use Prim.Native.Nat.{ℕ, _≤_, _<_}
-use native.Mathlib.Nat.{zero-add}
 use native.Mathlib.Omega.{arith}
 use lib.ListN.{length}
 use Rattle.demand.specs.Records.{recordsOf}
 use Rattle.demand.proofs.RunLaws.{check-taken}
+use Rattle.listing.specs.Text.{Wrote}
 use Rattle.listing.specs.Listing.{spelling}
-use Rattle.listing.specs.Papers.{Paper}
 use Rattle.listing.specs.Why.{whyText, whyPaper}
 use Rattle.listing.specs.ways.SeatArrays.{titledIn, frontOf}
-use Rattle.listing.proofs.TextLaws.{first-pass, second-pass, over-short}
-use Rattle.listing.proofs.WhyPaperLaws.{showing-shows, showing-unshown, why-written, why-barred, note-long, note-short, left-written}
+use Rattle.listing.proofs.TextLaws.{first-pass}
+use Rattle.listing.proofs.WhyPaperLaws.{showing-shows, showing-unshown, why-written, why-barred, wrote-answers, count-answers}
 use borrow.Author.Needs.{needs}
 use Rattle.listing.proofs.whys.write_why.Statement.{statement}
 use Rattle.listing.proofs.whys.write_why.Tie as tie
@@ -22,91 +22,153 @@ use Rattle.listing.proofs.whys.put_why.Reads as put-why-reads
 use Rattle.listing.proofs.whys.refusal_note.Reads as refusal-note-reads
 use Rattle.verdicts.proofs.show_records.Reads as show-records-reads
 
+-- src/whys.rt:220:11
 show-records-requires : tie.Need-show-records-requires
 show-records-requires c κs = search needs
 
+-- src/whys.rt:221:26
 enum-known-why : tie.Need-enum-known-why
 enum-known-why c = search needs
 
+-- src/whys.rt:221:34
 refusal-note-requires : tie.Need-refusal-note-requires
 refusal-note-requires c κs = search needs
 
+-- src/whys.rt:222:24
 enum-known-shown : tie.Need-enum-known-shown
 enum-known-shown c = search needs
 
-slice-relend-prefix-put-why : tie.Need-slice-relend-prefix-put-why
-slice-relend-prefix-put-why c = search needs
+-- src/whys.rt:224:22
+mul-if1 : tie.Need-mul-if1
+mul-if1 c =
+    let s = c .before .before .before .before .before .args in
+    let shown = c .before .shown in
+    let so = showing-shows (s .costs) (s .n) (recordsOf (s .records .now)) (shown .given .0 .0) (sym (c .before .before .before .show-records .ensures) ∙ shown .given .1) in
+    let few = check-taken (s .costs) (s .n) (recordsOf (s .records .now)) (so .0) .few in
+    record { fits = omega (arith, few) }
 
-slice-aggregate-put-why : tie.Need-slice-aggregate-put-why
-slice-aggregate-put-why c = search needs
+-- src/whys.rt:224:16
+add-if1 : tie.Need-add-if1
+add-if1 c =
+    let s = c .before .before .before .before .before .args in
+    let shown = c .before .shown in
+    let so = showing-shows (s .costs) (s .n) (recordsOf (s .records .now)) (shown .given .0 .0) (sym (c .before .before .before .show-records .ensures) ∙ shown .given .1) in
+    let few = check-taken (s .costs) (s .n) (recordsOf (s .records .now)) (so .0) .few in
+    record { fits = omega (arith, few) }
 
+-- src/whys.rt:225:21
 put-why-requires : tie.Need-put-why-requires
 put-why-requires c κs =
-    let s = c .before .before .before .before .before .before .args in
-    let ps = recordsOf (s .records .now) in
-    let so = showing-shows (s .costs) (s .n) ps (c .before .before .shown .given .0 .0) (sym (c .before .before .before .before .show-records .ensures) ∙ c .before .before .shown .given .1) in
-    let taken = check-taken (s .costs) (s .n) ps (so .0) in
-    (taken, so .1)
+    let s = c .before .before .before .before .before .before .before .args in
+    let shown = c .before .before .before .shown in
+    let show-records = c .before .before .before .before .before .show-records in
+    let so = showing-shows (s .costs) (s .n) (recordsOf (s .records .now)) (shown .given .0 .0) (sym (show-records .ensures) ∙ shown .given .1) in
+    (check-taken (s .costs) (s .n) (recordsOf (s .records .now)) (so .0), so .1)
 
+-- src/whys.rt:226:17
 same-length : tie.Need-same-length
 same-length c = search needs
 
+-- src/whys.rt:226:17
 returns : tie.Need-returns
 returns c =
     let s = c .before .before .before .before .before .before .before .before .before .before .args in
-    let ps = recordsOf (s .records .now) in
-    let so = showing-shows (s .costs) (s .n) ps (c .before .before .before .before .before .before .shown .given .0 .0) (sym (c .before .before .before .before .before .before .before .before .show-records .ensures) ∙ c .before .before .before .before .before .before .shown .given .1) in
-    let taken = check-taken (s .costs) (s .n) ps (so .0) in
+    let shown = c .before .before .before .before .before .before .shown in
+    let r = c .before .before .put-why in
+    let show-records = c .before .before .before .before .before .before .before .before .show-records in
+    let if1 = c .before .before .before .before .if1 in
+    let so = showing-shows (s .costs) (s .n) (recordsOf (s .records .now)) (shown .given .0 .0) (sym (show-records .ensures) ∙ shown .given .1) in
+    let few = check-taken (s .costs) (s .n) (recordsOf (s .records .now)) (so .0) .few in
     let old = s .buf .now in
     let front = frontOf (s .stuck .place) (spelling (s .stuck .name)) (s .stuck .cores) in
-    let all = titledIn (s .by-name) (s .tasks .list) (s .places .now) (s .records .now) 79 in
-    let text = front ++ whyText (s .costs) (titledIn (s .by-name) (s .tasks .list) (s .places .now) (s .records .now) (s .n)) in
-    let paper = why-written front (s .costs) (s .n) (s .by-name) (s .tasks .list) (s .places .now) (s .records .now) (so .0) in
-    let r = c .before .before .before .put-why in
-    let j : r .result ≡ length text = r .ensures .0 .place ∙ rw zero-add in
-    let e = first-pass text (r .last .0) old (r .result) (r .ensures .0) in
-    let short : length old < length text = omega (arith, c .if1 .taken, ap length e) in
-    ((rw j (note-short (whyPaper front (s .costs) (s .n) all) text (length old) paper short), e ∙ (sym (over-short text old short) ∙ left-written (whyPaper front (s .costs) (s .n) all) text old paper)), (omega arith, omega (arith, r .ensures .1)))
+    let titles = titledIn (s .by-name) (s .tasks .list) (s .places .now) (s .records .now) in
+    let text = front ++ whyText (s .costs) (titles (s .n)) in
+    let paper = whyPaper front (s .costs) (s .n) (titles 79) in
+    let is = why-written front (s .costs) (s .n) (s .by-name) (s .tasks .list) (s .places .now) (s .records .now) (so .0) in
+    (wrote-answers paper text old is (r .last .0) (r .result) (r .ensures .0) (omega (arith, r .ensures .1, if1 .taken)), (omega arith, omega (arith, r .ensures .1, few)))
 
+-- src/whys.rt:232:17
+slice-relend-prefix-put-why : tie.Need-slice-relend-prefix-put-why
+slice-relend-prefix-put-why c = search needs
+
+-- src/whys.rt:232:17
+slice-aggregate-put-why : tie.Need-slice-aggregate-put-why
+slice-aggregate-put-why c = search needs
+
+-- src/whys.rt:231:17
 put-why-requires-2 : tie.Need-put-why-requires-2
 put-why-requires-2 c κs =
-    let s = c .before .before .before .before .before .before .before .before .before .before .before .args in
-    let ps = recordsOf (s .records .now) in
-    let so = showing-shows (s .costs) (s .n) ps (c .before .before .before .before .before .before .before .shown .given .0 .0) (sym (c .before .before .before .before .before .before .before .before .before .show-records .ensures) ∙ c .before .before .before .before .before .before .before .shown .given .1) in
-    let taken = check-taken (s .costs) (s .n) ps (so .0) in
-    (taken, so .1)
+    let s = c .before .before .before .before .before .before .before .args in
+    let shown = c .before .before .before .shown in
+    let show-records = c .before .before .before .before .before .show-records in
+    let so = showing-shows (s .costs) (s .n) (recordsOf (s .records .now)) (shown .given .0 .0) (sym (show-records .ensures) ∙ shown .given .1) in
+    (check-taken (s .costs) (s .n) (recordsOf (s .records .now)) (so .0), so .1)
 
-returns-2 : tie.Need-returns-2
-returns-2 c =
-    let s = c .before .before .before .before .before .before .args in
-    let ps = recordsOf (s .records .now) in
-    let bad = showing-unshown (s .costs) (s .n) ps (c .before .before .why .given .0 .0) (sym (c .before .before .before .before .show-records .ensures) ∙ c .before .before .why .given .1) in
-    let front = frontOf (s .stuck .place) (spelling (s .stuck .name)) (s .stuck .cores) in
-    let barred = why-barred front (s .costs) (s .n) (s .by-name) (s .tasks .list) (s .places .now) (s .records .now) (c .before .before .why .given .0 .0) bad (length (s .buf .now)) (s .buf .now) in
-    ((c .refusal-note .ensures ∙ barred .0, barred .1), rw (c .refusal-note .ensures) (barred .2, barred .3))
-
+-- src/whys.rt:243:17
 same-length-2 : tie.Need-same-length-2
 same-length-2 c = search needs
 
-returns-3 : tie.Need-returns-3
-returns-3 c =
-    let s = c .before .before .before .before .before .before .before .before .before .before .before .before .before .before .args in
-    let ps = recordsOf (s .records .now) in
-    let so = showing-shows (s .costs) (s .n) ps (c .before .before .before .before .before .before .before .before .before .before .shown .given .0 .0) (sym (c .before .before .before .before .before .before .before .before .before .before .before .before .show-records .ensures) ∙ c .before .before .before .before .before .before .before .before .before .before .shown .given .1) in
-    let taken = check-taken (s .costs) (s .n) ps (so .0) in
+-- src/whys.rt:243:17
+returns-2 : tie.Need-returns-2
+returns-2 c =
+    let s = c .before .before .before .before .before .before .before .before .before .before .before .args in
+    let shown = c .before .before .before .before .before .before .before .shown in
+    let r = c .before .before .before .put-why2 in
+    let show-records = c .before .before .before .before .before .before .before .before .before .show-records in
+    let so = showing-shows (s .costs) (s .n) (recordsOf (s .records .now)) (shown .given .0 .0) (sym (show-records .ensures) ∙ shown .given .1) in
+    let few = check-taken (s .costs) (s .n) (recordsOf (s .records .now)) (so .0) .few in
     let old = s .buf .now in
     let front = frontOf (s .stuck .place) (spelling (s .stuck .name)) (s .stuck .cores) in
-    let all = titledIn (s .by-name) (s .tasks .list) (s .places .now) (s .records .now) 79 in
-    let text = front ++ whyText (s .costs) (titledIn (s .by-name) (s .tasks .list) (s .places .now) (s .records .now) (s .n)) in
-    let paper = why-written front (s .costs) (s .n) (s .by-name) (s .tasks .list) (s .places .now) (s .records .now) (so .0) in
-    let r = c .before .before .before .before .before .before .before .put-why in
-    let q = c .before .before .put-why2 in
-    let j : r .result ≡ length text = r .ensures .0 .place ∙ rw zero-add in
-    let k : q .result ≡ length text = q .ensures .0 .place ∙ rw zero-add in
-    let e = first-pass text (r .last .0) old (r .result) (r .ensures .0) in
-    let fits : length text ≤ length old = omega (arith, j, c .before .before .before .before .if1 .left, ap length e) in
-    let long : length text ≤ length (r .last .0 ++ old) = rw e fits in
-    ((rw k (note-long (whyPaper front (s .costs) (s .n) all) text (length old) paper fits), second-pass text (r .last .0) old (q .last .0) (r .result) (q .result) (r .ensures .0) (q .ensures .0) long ∙ left-written (whyPaper front (s .costs) (s .n) all) text old paper), (omega arith, omega (arith, q .ensures .1)))
+    let titles = titledIn (s .by-name) (s .tasks .list) (s .places .now) (s .records .now) in
+    let text = front ++ whyText (s .costs) (titles (s .n)) in
+    let paper = whyPaper front (s .costs) (s .n) (titles 79) in
+    let is = why-written front (s .costs) (s .n) (s .by-name) (s .tasks .list) (s .places .now) (s .records .now) (so .0) in
+    (count-answers paper text old is (r .last .0) (r .result) (r .ensures .0) (c .if2 .taken), (omega arith, omega (arith, r .ensures .1, few)))
+
+-- src/whys.rt:248:17
+put-why-requires-3 : tie.Need-put-why-requires-3
+put-why-requires-3 c κs =
+    let s = c .before .before .before .before .before .before .before .before .before .before .before .before .args in
+    let shown = c .before .before .before .before .before .before .before .before .shown in
+    let show-records = c .before .before .before .before .before .before .before .before .before .before .show-records in
+    let so = showing-shows (s .costs) (s .n) (recordsOf (s .records .now)) (shown .given .0 .0) (sym (show-records .ensures) ∙ shown .given .1) in
+    (check-taken (s .costs) (s .n) (recordsOf (s .records .now)) (so .0), so .1)
+
+-- src/whys.rt:207:1
+returns-3 : tie.Need-returns-3
+returns-3 c =
+    let s = c .before .before .before .before .before .before .args in
+    let why = c .before .before .why in
+    let bad = showing-unshown (s .costs) (s .n) (recordsOf (s .records .now)) (why .given .0 .0) (sym (c .before .before .before .before .show-records .ensures) ∙ why .given .1) in
+    let front = frontOf (s .stuck .place) (spelling (s .stuck .name)) (s .stuck .cores) in
+    let barred = why-barred front (s .costs) (s .n) (s .by-name) (s .tasks .list) (s .places .now) (s .records .now) (why .given .0 .0) bad
+    (length (s .buf .now)) (s .buf .now) in
+    ((c .refusal-note .ensures ∙ barred .0, barred .1), rw (c .refusal-note .ensures) (barred .2, barred .3))
+
+-- src/whys.rt:207:1
+same-length-3 : tie.Need-same-length-3
+same-length-3 c = search needs
+
+-- src/whys.rt:207:1
+returns-4 : tie.Need-returns-4
+returns-4 c =
+    let back = c .before .before .before .before .before .before .before .before .before .before .before .before in
+    let s = back .before .before .before .args in
+    let shown = c .before .before .before .before .before .before .before .before .before .before .before .shown in
+    let so = showing-shows (s .costs) (s .n) (recordsOf (s .records .now)) (shown .given .0 .0) (sym (back .before .show-records .ensures) ∙ shown .given .1) in
+    let few = check-taken (s .costs) (s .n) (recordsOf (s .records .now)) (so .0) .few in
+    let old = s .buf .now in
+    let front = frontOf (s .stuck .place) (spelling (s .stuck .name)) (s .stuck .cores) in
+    let titles = titledIn (s .by-name) (s .tasks .list) (s .places .now) (s .records .now) in
+    let text = front ++ whyText (s .costs) (titles (s .n)) in
+    let paper = whyPaper front (s .costs) (s .n) (titles 79) in
+    let is = why-written front (s .costs) (s .n) (s .by-name) (s .tasks .list) (s .places .now) (s .records .now) (so .0) in
+    let r = c .before .before .before .before .before .before .before .put-why2 in
+    let q = c .before .before .put-why3 in
+    let same : r .last .0 ++ old ≡ old = first-pass text (r .last .0) old (r .result) (r .ensures .0) in
+    let wrote : Wrote old 0 text (q .result) (q .last .0) = rw same at (q .ensures .0) in
+    let fits : q .result ≤ length old = omega (arith, q .ensures .0 .place, r .ensures .0 .place, c .before .before .before .before .if2 .left, ap length same) in
+    (wrote-answers paper text old is (q .last .0) (q .result) wrote fits, (omega arith, omega (arith, q .ensures .1, few)))
 
 pub write-why-spec : {M : Type 1} → statement M
 write-why-spec =
@@ -116,12 +178,17 @@ write-why-spec =
     enum-known-why
     refusal-note-requires
     enum-known-shown
-    slice-relend-prefix-put-why
-    slice-aggregate-put-why
+    mul-if1
+    add-if1
     put-why-requires
     same-length
     returns
+    slice-relend-prefix-put-why
+    slice-aggregate-put-why
     put-why-requires-2
-    returns-2
     same-length-2
-    returns-3)
+    returns-2
+    put-why-requires-3
+    returns-3
+    same-length-3
+    returns-4)

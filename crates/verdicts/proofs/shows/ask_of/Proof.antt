@@ -36,7 +36,9 @@ returns-2 : tie.Need-returns-2
 returns-2 c =
     let s = c .before .before .before .before .args in
     let h = c .before .before .ranged-piece in
-    c .no-ask2 .ensures ∙ ask-unranged (s .verdict) (s .t) (s .q) (h .result) (h .ensures) (not-true (h .result) (c .before .if2 .taken)) (omega (arith, c .before .before .before .if1 .left))
+    let if2 = c .before .if2 in
+    let if1 = c .before .before .before .if1 in
+    c .no-ask2 .ensures ∙ ask-unranged (s .verdict) (s .t) (s .q) (h .result) (h .ensures) (not-true (h .result) (if2 .taken)) (omega (arith, if1 .left))
 
 enum-told : tie.Need-enum-told
 enum-told c = search needs
@@ -72,22 +74,31 @@ returns-3 : tie.Need-returns-3
 returns-3 c =
     let s = c .before .before .before .before .before .before .args in
     let h = c .before .before .before .before .ranged-piece in
-    let ok : Ranged (s .q) = subst (λ (o : Bool). Tells (Ranged (s .q)) o) (not-false (h .result) (c .before .before .before .if2 .left)) (h .ensures) in
-    c .due-ask .ensures ∙ (ap (λ (v : Verdict). ask v (s .t) (s .q)) (sym (c .before .enum-told .given .1)) ∙ sym (ask-held (s .verdict) (s .t) (s .q) ok (omega (arith, c .before .before .before .before .before .if1 .left))))
+    let if2 = c .before .before .before .if2 in
+    let enum-told = c .before .enum-told in
+    let if1 = c .before .before .before .before .before .if1 in
+    let ok : Ranged (s .q) = subst (λ (o : Bool). Tells (Ranged (s .q)) o) (not-false (h .result) (if2 .left)) (h .ensures) in
+    c .due-ask .ensures ∙ (ap (λ (v : Verdict). ask v (s .t) (s .q)) (sym (enum-told .given .1)) ∙ sym (ask-held (s .verdict) (s .t) (s .q) ok (omega (arith, if1 .left))))
 
 returns-4 : tie.Need-returns-4
 returns-4 c =
     let s = c .before .before .before .before .before .before .args in
     let h = c .before .before .before .before .ranged-piece in
-    let ok : Ranged (s .q) = subst (λ (o : Bool). Tells (Ranged (s .q)) o) (not-false (h .result) (c .before .before .before .if2 .left)) (h .ensures) in
-    c .due-ask2 .ensures ∙ (ap (λ (v : Verdict). ask v (s .t) (s .q)) (sym (c .before .enum-told2 .given .1)) ∙ sym (ask-held (s .verdict) (s .t) (s .q) ok (omega (arith, c .before .before .before .before .before .if1 .left))))
+    let if2 = c .before .before .before .if2 in
+    let enum-told2 = c .before .enum-told2 in
+    let if1 = c .before .before .before .before .before .if1 in
+    let ok : Ranged (s .q) = subst (λ (o : Bool). Tells (Ranged (s .q)) o) (not-false (h .result) (if2 .left)) (h .ensures) in
+    c .due-ask2 .ensures ∙ (ap (λ (v : Verdict). ask v (s .t) (s .q)) (sym (enum-told2 .given .1)) ∙ sym (ask-held (s .verdict) (s .t) (s .q) ok (omega (arith, if1 .left))))
 
 returns-5 : tie.Need-returns-5
 returns-5 c =
     let s = c .before .before .before .before .before .before .args in
     let h = c .before .before .before .before .ranged-piece in
-    let ok : Ranged (s .q) = subst (λ (o : Bool). Tells (Ranged (s .q)) o) (not-false (h .result) (c .before .before .before .if2 .left)) (h .ensures) in
-    c .busy-ask .ensures ∙ (ap (λ (v : Verdict). ask v (s .t) (s .q)) (sym (c .before .enum-told3 .given .1)) ∙ sym (ask-held (s .verdict) (s .t) (s .q) ok (omega (arith, c .before .before .before .before .before .if1 .left))))
+    let if2 = c .before .before .before .if2 in
+    let enum-told3 = c .before .enum-told3 in
+    let if1 = c .before .before .before .before .before .if1 in
+    let ok : Ranged (s .q) = subst (λ (o : Bool). Tells (Ranged (s .q)) o) (not-false (h .result) (if2 .left)) (h .ensures) in
+    c .busy-ask .ensures ∙ (ap (λ (v : Verdict). ask v (s .t) (s .q)) (sym (enum-told3 .given .1)) ∙ sym (ask-held (s .verdict) (s .t) (s .q) ok (omega (arith, if1 .left))))
 
 pub ask-of-spec : {M : Type 1} → statement M
 ask-of-spec =

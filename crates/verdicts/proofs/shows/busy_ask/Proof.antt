@@ -14,13 +14,19 @@ ceil-div-requires : tie.Need-ceil-div-requires
 ceil-div-requires c κs = search needs
 
 mul-t4 : tie.Need-mul-t4
-mul-t4 c = record { fits = omega (arith, prod-le 101000000 2000000 {a = c .before .ceil-div .result} {b = c .before .before .args .q .charge} (omega (arith, c .before .ceil-div .ensures .1)) (search needs)) }
+mul-t4 c =
+    let ceil-div = c .before .ceil-div in
+    let s = c .before .before .args in
+    record { fits = omega (arith, prod-le 101000000 2000000 {a = ceil-div .result} {b = s .q .charge} (omega (arith, ceil-div .ensures .1)) (search needs)) }
 
 add-t5 : tie.Need-add-t5
 add-t5 c = search needs
 
 mul-t6 : tie.Need-mul-t6
-mul-t6 c = record { fits = omega (arith, prod-le 101000000 300000 {a = c .before .before .ceil-div .result} {b = c .before .before .before .args .q .release + c .before .before .before .args .q .ipi} (omega (arith, c .before .before .ceil-div .ensures .1)) (search needs)) }
+mul-t6 c =
+    let ceil-div = c .before .before .ceil-div in
+    let s = c .before .before .before .args in
+    record { fits = omega (arith, prod-le 101000000 300000 {a = ceil-div .result} {b = s .q .release + s .q .ipi} (omega (arith, ceil-div .ensures .1)) (search needs)) }
 
 returns : tie.Need-returns
 unfolding busyAsk

@@ -17,7 +17,10 @@ interrupts-of-requires : tie.Need-interrupts-of-requires
 interrupts-of-requires c κs = search needs
 
 mul-t5 : tie.Need-mul-t5
-mul-t5 c = record { fits = omega (arith, prod-le 102000001 2000000 {a = c .before .before .jobs-due .result} {b = c .before .before .before .args .q .charge} (search needs) (search needs)) }
+mul-t5 c =
+    let jobs-due = c .before .before .jobs-due in
+    let s = c .before .before .before .args in
+    record { fits = omega (arith, prod-le 102000001 2000000 {a = jobs-due .result} {b = s .q .charge} (search needs) (search needs)) }
 
 returns : tie.Need-returns
 unfolding dueAsk

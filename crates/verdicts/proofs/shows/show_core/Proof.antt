@@ -43,7 +43,10 @@ show-span-requires : tie.Need-show-span-requires
 show-span-requires c κs =
     let s = c .before .before .before .before .before .before .args in
     let pre = c .before .before .before .before .before .before .pre in
-    (pre .0, (pre .1, omega (arith, c .before .before .before .before .before .if1 .left), c .least-live .ensures, sym (c .before .before .before .before .climb-busy .ensures) ∙ c .before .before .l .given .1))
+    let if1 = c .before .before .before .before .before .if1 in
+    let climb-busy = c .before .before .before .before .climb-busy in
+    let l = c .before .before .l in
+    (pre .0, (pre .1, omega (arith, if1 .left), c .least-live .ensures, sym (climb-busy .ensures) ∙ l .given .1))
 
 returns-2 : tie.Need-returns-2
 unfolding busySum

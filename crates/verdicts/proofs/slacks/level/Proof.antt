@@ -14,43 +14,33 @@ use Rattle.verdicts.proofs.demands.demand_at.Reads as demand-at-reads
 use Rattle.verdicts.proofs.spans.next_end.Reads as next-end-reads
 use Rattle.verdicts.proofs.stretches.stretch_start.Reads as stretch-start-reads
 
--- src/slacks.rt:29:51
 charged-at-requires : tie.Need-charged-at-requires
 charged-at-requires c κs = search needs
 
--- src/slacks.rt:29:28
 stretch-start-requires : tie.Need-stretch-start-requires
 stretch-start-requires c κs =
     let s = c .before .args in
     let pre = c .before .pre in
     (pre .0, (rw (c .charged-at .ensures) (charged-at-each Ranged (s .core .now) (s .n) (pre .0 .1) 0 (omega arith)), pre .1 .1 .1))
 
--- src/slacks.rt:29:9
 greater-requires : tie.Need-greater-requires
 greater-requires c κs = search needs
 
--- src/slacks.rt:30:22
 lesser-requires : tie.Need-lesser-requires
 lesser-requires c κs = search needs
 
--- src/slacks.rt:30:9
 next-end-requires : tie.Need-next-end-requires
 next-end-requires c κs = search needs
 
--- src/slacks.rt:32:9
 returns : tie.Need-returns
 returns c = search needs
 
--- src/slacks.rt:34:9
 demand-at-requires : tie.Need-demand-at-requires
 demand-at-requires c κs = search needs
 
--- src/slacks.rt:35:9
--- src/slacks.rt:23:1
 returns-2 : tie.Need-returns-2
 returns-2 c = search needs
 
--- src/slacks.rt:23:1
 returns-3 : tie.Need-returns-3
 returns-3 c = search needs
 

@@ -22,38 +22,32 @@ Inv-loop core n b w bar a l end₀ end = (end ≤ a + l) × Quiet (raised (deman
 abbrev μ-loop : tie.MeasureT-loop
 μ-loop core n b w bar a l end₀ end = end
 
--- src/spans.rt:54:19
 add-end : tie.Need-add-end Inv-loop μ-loop
 add-end c = search needs
 
--- src/spans.rt:55:5
 loop-holds : tie.Need-loop-holds Inv-loop μ-loop
 loop-holds c = search needs
 
--- src/spans.rt:56:17
 sub-t : tie.Need-sub-t Inv-loop μ-loop
 sub-t c = search needs
 
--- src/spans.rt:57:13
 demand-at-requires : tie.Need-demand-at-requires Inv-loop μ-loop
 demand-at-requires c κs =
     let pre = c .before .before .pre in
     (pre .0, (pre .1 .0, pre .1 .1, omega arith))
 
--- src/spans.rt:58:12
 reaches-requires : tie.Need-reaches-requires Inv-loop μ-loop
 reaches-requires c κs = search needs
 
--- src/spans.rt:59:13
 returns : tie.Need-returns Inv-loop μ-loop
 returns c =
     let s = c .before .before .before .before .before .args in
     let loop = c .before .before .before .before .loop in
-    let x = c .before .before .demand-at .result in
+    let demand-at = c .before .before .demand-at in
+    let x = demand-at .result in
     let over : loop .end - 1 < x + s .bar = ltb-true (loop .end - 1) (x + s .bar) (cc) in
-    record { from = omega arith; below = omega arith; over = omega (arith, c .before .before .demand-at .ensures); quiet = λ u from below. loop .inv .1 u (omega arith) below }
+    (record { from = omega arith; below = omega arith; over = omega (arith, demand-at .ensures); quiet = λ u from below. loop .inv .1 u (omega arith) below }, demand-at .ensures)
 
--- src/spans.rt:61:24
 add-next-end : tie.Need-add-next-end Inv-loop μ-loop
 add-next-end c =
     let s = c .before .before .before .before .before .args in
@@ -62,7 +56,6 @@ add-next-end c =
     let calm : x + s .bar ≤ loop .end - 1 = ltb-false (loop .end - 1) (x + s .bar) (cc) in
     omega arith
 
--- src/spans.rt:61:9
 next-end-requires : tie.Need-next-end-requires Inv-loop μ-loop
 next-end-requires c κs =
     let s = c .before .before .before .before .before .args in
@@ -71,11 +64,9 @@ next-end-requires c κs =
     let calm : x + s .bar ≤ loop .end - 1 = ltb-false (loop .end - 1) (x + s .bar) (cc) in
     calm
 
--- src/spans.rt:55:5
 loop-less : tie.Need-loop-less Inv-loop μ-loop
 loop-less c = search needs
 
--- src/spans.rt:55:5
 loop-again : tie.Need-loop-again Inv-loop μ-loop
 loop-again c =
     let s = c .before .before .before .before .before .before .args in
@@ -90,7 +81,6 @@ loop-again c =
           (λ u from below. loop .inv .1 u (omega arith) below),
     )
 
--- src/spans.rt:41:1
 returns-2 : tie.Need-returns-2 Inv-loop μ-loop
 returns-2 c = λ u from below. c .before .loop .inv .1 u (omega arith) below
 
