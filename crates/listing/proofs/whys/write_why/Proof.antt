@@ -22,23 +22,18 @@ use Rattle.listing.proofs.whys.put_why.Reads as put-why-reads
 use Rattle.listing.proofs.whys.refusal_note.Reads as refusal-note-reads
 use Rattle.verdicts.proofs.show_records.Reads as show-records-reads
 
--- src/whys.rt:220:11
 show-records-requires : tie.Need-show-records-requires
 show-records-requires c κs = search needs
 
--- src/whys.rt:221:26
 enum-known-why : tie.Need-enum-known-why
 enum-known-why c = search needs
 
--- src/whys.rt:221:34
 refusal-note-requires : tie.Need-refusal-note-requires
 refusal-note-requires c κs = search needs
 
--- src/whys.rt:222:24
 enum-known-shown : tie.Need-enum-known-shown
 enum-known-shown c = search needs
 
--- src/whys.rt:224:22
 mul-if1 : tie.Need-mul-if1
 mul-if1 c =
     let s = c .before .before .before .before .before .args in
@@ -47,7 +42,6 @@ mul-if1 c =
     let few = check-taken (s .costs) (s .n) (recordsOf (s .records .now)) (so .0) .few in
     record { fits = omega (arith, few) }
 
--- src/whys.rt:224:16
 add-if1 : tie.Need-add-if1
 add-if1 c =
     let s = c .before .before .before .before .before .args in
@@ -56,7 +50,6 @@ add-if1 c =
     let few = check-taken (s .costs) (s .n) (recordsOf (s .records .now)) (so .0) .few in
     record { fits = omega (arith, few) }
 
--- src/whys.rt:225:21
 put-why-requires : tie.Need-put-why-requires
 put-why-requires c κs =
     let s = c .before .before .before .before .before .before .before .args in
@@ -65,11 +58,9 @@ put-why-requires c κs =
     let so = showing-shows (s .costs) (s .n) (recordsOf (s .records .now)) (shown .given .0 .0) (sym (show-records .ensures) ∙ shown .given .1) in
     (check-taken (s .costs) (s .n) (recordsOf (s .records .now)) (so .0), so .1)
 
--- src/whys.rt:226:17
 same-length : tie.Need-same-length
 same-length c = search needs
 
--- src/whys.rt:226:17
 returns : tie.Need-returns
 returns c =
     let s = c .before .before .before .before .before .before .before .before .before .before .args in
@@ -87,15 +78,12 @@ returns c =
     let is = why-written front (s .costs) (s .n) (s .by-name) (s .tasks .list) (s .places .now) (s .records .now) (so .0) in
     (wrote-answers paper text old is (r .last .0) (r .result) (r .ensures .0) (omega (arith, r .ensures .1, if1 .taken)), (omega arith, omega (arith, r .ensures .1, few)))
 
--- src/whys.rt:232:17
 slice-relend-prefix-put-why : tie.Need-slice-relend-prefix-put-why
 slice-relend-prefix-put-why c = search needs
 
--- src/whys.rt:232:17
 slice-aggregate-put-why : tie.Need-slice-aggregate-put-why
 slice-aggregate-put-why c = search needs
 
--- src/whys.rt:231:17
 put-why-requires-2 : tie.Need-put-why-requires-2
 put-why-requires-2 c κs =
     let s = c .before .before .before .before .before .before .before .args in
@@ -104,11 +92,9 @@ put-why-requires-2 c κs =
     let so = showing-shows (s .costs) (s .n) (recordsOf (s .records .now)) (shown .given .0 .0) (sym (show-records .ensures) ∙ shown .given .1) in
     (check-taken (s .costs) (s .n) (recordsOf (s .records .now)) (so .0), so .1)
 
--- src/whys.rt:243:17
 same-length-2 : tie.Need-same-length-2
 same-length-2 c = search needs
 
--- src/whys.rt:243:17
 returns-2 : tie.Need-returns-2
 returns-2 c =
     let s = c .before .before .before .before .before .before .before .before .before .before .before .args in
@@ -125,7 +111,6 @@ returns-2 c =
     let is = why-written front (s .costs) (s .n) (s .by-name) (s .tasks .list) (s .places .now) (s .records .now) (so .0) in
     (count-answers paper text old is (r .last .0) (r .result) (r .ensures .0) (c .if2 .taken), (omega arith, omega (arith, r .ensures .1, few)))
 
--- src/whys.rt:248:17
 put-why-requires-3 : tie.Need-put-why-requires-3
 put-why-requires-3 c κs =
     let s = c .before .before .before .before .before .before .before .before .before .before .before .before .args in
@@ -134,7 +119,6 @@ put-why-requires-3 c κs =
     let so = showing-shows (s .costs) (s .n) (recordsOf (s .records .now)) (shown .given .0 .0) (sym (show-records .ensures) ∙ shown .given .1) in
     (check-taken (s .costs) (s .n) (recordsOf (s .records .now)) (so .0), so .1)
 
--- src/whys.rt:207:1
 returns-3 : tie.Need-returns-3
 returns-3 c =
     let s = c .before .before .before .before .before .before .args in
@@ -145,11 +129,9 @@ returns-3 c =
     (length (s .buf .now)) (s .buf .now) in
     ((c .refusal-note .ensures ∙ barred .0, barred .1), rw (c .refusal-note .ensures) (barred .2, barred .3))
 
--- src/whys.rt:207:1
 same-length-3 : tie.Need-same-length-3
 same-length-3 c = search needs
 
--- src/whys.rt:207:1
 returns-4 : tie.Need-returns-4
 returns-4 c =
     let back = c .before .before .before .before .before .before .before .before .before .before .before .before in
