@@ -63,7 +63,8 @@ uint64_t plan_listing(const uint8_t *sheet, size_t sheet_len, uint8_t *listing, 
 uint64_t why_records(const uint8_t *records, size_t records_len, const uint8_t *costs, size_t costs_len, uint8_t *out, size_t out_len);
 
 /* The same for a core, from 1, of a sheet's plan; a piece has its task's name for a place. Where the walk finds no room, a line comes first: `noroom`, the
- * stuck task's place from 1 and its name, and the last core; the text is then about that core with the whole stuck task added, whichever was asked for. */
+ * stuck task's place from 1 and its name, and the last core; the text is then about that core with the whole stuck task added, whichever core of the
+ * machine was asked for. */
 uint64_t why_core(const uint8_t *sheet, size_t sheet_len, uint64_t core, uint8_t *out, size_t out_len);
 
 /* The demand of one core within a length of time: the work that is due in it, blocking and interrupts. 0 where `verdict` refuses the records or the costs,

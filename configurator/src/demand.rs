@@ -1,5 +1,5 @@
 //! The demand g(t) of a core of a sheet, for drawings: what the proved library's `demand_at` answers for
-//! the core's records. No rule of the demand stands here, and steps are found by asking.
+//! the core's records. No formula of the demand stands here, and steps are found by asking.
 //!
 //! The records are put together from the listing's pieces and the sheet's T, P and M. That they are the
 //! core which a why listing is about is looked at: `why_records` must answer the same figures for them.

@@ -141,9 +141,8 @@ fn other_figures_are_not_drawn() {
     let other = text.replace(fields, "why\tpasses\t5\t0");
     let slack = text.lines().last().unwrap();
     let other = other.replace(slack, "slack\t1");
-    if let Some(why) = Why::parse(other.as_bytes()) {
-        assert_eq!(Core::planned(1, &listing, &words, &why).unwrap(), None);
-    }
+    let why = Why::parse(other.as_bytes()).expect("other figures, in the same form");
+    assert_eq!(Core::planned(1, &listing, &words, &why).unwrap(), None);
     let no_room = Why::parse(text.as_bytes()).unwrap();
     assert_eq!(Core::stuck(&words, &no_room).unwrap(), None);
 }

@@ -5,8 +5,8 @@
 mod common;
 
 use common::command::{file, folder};
-use common::page::example;
-use configurator::why::Why;
+use common::page::{example, made};
+use configurator::why::{Verdict, Why};
 use configurator::why_core;
 use plain::demand::Core;
 use plain::sheet;
@@ -38,13 +38,17 @@ fn cores(bytes: &[u8]) -> Vec<(u64, Core)> {
     }
 }
 
-/// The lengths from 0 on at which the demand changes, each with the demand there.
+/// The lengths from 0 on at which the demand changes, each with the demand there; no more than tell that
+/// they are too many.
 fn steps(core: &Core, end: u64) -> Vec<(u64, u64)> {
     let mut steps = vec![(0, core.demand(0))];
     for length in 1..=end {
         let demand = core.demand(length);
         if steps[steps.len() - 1].1 != demand {
             steps.push((length, demand));
+        }
+        if steps.len() > STEPS {
+            break;
         }
     }
     steps
@@ -91,23 +95,40 @@ fn curves_are_to_scale() {
     ] {
         let bytes = file(&format!("examples/{name}.sheet")).into_bytes();
         let (_, page) = example(&folder, name, status);
-        let cores = cores(&bytes);
-        let drawn: Vec<&str> = page.split("<figure class=\"demand\">").skip(1).collect();
-        assert_eq!((drawn.len(), cores.len()), (figures, figures), "{name}");
-        for (figure, (at, core)) in drawn.iter().zip(&cores) {
-            let text = why_core(&bytes, *at).unwrap().unwrap();
-            let why = Why::parse(&text).unwrap();
-            assert!(figure.contains(&format!("within {} ticks", why.length)));
-            let plots: Vec<&str> = figure.split("<div class=\"plot\"").skip(1).collect();
-            let mut marks = 0;
-            for plot in &plots {
-                marks += look(plot, core, &why);
-            }
-            assert!((1..=2).contains(&plots.len()) && marks >= 1, "{name} {at}");
-            let all = end(plots[plots.len() - 1]);
-            assert!(all > why.length && all > core.largest_window());
-        }
+        assert_eq!(compare(&page, &bytes), figures, "{name}");
     }
+}
+
+/// More work than time: the demand is drawn up to the limit of the busy length and beyond.
+#[test]
+fn an_undecided_core_is_to_scale() {
+    let folder = folder("page-undecided");
+    let sheet = "machine\t1\t1\ncost\t0\t0\t0\t0\t0\t0\t0\t0\t0\npart\tp\t1\t1\t1\t0\t0\t0\n\
+                 fit\ta\tp\nfit\tb\tp\n";
+    let (_, page) = made(&folder, "late", sheet, 1);
+    assert_eq!(compare(&page, sheet.as_bytes()), 1);
+    assert!(page.contains("undecided: more work than time in every length up to 100000000 ticks"));
+}
+
+/// Compares all drawings of a sheet's page. Of how many cores they are.
+fn compare(page: &str, bytes: &[u8]) -> usize {
+    let cores = cores(bytes);
+    let drawn: Vec<&str> = page.split("<figure class=\"demand\">").skip(1).collect();
+    assert_eq!(drawn.len(), cores.len());
+    for (figure, (at, core)) in drawn.iter().zip(&cores) {
+        let text = why_core(bytes, *at).unwrap().unwrap();
+        let why = Why::parse(&text).unwrap();
+        assert!(figure.contains(&format!(" {} ticks", why.length)));
+        let plots: Vec<&str> = figure.split("<div class=\"plot\"").skip(1).collect();
+        let mut marks = 0;
+        for plot in &plots {
+            marks += look(plot, core, &why);
+        }
+        assert!((1..=2).contains(&plots.len()) && marks >= 1, "core {at}");
+        let all = end(plots[plots.len() - 1]);
+        assert!(all > why.length && all > core.largest_window());
+    }
+    cores.len()
 }
 
 /// Where a drawing ends.
@@ -177,7 +198,9 @@ fn look(plot: &str, core: &Core, why: &Why) -> usize {
         "the mark",
     );
     let demand = core.demand(why.length);
-    assert_eq!(demand, why.sum.unwrap().total);
+    if why.verdict != Verdict::Undecided {
+        assert_eq!(demand, why.sum.unwrap().total);
+    }
     near(
         percent(mark, "cy"),
         100.0 - part(demand, top, 90.0),

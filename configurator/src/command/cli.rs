@@ -76,9 +76,11 @@ fn plan() -> Command {
         .about("Prints the listing of a sheet: which core runs which task, whole or in two pieces")
         .after_help(
             "Example: spardimple plan examples/film-line.sheet -o film-line.listing --origin\n\n\
-             A refused sheet has no listing, and FILE is left as it was. With --json a refusal, or a\n\
-             file that is missing, is told as JSON on standard output too. FILE.origin names the\n\
-             program's commit and the SHA-256 of the library, of the sheet and of the listing.",
+             A refused sheet has no listing, and FILE is left as it was. Where no core has room for a\n\
+             task, the message ends with why: the core, the length, by how much, and the pieces that\n\
+             ask most. With --json a refusal, or a file that is missing, is told as JSON on standard\n\
+             output too. FILE.origin names the program's commit and the SHA-256 of the library, of the\n\
+             sheet and of the listing.",
         )
         .arg(sheet())
         .arg(out("FILE", "Writes the listing to FILE, whole or not at all"))
@@ -154,7 +156,8 @@ fn why() -> Command {
              the length minus the total. If the core passes, it is the length where least is left; if it\n\
              is overloaded, the verdict's own; if it is undecided, 100,000,000 ticks.\n\n\
              If no core has room for a task, the last core is shown with the whole task added, whichever\n\
-             CORE was asked for. The message is that of plan, and the exit status is 1. Else it is 0.\n\n\
+             CORE of the machine was asked for. The message begins as that of plan does, and the exit\n\
+             status is 1. A CORE that the machine has not is refused with 1. Else the status is 0.\n\n\
              RECORDS, COSTS and a table are as for verdict, and so is --exit-status. --listing prints the\n\
              library's own lines, those of all cores one after the other; docs/LISTINGS.md has their form.",
         )
@@ -208,9 +211,10 @@ fn report() -> Command {
         .about("Writes a sheet's plan, or its refusal, as one page for a browser")
         .after_help(
             "Example: spardimple report --unit us examples/film-line.sheet -o film-line.html\n\n\
-             The page needs no network and no script; it can be printed, and read on a phone. A\n\
-             refused sheet has a page too, with what was refused, where and what to do; the exit\n\
-             status is 1 then.",
+             The page needs no network and no script; it can be printed, and read on a phone. For each\n\
+             core it draws what is asked for against the length of time, with the length marked that\n\
+             why names. A refused sheet has a page too, with what was refused, where and what to do;\n\
+             the exit status is 1 then.",
         )
         .arg(sheet())
         .arg(unit_of_ticks())

@@ -8,7 +8,7 @@
 --   add, withdraw, retime           answer editOf e s, from any state s
 --   why_records(records, costs, out)    answers whyRecordsNumber records costs room, and the buffer then holds whyRecordsLeft records costs old
 --   why_core(sheet, core, out)      answers whyCoreNumber sheet core room, and the buffer then holds whyCoreLeft sheet core old
---   why_plan(s, k, core, out)       writes the paper whyOf s k core, of any state s
+--   why_plan(s, k, core, out)       says noteOf (whyOf s k core) room, of any state s, and the buffer then holds left (whyOf s k core) old
 --   demand_at(records, costs, t)    answers demandNumber records costs t
 --
 -- Each of these is an equation for any input, with nothing asked of the caller: so one input has one answer, and one content for what was lent.
@@ -24,6 +24,8 @@
 --   written-buffer                  a listing that is written stands at the front of the buffer, and the bytes beyond stay
 --   why-records-answered, why-core-answered     the answers of `why_records` and `why_core` come by their tables too, in every buffer
 --   why-records-left, why-core-left             and so does what the buffer then holds
+--   said-refused, said-short, said-written      what is said of a refusal, and of a text by the room that there is
+--   left-refused, left-short, left-written      and what the buffer then holds
 -- Demand 2, verdict and plan:
 --   passes, overloaded, undecided   each verdict comes exactly where no rule is broken and its meaning holds; `-told`: on lent bytes, by the number given back
 --   overloaded-shows                an overloaded length is one at which a job is due, and asks for more than itself
@@ -75,6 +77,8 @@
 --   whyCoreText       why-core-shown, why-stuck-shown
 --   shownOf           why-verdict, why-adds, why-overloaded, why-passes, why-undecided, why-empty
 --   whyOf             why-plan-shown, why-plan-outside
+--   noteOf            said-refused, said-short, said-written
+--   left              left-refused, left-short, left-written
 --   demandNumber      demand-told, demand-untold
 --   verdictOf         verdict-means
 --   greatestSplit     split-means
@@ -92,6 +96,7 @@ use mathlib.Core.Bool.{true}
 use mathlib.Core.Logic.{_↔_, _⊎_}
 use mathlib.Core.List.{List, [], _∷_, _++_, map}
 use Prim.Native.Nat.{ℕ, suc, _+_, _*_, _-_, _^_, _≤_, _<_}
+use borrow.Author.Tests.{le-leb, lt-leb}
 use lib.ListN.{length, take, drop}
 use lib.Seq.{take-length}
 use Rattle.demand.specs.declared.Piece.{Piece}
@@ -143,9 +148,10 @@ use Rattle.plan.proofs.Theorems.{all-placed, budgets-add, windows-add, plan-cou
 use Rattle.plan.proofs.RefusalLaws.{plan-refused as told-plan, plan-kept}
 use Rattle.sheet.specs.Refusals.{readTable}
 use Rattle.listing.specs.Listing.{spelling, listingOf}
-use Rattle.listing.specs.Papers.{refused, written}
+use Rattle.listing.specs.Papers.{refused, written, noteOf, left}
 use Rattle.listing.specs.Why.{noRoomLine, whyText, byPlace, titledPlaced, wholeSeat, whyOf}
 use Rattle.listing.specs.Placed.{placedLines, placedListing}
+use Rattle.listing.proofs.TextLaws.{over-short, over-fits}
 use Rattle.listing.proofs.WhyPlacedLaws.{asked-outside}
 use Rattle.edits.specs.Edits.{byName, TaskEdit, tasksHeld, editOf, accepted, Afresh, Held, played}
 use Rattle.edits.specs.Refusals.{editTable}
@@ -338,6 +344,28 @@ why-plan-shown = plan-shown
 
 pub why-plan-outside : (s : Plan) (k core : ℕ) → Not ((1 ≤ core) × (core ≤ s .machine .cores)) → whyOf s k core ≡ refused 1 0
 why-plan-outside s k core out = asked-outside s k core (λ some within. out (some, within))
+
+-- what `why_plan` says in a buffer of so many bytes
+module _ (text : List ℕ) (room : ℕ) where
+  pub said-refused : (n k : ℕ) → noteOf (refused n k) room ≡ record { number = n; carries = k }
+  said-refused n k = refl
+
+  pub said-short : room < length text → noteOf (written text) room ≡ record { number = 10; carries = length text }
+  said-short short = rw (lt-leb (length text) room short)
+
+  pub said-written : length text ≤ room → noteOf (written text) room ≡ record { number = 0; carries = length text }
+  said-written fits = rw (le-leb (length text) room fits)
+
+-- and what the buffer, which held old, then holds
+module _ (text old : List ℕ) where
+  pub left-refused : (n k : ℕ) → left (refused n k) old ≡ old
+  left-refused n k = refl
+
+  pub left-short : length old < length text → left (written text) old ≡ old
+  left-short short = over-short text old short
+
+  pub left-written : length text ≤ length old → left (written text) old ≡ text ++ drop (length text) old
+  left-written fits = over-fits text old fits
 
 pub demand-told : (rs cs : List ℕ) (t : ℕ) → Kept (lentTable rs cs) → t ≤ lengthMost
     → demandNumber rs cs t ≡ demand (stall (costsSpelt cs)) (coreOf (costsSpelt cs) (piecesOf rs)) t

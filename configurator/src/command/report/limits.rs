@@ -12,8 +12,8 @@ use std::fmt::Write;
 
 /// What the drawings show.
 const NOTE: &str = "Across stands a length of time, upwards what the core can be asked for within that length, overheads \
-                    counted. <strong>A core passes if from the first deadline on the staircase is nowhere above the \
-                    line.</strong> To the left of that no job is due, and nothing is judged.";
+                    counted. <strong>On a core that passes the staircase is nowhere above the line from the first deadline \
+                    on.</strong> To the left of that no job is due, and nothing is judged.";
 
 /// Each core of a plan; nothing of a plan without pieces.
 ///
