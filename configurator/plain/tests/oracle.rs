@@ -45,12 +45,9 @@ fn longest_period(sheet: &Sheet) -> u64 {
 /// Looking at every length is for sheets with at most this many candidates times the longest period.
 const EVERY_LENGTH_MOST: u64 = 2_000_000;
 
-/// Looking at stretches is for sheets with at most this many candidates.
-const STRETCHES_MOST: u64 = 1_000_000;
-
-/// Holds the oracle to every case whose numbers are small enough, and says which it leaves out.
-fn hold_to_cases(stretches_most: u64) {
-    let (mut every, mut stretches, mut left_out) = (0, 0, Vec::new());
+#[test]
+fn cases_with_stated_answers() {
+    let (mut every, mut stretches) = (0, 0);
     for folder in ["plan", "desk", "special"] {
         for case in cases(folder, ".sheet") {
             let text = bytes(folder, &format!("{case}.sheet"));
@@ -59,10 +56,6 @@ fn hold_to_cases(stretches_most: u64) {
                 Ok(sheet) => (candidates(&sheet), longest_period(&sheet)),
                 Err(_) => (0, 0),
             };
-            if tries > stretches_most {
-                left_out.push(format!("{folder}/{case} ({tries} candidates)"));
-                continue;
-            }
             let answer = |way| match fs::read(data(folder).join(format!("{case}.script"))) {
                 Ok(script) => desk::play(&text, &script, way),
                 Err(_) => listing::of_sheet(&text, way).unwrap_or_else(desk::refusal_line),
@@ -81,24 +74,12 @@ fn hold_to_cases(stretches_most: u64) {
         }
     }
     println!("{stretches} compared by stretches, {every} of them by every length too");
-    println!("left out, with more than {stretches_most} candidates: {left_out:?}");
-    assert!(stretches >= 190 && every >= 140);
+    assert_eq!((stretches, every), (196, 146));
 }
 
 /// Bytes as text, for a message that can be read.
 fn shown(bytes: &[u8]) -> String {
     String::from_utf8_lossy(bytes).into_owned()
-}
-
-#[test]
-fn cases_with_stated_answers() {
-    hold_to_cases(STRETCHES_MOST);
-}
-
-#[test]
-#[ignore = "half a minute: the same with no case left out"]
-fn all_cases_with_stated_answers() {
-    hold_to_cases(u64::MAX);
 }
 
 /// A lent buffer holds the listing and beyond it what it held; one byte less is 10.

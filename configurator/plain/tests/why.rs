@@ -5,7 +5,6 @@
 
 use inputs::cores::{lent_costs, lent_records, whole_core, Draw};
 use inputs::sheets::{damaged, SMALL};
-use inputs::stated::candidates;
 use inputs::{bytes, cases, Random};
 use plain::demand::{jobs_due, Core, BUSY_MOST};
 use plain::desk::refusal_line;
@@ -40,36 +39,19 @@ fn records_with_stated_reasons() {
     assert_eq!(compared, 42);
 }
 
-/// Holds the oracle to every case whose walk tries at most so many splits.
-fn hold_to_cores(most: u64) -> u64 {
+#[test]
+fn cores_with_stated_reasons() {
     let folder = "why";
-    let (mut compared, mut left_out) = (0, Vec::new());
+    let mut compared = 0;
     for case in cases(folder, ".out") {
         let file = |ending| bytes(folder, &format!("{case}.{ending}"));
-        let tries = sheet::read(&file("sheet")).map_or(0, |sheet| candidates(&sheet));
-        if tries > most {
-            left_out.push(format!("{case} ({tries} candidates)"));
-            continue;
-        }
         let core = shown(&file("core")).trim_end().parse().unwrap();
         let answer = why::of_sheet(&file("sheet"), core, Way::Stretches);
         assert_eq!(line(answer), shown(&file("out")), "{folder}/{case}");
         compared += 1;
     }
     println!("{compared} compared");
-    println!("left out, with more than {most} candidates: {left_out:?}");
-    compared
-}
-
-#[test]
-fn cores_with_stated_reasons() {
-    assert_eq!(hold_to_cores(1_000_000), 63);
-}
-
-#[test]
-#[ignore = "ten seconds and more: the same with no case left out"]
-fn all_cores_with_stated_reasons() {
-    assert_eq!(hold_to_cores(u64::MAX), 66);
+    assert_eq!(compared, 66);
 }
 
 /// The figures of small cores are the same by both ways, and those that the verdict's rules give. Least
