@@ -74,6 +74,12 @@ impl Tally {
         for end in [right.least_live() + 1, right.largest_window() * 3 / 2] {
             self.cut += u32::from(!compare(&core, right, end));
         }
+        if (self.planned + self.stuck) % 10 == 0 {
+            let periods = right.pieces.iter().map(|piece| piece.period);
+            let many_jobs = right.largest_window() + 250 * periods.min().unwrap();
+            assert!(!compare(&core, right, many_jobs), "too many steps");
+            self.cut += 1;
+        }
     }
 
     /// Each core of a sheet's plan, or the one that has no room.
@@ -118,7 +124,7 @@ fn stairs_are_the_demand() {
         tally.sheet(&coarse(&long));
     }
     println!("{tally:?}");
-    assert!(tally.planned > 50 && tally.stuck > 20 && tally.cut > 0);
+    assert!(tally.planned > 50 && tally.stuck > 20 && tally.cut > 20);
 }
 
 /// Figures of another core are told apart: then nothing is drawn.
