@@ -123,7 +123,7 @@ pub fn last_of(costs: &Costs, times: &[u64; 6], x: u64, window: u64) -> [u64; 6]
         times[0] - x,
         times[1] - window,
         times[2],
-        costs.pi,
+        costs.pi + costs.ipb + costs.relo + costs.tseto,
         times[4],
         times[5],
     ]

@@ -168,9 +168,9 @@ fn split(core: &Core, times: &Times, x: u64, way: Way) -> Option<(Piece, Piece)>
     (passes(&alone) && passes(&core.with(first))).then_some((first, last))
 }
 
-/// The jitter of a last piece of a plan: π (*house*).
+/// The jitter of a last piece of a plan (document 02, E2).
 fn last_jitter(costs: &Costs) -> u64 {
-    costs.pi
+    costs.pi + costs.ipb + costs.relo + costs.tseto
 }
 
 /// The tight window of a first piece beside the pieces of a core, J + t, if it is at most `most`.

@@ -123,7 +123,7 @@ const COST: [Field; 9] = [
         "RelO",
         "The cost of the interrupt that releases a job, until the job is in the queue.",
         "Measure the handler of the release timer from its entry to its end.",
-        "Each release pays it once.",
+        "Each release pays it once, and it is part of a last piece's jitter.",
     ),
     Field::new(
         "SchedO",
@@ -135,13 +135,13 @@ const COST: [Field; 9] = [
         "TsetO",
         "The cost of cancelling one task's budget timer and setting the next one's.",
         "Measure the two timer calls together.",
-        "Each job pays it once, and each release once more.",
+        "Each job pays it once, and each release once more; it is part of a last piece's jitter.",
     ),
     Field::new(
         "IpB",
         "The longest time for which a running task disables interrupts or preemption.",
         "The RTOS states its own; compare it with that of your drivers, and take the longer one.",
-        "Any job may have to wait for it, and a first piece pays it too.",
+        "Any job may have to wait for it, and a first piece pays it too; it is part of a last piece's jitter.",
     ),
     Field::new(
         "BetO",
@@ -171,7 +171,7 @@ const COST: [Field; 9] = [
         "π",
         "The precision with which a core reads the clock that all cores share.",
         "The manual of the processor states it for the common timer; it is at least the timer's own step.",
-        "It is the jitter of every last piece.",
+        "With IpB, RelO and TsetO it makes up the jitter of every last piece.",
     ),
 ];
 

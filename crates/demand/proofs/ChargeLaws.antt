@@ -2,7 +2,8 @@
 -- Assumes nothing.
 --
 --   when-le                  a bound of a number is one of it or nothing
---   late-jitter-is, -le      the jitter of a piece that came from elsewhere, and its bound
+--   late-jitter-is, -none    the jitter of a piece that came from elsewhere, by whether the costs are within their sizes
+--   late-jitter-most, -le    its bound: that of four constants, so never above that of a time
 --   charged-recurs, -ranged  what the laws of demand and the code ask of a charged piece
 --   sized-countable          a record within the sizes can be charged
 --   charged-tells            its charged time, by what the two size tests tell
@@ -11,7 +12,7 @@
 use mathlib.Core.Path.{_≡_, refl, sym, ap, _∙_}
 use mathlib.Core.Bool.{Bool, true, false, cond, _&&_}
 use mathlib.Core.List.{List, [], _∷_, _++_, map}
-use Prim.Native.Nat.{ℕ, _+_, _≤_, _<_, zero-le}
+use Prim.Native.Nat.{ℕ, _+_, _*_, _≤_, _<_, zero-le}
 use native.Mathlib.Numerals.{add-one}
 use lib.ListN.{length, take, getD}
 use lib.Seq.{take-suc}
@@ -20,7 +21,7 @@ use Rattle.demand.specs.Kinds.{departs, arrives}
 use Rattle.demand.specs.declared.Piece.{Piece}
 use Rattle.demand.specs.declared.Costs.{Costs}
 use Rattle.demand.specs.declared.Charged.{Charged}
-use Rattle.demand.specs.Sizes.{SizedCosts, Sized, Tells, Each, sized, sizedCosts, timeMost}
+use Rattle.demand.specs.Sizes.{SizedCosts, Sized, Tells, Each, sized, sizedCosts, costMost, timeMost}
 use Rattle.demand.specs.ways.Ranges.{Countable, Ranged, countable, chargedWithin, noCharge, stallWithin, stallMost}
 use Rattle.demand.specs.Split.{lateJitter}
 use Rattle.demand.specs.Charge.{charge, stall, ipiCost, charged, coreOf}
@@ -35,22 +36,24 @@ when-le false h = zero-le
 
 -- ---- the late jitter
 
-pub late-told : (c : Costs) (b : Bool) → b ≡ sizedCosts c → lateJitter c ≡ cond b (c .precision) 0
-unfolding lateJitter
-late-told c b is = rw is
-
-pub late-jitter-is : (c : Costs) → SizedCosts c → lateJitter c ≡ c .precision
+pub late-jitter-is : (c : Costs) → SizedCosts c → lateJitter c ≡ c .precision + c .ipb + c .relo + c .tseto
 unfolding lateJitter
 late-jitter-is c costs = rw (costs-exact c .1 costs)
 
--- whatever the costs are
-pub late-jitter-le : (c : Costs) → lateJitter c ≤ timeMost
+pub late-jitter-none : (c : Costs) → sizedCosts c ≡ false → lateJitter c ≡ 0
 unfolding lateJitter
-late-jitter-le c = look (sizedCosts c) (tells-costs c)
+late-jitter-none c bad = rw bad
+
+-- whatever the costs are
+pub late-jitter-most : (c : Costs) → lateJitter c ≤ 4 * costMost
+late-jitter-most c = look (sizedCosts c) refl (tells-costs c)
   where
-    look : (b : Bool) → Tells (SizedCosts c) b → cond b (c .precision) 0 ≤ timeMost
-    look true costs = omega (arith, costs .precision-fits)
-    look false bad = zero-le
+    look : (b : Bool) → sizedCosts c ≡ b → Tells (SizedCosts c) b → lateJitter c ≤ 4 * costMost
+    look true told costs = omega (arith, late-jitter-is c costs, costs .precision-fits, costs .ipb-fits, costs .relo-fits, costs .tseto-fits)
+    look false told bad = omega (arith, late-jitter-none c told)
+
+pub late-jitter-le : (c : Costs) → lateJitter c ≤ timeMost
+late-jitter-le c = omega (arith, late-jitter-most c)
 
 -- ---- the charge
 

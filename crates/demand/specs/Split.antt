@@ -1,7 +1,7 @@
 -- The split of a task on a core: document 01, "The C=D walk". A task to be split is given as its whole piece: C, D, T, J, P and M.
 -- First what an allowed split means, by records, then the greatest one as a function that computes. `proofs/SplitLaws.antt` ties the two.
 --
---   lateJitter c           the jitter of a piece that came from elsewhere: π; costs outside their sizes have none
+--   lateJitter c           the jitter of a piece that came from elsewhere: π + IpB + RelO + TsetO; costs outside their sizes have none
 --   pieceOf j p k x w      the piece of p of the kind k with budget x and window w; j is the jitter that it has if it came from elsewhere
 --   firstPiece p x w       the first piece of p with budget x and window w
 --   lastPiece c p x w      the last piece that this leaves
@@ -31,7 +31,7 @@ use Rattle.demand.specs.Busy.{Least, Holds, tightSum, tightWindow}
 use Rattle.demand.specs.Verdict.{verdictOf}
 
 unfoldable pub lateJitter : Costs → ℕ
-lateJitter c = cond (sizedCosts c) (c .precision) 0
+lateJitter c = cond (sizedCosts c) (c .precision + c .ipb + c .relo + c .tseto) 0
 
 -- Every piece of a plan is one of these.
 unfoldable pub pieceOf : ℕ → Piece → Kind → ℕ → ℕ → Piece

@@ -94,12 +94,12 @@ blockingRows =
 
 -- J 5 and t = 52: b 4, C' 20, releases ⌈52/20⌉·3 + ⌈58/48⌉·3 + ⌈57/100⌉·3, IPIs ⌈59/48⌉·5, which is 4 + 20 + 9 + 6 + 3 + 10 = 52
 -- x = 10, J 10: C' 10 + 7 + 1 + 6 = 24, t = 34 = 4 + 24 + 3 + 3, window 44; then g(61) = 28 + 24 + 2·3 + 3 = 61, and with x = 15 it is 66.
--- The last piece has 41 in 73, C' 41 + 7 + 1 + 3 = 52: with J = π its first job is due at 73 − π, and asks for 4 + 52 + 3 + 5 = 64. π 9 leaves 64.
+-- The last piece has 41 in 73, C' 41 + 7 + 1 + 3 = 52: with J = π + 3 + 2 + 1 its first job is due at 67 − π, and asks for 4 + 52 + 3 + 5 = 64. π 3 leaves 64.
 unfoldable pub splitRows : List Row
 splitRows =
     tight 6 (paid 6) (often ∷ cached Last 3 40 48 6 2 3 ∷ []) (cached First 5 100 100 5 2 3) 57
-    ∷ splits 7 (paid 9) 5 (cached Whole 19 60 60 0 2 0 ∷ []) (cached Whole 51 117 130 10 1 3) (Cut 10 44)
-    ∷ splits 7 (paid 10) 5 (cached Whole 19 60 60 0 2 0 ∷ []) (cached Whole 51 117 130 10 1 3) Nowhere
+    ∷ splits 7 (paid 3) 5 (cached Whole 19 60 60 0 2 0 ∷ []) (cached Whole 51 117 130 10 1 3) (Cut 10 44)
+    ∷ splits 7 (paid 4) 5 (cached Whole 19 60 60 0 2 0 ∷ []) (cached Whole 51 117 130 10 1 3) Nowhere
     -- x is below C: 3 in 3 would pass too, with nothing left
     ∷ splits 7 noCosts 1 [] (whole 3 5 10) (Cut 2 2)
     ∷ []

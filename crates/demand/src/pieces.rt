@@ -4,18 +4,27 @@ use crate::Kind;
 use crate::Piece;
 use crate::kinds::if_arrives;
 use crate::numbers::less;
-use crate::sizes::costs_within;
+use crate::sizes::sized_costs;
 ghost use mathlib.Core.Path.{_≡_};
+ghost use Rattle.demand.specs.Sizes.{SizedCosts};
 ghost use Rattle.demand.specs.Split.{lateJitter, pieceOf, firstPiece, lastPiece};
+
+// A piece that came from elsewhere waits for a clock read to within π, and then for the release interrupt handler.
+fn late_within(costs: Costs) -> u64
+    requires { ⌜ SizedCosts costs ⌝ }
+    ensures { λ r. ⌜ r ≡ lateJitter costs ⌝ }
+{
+    costs.precision + costs.ipb + costs.relo + costs.tseto
+}
 
 // The jitter of a piece that came from elsewhere. Costs outside their sizes have none, so that no sum wraps.
 pub fn late_jitter(costs: Costs) -> u64
     ensures { λ r. ⌜ r ≡ lateJitter costs ⌝ }
 {
-    if !costs_within(costs) {
+    if !sized_costs(costs) {
         return 0;
     }
-    costs.precision
+    late_within(costs)
 }
 
 // The piece of that kind, with budget x and window w, of a task that is given as its whole piece.

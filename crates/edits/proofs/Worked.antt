@@ -18,11 +18,11 @@ use Rattle.plan.specs.Layout.{none, putOf}
 use Rattle.plan.specs.Plan.{noPlan, planOf}
 use Rattle.edits.specs.Edits.{editFault, editOf}
 use Rattle.edits.specs.Worked.{letter, fitted, simple, machineWith, twoLetters, crowd, stateWith, missed}
-use Rattle.edits.specs.Worked.{planRows, stateRows, addRows, withdrawRows, retimeRows, nameWith, nameRows}
+use Rattle.edits.specs.Worked.{three, planRows, stateRows, addRows, withdrawRows, retimeRows, nameWith, nameRows}
 
 pub trials-hold : (missed planRows ≡ []) × (missed stateRows ≡ []) × (missed addRows ≡ []) × (missed withdrawRows ≡ [])
     × (missed retimeRows ≡ []) × (missed nameRows ≡ [])
-unfolding letter fitted simple machineWith twoLetters crowd stateWith missed planRows stateRows addRows withdrawRows retimeRows nameWith nameRows
+unfolding letter fitted simple machineWith twoLetters crowd stateWith missed three planRows stateRows addRows withdrawRows retimeRows nameWith nameRows
     paid onlyCost padded sized sizedCosts charge ipiCost charged coreOf stall ceil jobsDue interrupts blocking load demand leastLive leastHolding
     busyLoad busySum busyLength tightSum tightWindow pieceOf lateJitter firstPiece lastPiece tightFirst bothPass greatestSplit verdict verdictOf
     nameByte formed sameName wholePiece sizedMachine faultOf stateFault denser walked none putOf noPlan planOf editFault editOf

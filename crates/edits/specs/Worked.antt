@@ -8,6 +8,7 @@
 --   crowd n                n tasks with different names
 --   Trial                  a question with its answer: the plan of a task list, or an edit on a state made by hand, with nothing placed
 --   missed rs              the numbers of the rows that do not hold
+--   three                  three tasks for two cores, whose plan goes by π
 --   planRows, stateRows, addRows, withdrawRows, retimeRows, nameRows   the table, in six parts
 use mathlib.Core.Bool.{Bool, true, false, cond, _&&_}
 use mathlib.Core.List.{List, [], _∷_, _++_, map}
@@ -83,16 +84,24 @@ refusedWith n carries = (n ∷ carries ∷ []) ∷ []
 -- ---- plans
 
 -- C/D is 26/92, 43/109, 62/139: the third comes first. b 4, RelO + TsetO 3. The second has x = 25: C' 25 + 7 + 1 + 6 = 39, t = 4 + 39 + 3 + 3 = 49,
--- window 8 + 49; then g(127) = 4 + 72 + 39 + 3 + 2·3 = 124, and with x = 30 it is 129. Its last piece has 18 in 109 − 57, J = π.
+-- window 8 + 49; then g(127) = 4 + 72 + 39 + 3 + 2·3 = 124, and with x = 30 it is 129. Its last piece has 18 in 109 − 57, C' 18 + 7 + 1 + 5 = 31 and
+-- J = π + 3 + 2 + 1: it is due at 46 − π, and there asks for 4 + 31 + 3 + 5 = 43 alone, and with the first task's releases, 3, for 46.
+unfoldable pub three : List Task
+three = fitted 97 26 92 130 4 1 6 ∷ fitted 98 43 109 120 8 1 5 ∷ fitted 99 62 139 140 12 3 6 ∷ []
+
 unfoldable pub planRows : List Trial
 planRows =
-    plans 1 (machineWith 2 5) (paid 6) (fitted 97 26 92 130 4 1 6 ∷ fitted 98 43 109 120 8 1 5 ∷ fitted 99 62 139 140 12 3 6 ∷ [])
+    plans 1 (machineWith 2 5) (paid 0) three
     ((0 ∷ 0 ∷ [])
     ∷ (1 ∷ 3 ∷ 0 ∷ 62 ∷ 139 ∷ 12 ∷ [])
     ∷ (1 ∷ 2 ∷ 1 ∷ 25 ∷ 57 ∷ 8 ∷ [])
     ∷ (2 ∷ 2 ∷ 2 ∷ 18 ∷ 52 ∷ 6 ∷ [])
     ∷ (2 ∷ 1 ∷ 0 ∷ 26 ∷ 92 ∷ 4 ∷ [])
     ∷ [])
+    -- due at 45 the split is still allowed, and leaves the first task no room; due at 42 it is not, and the second is placed whole
+    ∷ plans 1 (machineWith 2 5) (paid 1) three (refusedWith 7 1)
+    ∷ plans 1 (machineWith 2 5) (paid 4) three
+    ((0 ∷ 0 ∷ []) ∷ (1 ∷ 3 ∷ 0 ∷ 62 ∷ 139 ∷ 12 ∷ []) ∷ (2 ∷ 2 ∷ 0 ∷ 43 ∷ 109 ∷ 8 ∷ []) ∷ (2 ∷ 1 ∷ 0 ∷ 26 ∷ 92 ∷ 4 ∷ []) ∷ [])
     -- document 01's sheet: three alike keep their order, and 6 + 4 fill the first core
     ∷ plans 2 (machineWith 2 1) noCosts (simple 97 6 10 ∷ simple 98 6 10 ∷ simple 99 6 10 ∷ [])
     ((0 ∷ 0 ∷ []) ∷ (1 ∷ 1 ∷ 0 ∷ 6 ∷ 10 ∷ 0 ∷ []) ∷ (1 ∷ 2 ∷ 1 ∷ 4 ∷ 4 ∷ 0 ∷ []) ∷ (2 ∷ 2 ∷ 2 ∷ 2 ∷ 6 ∷ 0 ∷ []) ∷ (2 ∷ 3 ∷ 0 ∷ 6 ∷ 10 ∷ 0 ∷ []) ∷ [])

@@ -21,6 +21,7 @@
 --   all-placed            every task is placed: whole on a core, or by its greatest split on a core and the next; nothing else is placed of it
 --   budgets-add           the budgets of a task's pieces add to C
 --   windows-add           their windows add to D
+--   jitters-told          a piece that came from elsewhere has the jitter π + IpB + RelO + TsetO, and every other its task's
 --   free-is-budget        with all costs, J and P zero the window of a first piece is its budget, which is C=D
 --   placed-places, placed-sized      what is placed is of the tasks, and its pieces are within the sizes
 --   cores-pass            every core passes
@@ -30,6 +31,7 @@
 --   plan-shows            the plan's rows show what was placed: each piece by its number, each core's row by the numbers of its pieces
 --   words-show            a core's word has bit k set exactly when the task at place k has a piece there, and its ones are its pieces
 use mathlib.Core.Path.{_≡_, refl, sym, ap, _∙_, subst}
+use mathlib.Core.Bool.{cond}
 use mathlib.Core.Logic.{_⊎_, inl, inr, _↔_}
 use mathlib.Core.List.{List, [], _∷_, _++_, append-nil, map}
 use Prim.Native.Nat.{ℕ, zero, suc, _+_, _-_, _≤_, _<_}
@@ -40,10 +42,12 @@ use Rattle.demand.specs.declared.Piece.{Piece}
 use Rattle.demand.specs.declared.Costs.{Costs}
 use Rattle.demand.specs.declared.Verdict.the-variants.{Passes}
 use Rattle.demand.specs.Sizes.{Sized, Each}
+use Rattle.demand.specs.Kinds.{arrives}
 use Rattle.demand.specs.Charge.{coreOf, stall}
 use Rattle.demand.specs.Demand.{demand, Live}
 use Rattle.demand.specs.Verdict.{verdictOf}
 use Rattle.demand.proofs.Sums.{each-imp}
+use Rattle.demand.proofs.ChargeLaws.{late-jitter-is}
 use Rattle.demand.proofs.Judgement.{passes-all}
 use Rattle.demand.proofs.SplitLaws.{Free}
 use Rattle.task.specs.declared.Times.{Times}
@@ -60,7 +64,7 @@ use Rattle.walks.proofs.OrderLaws.{pack-every, pack-ranked}
 use Rattle.walks.proofs.DenserLaws.{denser-lawful}
 use Rattle.walks.proofs.WayLaws.{until-fine, stuck-where, Reaches, until-reaches, walk-items}
 use Rattle.walks.proofs.SoundLaws.{Planned, Has, Divided, share-of, spots-within, few-on-core, apart-on, pieces-each}
-use Rattle.walks.proofs.HalvesLaws.{refused-last, shared-firsts, shares-firsts, shared-free}
+use Rattle.walks.proofs.HalvesLaws.{refused-last, shared-firsts, shares-firsts, shared-jitters, shared-free}
 use Rattle.plan.specs.declared.Plan.{Plan}
 use Rattle.plan.specs.declared.Reply.{Reply}
 use Rattle.plan.specs.Walk.{wholeAt, placeWay, upto, denserAt, packed, walked, walkedUntil}
@@ -325,6 +329,15 @@ module _ (m : Machine) (c : Costs) (n : ℕ) (ts : List Task) (faultless : state
     windows-add k low =
         (let h = share k low in sum-of (λ q. q .window) k low
         ∙ (h .has .0 .windows ∙ ap (λ (j : ℕ). taskAt (take n ts) j .times .deadline) (h .own)))
+
+    pub jitters-told : (k : ℕ) → k < length (take n ts)
+        → Each (λ e. e .piece .jitter
+        ≡ cond (arrives (e .piece .kind)) (c .precision + c .ipb + c .relo + c .tseto) (taskAt (take n ts) k .times .jitter)) (ofTask k l)
+    unfolding wholePiece
+    jitters-told k low =
+        let h = all-placed k low in
+        subst (λ (j : ℕ). Each (λ e. e .piece .jitter ≡ cond (arrives (e .piece .kind)) j (taskAt (take n ts) k .times .jitter)) (ofTask k l))
+        (late-jitter-is c (sane .costs)) (shared-jitters c (m .grain) (wholeAt (take n ts) k) (h .past) k (whole-kind (timesOf k)) (h .shared))
 
     pub free-is-budget : (k : ℕ) → k < length (take n ts) → Free c (wholeAt (take n ts) k)
         → Each (λ e. e .piece .kind ≡ First → e .piece .window ≡ e .piece .budget) (ofTask k l)

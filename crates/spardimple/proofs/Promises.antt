@@ -41,7 +41,9 @@
 --   verdict-means, split-means      the verdict and the split that the walk goes by are those that are meant
 --   packing, packing-ranked         the packing order has each task once, greater C/D first, ties by earlier task
 --   packing-one, walk-order         it is the only order that is so, and the walk goes over the tasks in it
---   walk-promised                   what a walk that ends well placed: every task, budgets and windows adding up, on the machine's cores, every core passing
+--   walk-promised                   what a walk that ends well placed: every task, budgets and windows adding up, a last piece late by π + IpB + RelO + TsetO, on the
+--                                   machine's cores, every core passing
+--   late-bounded                    no piece is late by more than four constants can be, which is less than a time may be
 --   sheet-sane, sheet-walks         what a sheet says breaks no rule of a state, and where a listing is written the walk over it ends well
 --   sheet-promised                  and placed so
 --   told-apart                      sheets with one listing place the same names alike
@@ -92,10 +94,11 @@
 --
 -- Assumes nothing.
 use mathlib.Core.Path.{_≡_, refl, ap, _∙_, subst}
-use mathlib.Core.Bool.{true}
+use mathlib.Core.Bool.{true, cond}
 use mathlib.Core.Logic.{_↔_, _⊎_}
 use mathlib.Core.List.{List, [], _∷_, _++_, map}
 use Prim.Native.Nat.{ℕ, suc, _+_, _*_, _-_, _^_, _≤_, _<_}
+use native.Mathlib.Omega.{arith}
 use borrow.Author.Tests.{le-leb, lt-leb}
 use lib.ListN.{length, take, drop}
 use lib.Seq.{take-length}
@@ -107,18 +110,20 @@ use Rattle.demand.specs.declared.Splitting.the-variants.{Best, Denied}
 use Rattle.demand.specs.declared.Verdict.{Verdict}
 use Rattle.demand.specs.declared.Verdict.the-variants.{Passes, Overloaded, Undecided}
 use Rattle.demand.specs.declared.Answer.the-variants.{Judged as JudgedAs, Refused}
-use Rattle.demand.specs.Sizes.{SizedCosts, sizedCosts, Each, busyMost, lengthMost}
+use Rattle.demand.specs.Sizes.{SizedCosts, sizedCosts, Each, costMost, timeMost, busyMost, lengthMost}
+use Rattle.demand.specs.Kinds.{arrives}
 use Rattle.demand.specs.Charge.{coreOf, stall}
 use Rattle.demand.specs.Demand.{total, demand, Live}
 use Rattle.demand.specs.Busy.{busySum}
 use Rattle.demand.specs.Verdict.{Judged, Means, Bounded, KeepsUp, verdictOf}
 use Rattle.demand.specs.Why.{LeastSlack, askSum, shownAt, shownOf}
 use Rattle.demand.proofs.WhyLaws.{shown-verdict, shown-adds, shown-overloaded, shown-passes, shown-undecided, shown-empty}
-use Rattle.demand.specs.Split.{Splits, greatestSplit, passes as passing}
+use Rattle.demand.specs.Split.{lateJitter, Splits, greatestSplit, passes as passing}
 use Rattle.demand.specs.Answer.{answerOf, splitOf}
 use Rattle.demand.specs.Tables.{Not, Gives, Kept}
 use Rattle.demand.specs.Refusals.{recordTable, Refuses}
 use Rattle.demand.proofs.SizeLaws.{costs-exact}
+use Rattle.demand.proofs.ChargeLaws.{late-jitter-most}
 use Rattle.demand.proofs.Judgement.{verdict-exact, overloaded-live}
 use Rattle.demand.proofs.SplitLaws.{passes-exact, split-exact}
 use Rattle.demand.proofs.RefusalLaws.{answer-refused, split-refused as split-denied}
@@ -144,7 +149,7 @@ use Rattle.plan.specs.Plan.{planOf}
 use Rattle.plan.specs.Refusals.{planTable}
 use Rattle.plan.specs.Places.{Rearranged, ofTask, TaskPlaced}
 use Rattle.plan.proofs.Theorems.{packing-order, packing-ranked as ranked, packing-one as only-order}
-use Rattle.plan.proofs.Theorems.{all-placed, budgets-add, windows-add, plan-counts, no-room-last}
+use Rattle.plan.proofs.Theorems.{all-placed, budgets-add, windows-add, jitters-told, plan-counts, no-room-last}
 use Rattle.plan.proofs.RefusalLaws.{plan-refused as told-plan, plan-kept}
 use Rattle.sheet.specs.Refusals.{readTable}
 use Rattle.listing.specs.Listing.{spelling, listingOf}
@@ -418,6 +423,8 @@ pub record Promised (m : Machine) (c : Costs) (ts : List Task) (log : List (Plac
   pub placed : (k : ℕ) → k < length ts → TaskPlaced m c ts k log
   pub budgets : (k : ℕ) → k < length ts → sumBy (λ e. e .piece .budget) (ofTask k log) ≡ taskAt ts k .times .worst
   pub windows : (k : ℕ) → k < length ts → sumBy (λ e. e .piece .window) (ofTask k log) ≡ taskAt ts k .times .deadline
+  pub jitters : (k : ℕ) → k < length ts
+      → Each (λ e. e .piece .jitter ≡ cond (arrives (e .piece .kind)) (c .precision + c .ipb + c .relo + c .tseto) (taskAt ts k .times .jitter)) (ofTask k log)
   pub cores : (q : ℕ) → Bounded (coreOf c (rowOf q log)) × KeepsUp (stall c) (coreOf c (rowOf q log))
   pub within : Each (λ e. e .on < m .cores) log
 
@@ -429,9 +436,14 @@ walk-promised m c n ts sane s l so =
       placed = all-placed m c n ts good s l so;
       budgets = budgets-add m c n ts good s l so;
       windows = windows-add m c n ts good s l so;
+      jitters = jitters-told m c n ts good s l so;
       cores = cores-bounded m c n ts good s l so;
       within = plan-counts m c n ts good s l so .cores;
     }
+
+-- 400,000 against 1,000,000
+pub late-bounded : (c : Costs) → (lateJitter c ≤ 4 * costMost) × (4 * costMost < timeMost)
+late-bounded c = (late-jitter-most c, omega arith)
 
 -- so of a sheet whose listing is written: `textOf` prints what its walk placed
 pub sheet-promised : (sheet : List ℕ) (room : ℕ) → Kept (sheetTable sheet room) → Promised (machineIn sheet) (costsIn sheet) (tasksIn sheet) (placedOf sheet)

@@ -11,6 +11,7 @@
 --   halves c g m whole   what is claimed of C=D
 --   halving-sound        each placement has it
 --   shared-firsts, shares-firsts  an item has one piece, and another where it has a first piece
+--   shared-jitters                a piece that came from elsewhere is late, and every other has its item's jitter
 --   shared-free                   with costs, J and P zero the window of a first piece is its budget
 use mathlib.Core.Path.{_≡_, refl, ap, _∙_, subst}
 use mathlib.Core.Bool.{Bool, true, false, cond}
@@ -29,8 +30,8 @@ use Rattle.demand.specs.declared.Split.the-variants.{Cut, Nowhere}
 use Rattle.demand.specs.Sizes.{Sized, SizedCosts, Each}
 use Rattle.demand.specs.Charge.{coreOf, stall}
 use Rattle.demand.specs.Verdict.{verdictOf}
-use Rattle.demand.specs.Kinds.{departs}
-use Rattle.demand.specs.Split.{pieceOf, firstPiece, lastPiece, passes, greatestSplit, Splits}
+use Rattle.demand.specs.Kinds.{departs, arrives}
+use Rattle.demand.specs.Split.{lateJitter, pieceOf, firstPiece, lastPiece, passes, greatestSplit, Splits}
 use Rattle.demand.proofs.Sums.{each-snoc}
 use Rattle.demand.proofs.BusyLaws.{least-unique}
 use Rattle.demand.proofs.VerdictLaws.{verdict-empty}
@@ -303,6 +304,12 @@ module _ {A : Type 0} (c : Costs) (g : ℕ) (w : Piece) (past : List (Placed A))
   unfolding firstPiece lastPiece pieceOf
   shared-firsts plain (one-piece pass) = rw plain
   shared-firsts plain (two-pieces never cut) = refl
+
+  pub shared-jitters : w .kind ≡ Whole → {l : List (Placed A)} → Shared c g w past a l
+      → Each (λ e. e .piece .jitter ≡ cond (arrives (e .piece .kind)) (lateJitter c) (w .jitter)) l
+  unfolding firstPiece lastPiece pieceOf
+  shared-jitters plain (one-piece pass) = (rw plain, tt)
+  shared-jitters plain (two-pieces never cut) = (refl, (refl, tt))
 
   module _ (size : Sized w) where
     cut-free : Free c w → (row : List Piece) (x v : ℕ) → Splits c g row w (Cut x v) → v ≡ x
