@@ -43,8 +43,8 @@ fn refused_sheets() {
   fit⇥t17⇥p17
       ^^^
   to do: add a core, or give some task less work (C) or more time (D, T); a smaller grain can help too
-  why: core 16 with the whole of `t17` is undecided: more work than time in every length up to 100000000 ticks; within that 115503823 are asked for, 15503823 too many
-  most is asked by `t17` (70919194 in 106 jobs, 1590 in interrupts) and `t0` (44579709 in 111 jobs, 3330 in interrupts)",
+  why: core 16 with the whole of `t17` is undecided: more work than time in every length up to 100000000 ticks; within that 115506598 are asked for, 15506598 too many
+  most is asked by `t17` (70919194 in 106 jobs, 1590 in interrupts) and `t0` (44582484 in 111 jobs, 3330 in interrupts)",
     );
     refused(
         "examples/film-line.listing",

@@ -63,7 +63,7 @@ next: spardimple plan line.sheet
         "plan\t4\t5
 piece\t1\tfeed\twhole\t1100\t2000\t0\t1165
 piece\t1\tjaw\tfirst\t680\t830\t0\t775
-piece\t2\tjaw\tlast\t420\t1170\t1\t525
+piece\t2\tjaw\tlast\t420\t1170\t26\t525
 piece\t2\tcutter\twhole\t1100\t2000\t0\t1165
 piece\t2\tregister\twhole\t150\t1000\t50\t205
 "

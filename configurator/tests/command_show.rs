@@ -52,7 +52,7 @@ core 2: 3 pieces
 
 core 3: 6 pieces
   task           part          kind   budget  window  period  jitter  charged
-  jaw-cross      servo-1ms     last      160     685    1000       1      265
+  jaw-cross      servo-1ms     last      160     685    1000      26      265
   mark-register  mark-eye      whole     150     600    4000      50      205
   heater-upper   seal-heater   whole    1900   10000   10000       0     1985
   heater-lower   seal-heater   whole    1900   10000   10000       0     1985
@@ -62,7 +62,7 @@ core 3: 6 pieces
 split: 1 task
   task       kind   core  budget  window  jitter  charged
   jaw-cross  first     2     150     315       0      245
-  jaw-cross  last      3     160     685       1      265
+  jaw-cross  last      3     160     685      26      265
 "
     );
     assert_fits(&shown);

@@ -62,7 +62,7 @@ core 2 passes
   with blocking 25: total 315, slack 0
 
 core 3 passes
-  nearest to its limit within 684 us: 600 asked for, 84 to spare
+  nearest to its limit within 659 us: 600 asked for, 59 to spare
   task           kind   jobs due  demand  interrupts
   jaw-cross      last          1     265          30
   mark-register  whole         1     205          15
@@ -70,7 +70,7 @@ core 3 passes
   heater-lower   whole         0       0          15
   panel          whole         0       0          15
   reject         whole         0       0          15
-  with blocking 25: total 600, slack 84
+  with blocking 25: total 600, slack 59
 "
     );
     let parts: Vec<&str> = all.split("\n\n").collect();

@@ -64,7 +64,7 @@ fn stated_scripts() {
         }
     }
     println!("{compared} compared");
-    assert_eq!(compared, 61);
+    assert_eq!(compared, 68);
 }
 
 /// Scripts of 1 to 60 edits over light, heavy and nearly full sheets.

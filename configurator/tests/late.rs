@@ -53,10 +53,11 @@ fn without_costs_as_before() {
 }
 
 /// The nine costs of a sheet, by its text.
-fn costs(sheet: &str) -> Vec<u64> {
+fn costs(sheet: &str) -> [u64; 9] {
     let line = sheet.lines().nth(1).unwrap();
     let numbers = line.split('\t').skip(1);
-    numbers.map(|number| number.parse().unwrap()).collect()
+    let costs: Vec<u64> = numbers.map(|number| number.parse().unwrap()).collect();
+    costs.try_into().unwrap()
 }
 
 /// The jitter of each task, by its name.
@@ -70,9 +71,7 @@ fn jitters(sheet: &str) -> BTreeMap<&str, &str> {
 /// Holds each piece's jitter in a listing to the sheet. Gives back how many last pieces there are, and
 /// the jitter that each of them has.
 fn held(sheet: &str, listing: &str) -> (u64, u64) {
-    let [relo, _, tseto, ipb, .., pi] = costs(sheet)[..] else {
-        panic!("nine costs")
-    };
+    let [relo, _, tseto, ipb, _, _, _, _, pi] = costs(sheet);
     let late = pi + ipb + relo + tseto;
     let tasks = jitters(sheet);
     let mut lasts = 0;
@@ -89,27 +88,39 @@ fn held(sheet: &str, listing: &str) -> (u64, u64) {
     (lasts, late)
 }
 
-/// Random sheets with costs, some so large that a last piece is late by more than any one constant can
-/// be: the jitters that the library lists are those that the sheet says, and the listing is the
-/// oracle's.
+/// A sheet whose last piece is late by more than any one constant can be.
+const LATE: &str = "machine\t2\t10000
+cost\t100000\t0\t10000\t10000\t0\t0\t0\t0\t100000
+part\ta\t500000\t1000000\t1000000\t0\t0\t0
+part\tb\t400000\t1000000\t1000000\t0\t0\t0
+fit\tpress\ta
+fit\tfeed\tb
+";
+
+/// Random sheets with costs, small and large, and one with the largest: the jitters that the library
+/// lists are those that the sheet says, and the listing is the oracle's.
 #[test]
 fn jitters_by_the_sheet() {
     let mut random = Random::for_test();
     let mut tally = Tally::default();
-    let (mut lasts, mut most) = (0, 0);
+    let mut lasts = 0;
+    let mut most = 0;
+    let mut compare = |sheet: &[u8]| {
+        if let Ok(listing) = tally.sheet(sheet, Way::Stretches) {
+            let (some, late) = held(&shown(sheet), &shown(&listing));
+            lasts += some;
+            most = most.max(if some > 0 { late } else { 0 });
+        }
+    };
     let large = (SheetDraw::new(8, 1_000_000, 60_000, 100_000), 10_000);
     for (draw, grain) in LONG.into_iter().chain([large; 3]) {
         for _ in 0..rounds(150) {
-            let sheet = draw.with_grain(grain, &mut random);
-            if let Ok(listing) = tally.sheet(&sheet, Way::Stretches) {
-                let (some, late) = held(&shown(&sheet), &shown(&listing));
-                lasts += some;
-                most = most.max(if some > 0 { late } else { 0 });
-            }
+            compare(&draw.with_grain(grain, &mut random));
         }
     }
+    compare(LATE.as_bytes());
     println!("{tally}; {lasts} last pieces, late by up to {most}");
-    assert!(lasts > 300 && most > 100_000 && most <= 400_000);
+    assert!(lasts > 300 && (220_000..=400_000).contains(&most));
 }
 
 /// One tick more of one constant makes the last piece of the film line later by one, if it is RelO,
@@ -124,7 +135,7 @@ fn each_constant() {
         format!("cost\t{}", numbers.join("\t"))
     };
     for (place, counts) in [1, 0, 1, 1, 0, 0, 0, 0, 1].into_iter().enumerate() {
-        let mut more = before.clone();
+        let mut more = before;
         more[place] += 1;
         let sheet = sheet.replace(&line(&before), &line(&more));
         let listing = shown(&plan(sheet.as_bytes()).unwrap().unwrap());

@@ -120,7 +120,7 @@ fn pieces_have_their_periods_and_jitters() {
             "160",
             "685",
             "1000",
-            "1",
+            "26",
             "265",
         ],
     ] {

@@ -40,8 +40,9 @@ FILE stands for the name of the sheet.
 const BELOW: &str = "
 The task jaw has no room as a whole on core 1. So it begins there, stops when
 its budget is used up, and goes on at core 2: a first piece and a last piece.
-Each piece ends within its window. The charged time is the budget with what
-the costs, P and M add to it.
+Each piece ends within its window. The last piece may come late by its jitter,
+which is π + IpB + RelO + TsetO. The charged time is the budget with what the
+costs, P and M add to it.
 
 Now put in the numbers of your own machine, a line at a time:
 
