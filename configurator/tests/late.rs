@@ -97,8 +97,8 @@ fit\tpress\ta
 fit\tfeed\tb
 ";
 
-/// Random sheets with costs, small and large, and one with the largest: the jitters that the library
-/// lists are those that the sheet says, and the listing is the oracle's.
+/// Random sheets with costs, small and large, and one whose last piece is late by 220,000: the jitters
+/// that the library lists are those that the sheet says, and the listing is the oracle's.
 #[test]
 fn jitters_by_the_sheet() {
     let mut random = Random::for_test();

@@ -127,6 +127,10 @@ fn pieces_have_their_periods_and_jitters() {
         assert_eq!(page.matches(&row(fields)).count(), 1, "{fields:?}");
     }
     assert!(page.contains("<span>Core 3: 6 pieces</span>"));
+    let late = "A last piece may come late by its jitter, which is π + IpB + RelO + TsetO.";
+    assert!(page.contains(late));
+    let (_, unsplit) = example(&folder("page-unsplit"), "labeller", 0);
+    assert!(!unsplit.contains(late));
 }
 
 /// Bars are to scale: on one axis, as long as their windows, filled as far as their budgets, and below

@@ -204,6 +204,11 @@ fn splits(body: &mut String, listing: &Listing, unit: &str) {
     let groups = rows.chunks(2).map(|rows| Group::untitled(rows.to_vec()));
     let groups: Vec<Group> = groups.collect();
     section(body, "Split tasks", unit, &show::HALF, &groups);
+    if !groups.is_empty() {
+        body.push_str(
+            "<p class=\"note\">A last piece may come late by its jitter, which is π + IpB + RelO + TsetO.</p>\n",
+        );
+    }
 }
 
 /// The sheet's tasks, each with its part's times and where it is placed.

@@ -10,7 +10,7 @@ use Rattle.demand.specs.Verdict.{verdict, verdictOf}
 use Rattle.demand.specs.Split.{lateJitter, pieceOf, firstPiece, lastPiece, tightFirst, bothPass, greatestSplit}
 use Rattle.demand.specs.Answer.{checkRun}
 use Rattle.demand.specs.Cases.{piece, whole, costs, right, wrong, rows}
-use Rattle.demand.specs.Worked.{paid, cached, onlyCost, everyCost, late, often, blocked, chargeRows, blockingRows, splitRows, sizeRows}
+use Rattle.demand.specs.Worked.{paid, distinct, cached, onlyCost, everyCost, late, often, blocked, chargeRows, blockingRows, splitRows, sizeRows}
 
 pub cases-hold : wrong rows ≡ []
 unfolding piece whole costs right wrong rows charge ipiCost charged coreOf stall ceil jobsDue interrupts blocking load demand leastLive
@@ -18,7 +18,7 @@ unfolding piece whole costs right wrong rows charge ipiCost charged coreOf stall
 cases-hold = refl
 
 pub worked-hold : (wrong chargeRows ≡ []) × (wrong blockingRows ≡ []) × (wrong splitRows ≡ []) × (wrong sizeRows ≡ [])
-unfolding paid cached onlyCost everyCost late often blocked chargeRows blockingRows splitRows sizeRows piece whole right wrong sized sizedCosts
+unfolding paid distinct cached onlyCost everyCost late often blocked chargeRows blockingRows splitRows sizeRows piece whole right wrong sized sizedCosts
     charge ipiCost charged coreOf stall ceil jobsDue interrupts blocking load demand leastLive leastHolding busyLoad busySum busyLength
     tightSum tightWindow verdict verdictOf lateJitter pieceOf firstPiece lastPiece tightFirst bothPass greatestSplit checkRun
 worked-hold = (refl, refl, refl, refl)

@@ -1,7 +1,8 @@
--- The table H: figures for what K1 to K11 have not, worked out by hand from document 01 and held to the oracle, so that a slip in a definition is seen.
+-- The table H: figures for what K1 to K11 have not, worked out by hand from documents 01 and 02 and held to the oracle, so that a slip in a definition is seen.
 -- A comment says how each figure comes about. `proofs/Cases.antt` has that every row holds.
 --
 --   paid p             RelO 2, SchedO 3, TsetO 1, IpB 3, BetO 2, MigrO 1, IpiO 5, IpiJ 7, and π = p; so b = max(3, 3 + 1) = 4, RelO + TsetO = 3
+--   distinct p         nine constants of which no two are equal: RelO 2, SchedO 5, TsetO 1, IpB 8, BetO 3, MigrO 4, IpiO 6, IpiJ 7, and π = p; so b = 8
 --   cached k x d t j p m   a piece with all its numbers
 --   onlyCost i v       the i-th cost v, the others 0
 --   chargeRows, blockingRows, splitRows, sizeRows   the table, in four parts
@@ -21,6 +22,9 @@ use Rattle.demand.specs.Cases.{Row, says, busy, asks, tight, charges, sp
 
 unfoldable pub paid : ℕ → Costs
 paid p = record { relo = 2; schedo = 3; tseto = 1; ipb = 3; beto = 2; migro = 1; ipio = 5; ipij = 7; precision = p }
+
+unfoldable pub distinct : ℕ → Costs
+distinct p = record { relo = 2; schedo = 5; tseto = 1; ipb = 8; beto = 3; migro = 4; ipio = 6; ipij = 7; precision = p }
 
 unfoldable pub cached : Kind → ℕ → ℕ → ℕ → ℕ → ℕ → ℕ → Piece
 cached k x d t j p m = record { kind = k; budget = x; window = d; period = t; jitter = j; preempt = p; migrate = m }
@@ -95,11 +99,15 @@ blockingRows =
 -- J 5 and t = 52: b 4, C' 20, releases ⌈52/20⌉·3 + ⌈58/48⌉·3 + ⌈57/100⌉·3, IPIs ⌈59/48⌉·5, which is 4 + 20 + 9 + 6 + 3 + 10 = 52
 -- x = 10, J 10: C' 10 + 7 + 1 + 6 = 24, t = 34 = 4 + 24 + 3 + 3, window 44; then g(61) = 28 + 24 + 2·3 + 3 = 61, and with x = 15 it is 66.
 -- The last piece has 41 in 73, C' 41 + 7 + 1 + 3 = 52: with J = π + 3 + 2 + 1 its first job is due at 67 − π, and asks for 4 + 52 + 3 + 5 = 64. π 3 leaves 64.
+-- 5 left of 30: C' of 25 is 25 + 10 + 1 + 2 + 15 = 53, t = 64 = 8 + 53 + 3; the last piece has 5 in 56, C' 5 + 10 + 1 + 2 + 1 = 19, and with J = π + 8 + 2 + 1
+-- it is due at 45 − π, where it asks for 8 + 19 + 3 + 6 = 36. π 9 leaves 36; with π 10 each other x lacks 1 too, since 5 less of it are 5 more there.
 unfoldable pub splitRows : List Row
 splitRows =
     tight 6 (paid 6) (often ∷ cached Last 3 40 48 6 2 3 ∷ []) (cached First 5 100 100 5 2 3) 57
     ∷ splits 7 (paid 3) 5 (cached Whole 19 60 60 0 2 0 ∷ []) (cached Whole 51 117 130 10 1 3) (Cut 10 44)
     ∷ splits 7 (paid 4) 5 (cached Whole 19 60 60 0 2 0 ∷ []) (cached Whole 51 117 130 10 1 3) Nowhere
+    ∷ splits 7 (distinct 9) 5 [] (cached Whole 30 120 140 0 2 1) (Cut 25 64)
+    ∷ splits 7 (distinct 10) 5 [] (cached Whole 30 120 140 0 2 1) Nowhere
     -- x is below C: 3 in 3 would pass too, with nothing left
     ∷ splits 7 noCosts 1 [] (whole 3 5 10) (Cut 2 2)
     ∷ []

@@ -9,7 +9,7 @@ ghost use mathlib.Core.Path.{_≡_};
 ghost use Rattle.demand.specs.Sizes.{SizedCosts};
 ghost use Rattle.demand.specs.Split.{lateJitter, pieceOf, firstPiece, lastPiece};
 
-// A piece that came from elsewhere waits for a clock read to within π, and then for the release interrupt handler.
+// A piece that came from elsewhere is released by a clock that is read to within π, once the release of its task's first piece is handled.
 fn late_within(costs: Costs) -> u64
     requires { ⌜ SizedCosts costs ⌝ }
     ensures { λ r. ⌜ r ≡ lateJitter costs ⌝ }

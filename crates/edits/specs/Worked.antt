@@ -1,4 +1,4 @@
--- The table H for plans and edits, beside that of crate `demand`: worked out by hand from document 01 and held to the oracle, so that a slip in a
+-- The table H for plans and edits, beside that of crate `demand`: worked out by hand from documents 01 and 02 and held to the oracle, so that a slip in a
 -- definition is seen. An answer is the refusal's number and what it carries, or 0 and 0, and then the pieces of the first two cores: core, task,
 -- kind (0 whole, 1 first, 2 last), budget, window, jitter. `proofs/Worked.antt` has that every row holds.
 --

@@ -43,7 +43,7 @@
 --   packing-one, walk-order         it is the only order that is so, and the walk goes over the tasks in it
 --   walk-promised                   what a walk that ends well placed: every task, budgets and windows adding up, a last piece late by π + IpB + RelO + TsetO, on the
 --                                   machine's cores, every core passing
---   late-bounded                    no piece is late by more than four constants can be, which is less than a time may be
+--   late-bounded                    and that is at most what four constants may be, which is less than a time may be
 --   sheet-sane, sheet-walks         what a sheet says breaks no rule of a state, and where a listing is written the walk over it ends well
 --   sheet-promised                  and placed so
 --   told-apart                      sheets with one listing place the same names alike
@@ -118,12 +118,12 @@ use Rattle.demand.specs.Busy.{busySum}
 use Rattle.demand.specs.Verdict.{Judged, Means, Bounded, KeepsUp, verdictOf}
 use Rattle.demand.specs.Why.{LeastSlack, askSum, shownAt, shownOf}
 use Rattle.demand.proofs.WhyLaws.{shown-verdict, shown-adds, shown-overloaded, shown-passes, shown-undecided, shown-empty}
-use Rattle.demand.specs.Split.{lateJitter, Splits, greatestSplit, passes as passing}
+use Rattle.demand.specs.Split.{Splits, greatestSplit, passes as passing}
 use Rattle.demand.specs.Answer.{answerOf, splitOf}
 use Rattle.demand.specs.Tables.{Not, Gives, Kept}
 use Rattle.demand.specs.Refusals.{recordTable, Refuses}
 use Rattle.demand.proofs.SizeLaws.{costs-exact}
-use Rattle.demand.proofs.ChargeLaws.{late-jitter-most}
+use Rattle.demand.proofs.ChargeLaws.{late-jitter-is, late-jitter-most}
 use Rattle.demand.proofs.Judgement.{verdict-exact, overloaded-live}
 use Rattle.demand.proofs.SplitLaws.{passes-exact, split-exact}
 use Rattle.demand.proofs.RefusalLaws.{answer-refused, split-refused as split-denied}
@@ -441,9 +441,9 @@ walk-promised m c n ts sane s l so =
       within = plan-counts m c n ts good s l so .cores;
     }
 
--- 400,000 against 1,000,000
-pub late-bounded : (c : Costs) → (lateJitter c ≤ 4 * costMost) × (4 * costMost < timeMost)
-late-bounded c = (late-jitter-most c, omega arith)
+-- 400,000 and 1,000,000
+pub late-bounded : (c : Costs) → SizedCosts c → (c .precision + c .ipb + c .relo + c .tseto ≤ 4 * costMost) × (4 * costMost < timeMost)
+late-bounded c costs = (subst (λ (j : ℕ). j ≤ 4 * costMost) (late-jitter-is c costs) (late-jitter-most c), omega arith)
 
 -- so of a sheet whose listing is written: `textOf` prints what its walk placed
 pub sheet-promised : (sheet : List ℕ) (room : ℕ) → Kept (sheetTable sheet room) → Promised (machineIn sheet) (costsIn sheet) (tasksIn sheet) (placedOf sheet)
