@@ -30,13 +30,13 @@ use Rattle.demand.specs.declared.Check.{Check}
 use Rattle.demand.specs.declared.Check.TheVariants.{Fine, Bad}
 use Rattle.demand.specs.declared.Answer.{Answer}
 use Rattle.demand.specs.declared.Answer.TheVariants.{Judged, Refused}
-use Rattle.demand.specs.Sizes.{timeMost, runMost, lengthMost, Sized, Each, sized, sizedCosts}
+use Rattle.demand.specs.Sizes.{time_most, run_most, length_most, Sized, Each, sized, sized_costs}
 use Rattle.demand.specs.Charge.{charged, core_of, stall}
 use Rattle.demand.specs.Demand.{Live}
 use Rattle.demand.specs.Busy.{Least}
-use Rattle.demand.specs.Verdict.{Means, Bounded, KeepsUp, verdictOf}
-use Rattle.demand.specs.Answer.{Taken, firstBad, badRecord, checkRun, answer_of, splitted, splitOf, told}
-use Rattle.demand.specs.Split.{Splits, greatestSplit}
+use Rattle.demand.specs.Verdict.{Means, Bounded, KeepsUp, verdict_of}
+use Rattle.demand.specs.Answer.{Taken, first_bad, bad_record, check_run, answer_of, splitted, split_of, told}
+use Rattle.demand.specs.Split.{Splits, greatest_split}
 use Rattle.demand.proofs.DemandLaws.{jobs-due-some}
 use Rattle.demand.proofs.BusyLaws.{least-le}
 use Rattle.demand.proofs.RunLaws.{check-taken, taken-check, taken-answer, answer-fine, answer-bad, split-fine, split-bad}
@@ -46,18 +46,18 @@ use Rattle.demand.proofs.Judgement.{verdict-exact, passes-means}
 -- ---- in both directions
 
 module _ (c : Costs) (n : ℕ) (ps : List Piece) where
-  pub answer-judged : (v : Verdict) → (answer_of c n ps ≡ Judged v) ↔ (Taken c n ps × (verdictOf c (take n ps) ≡ v))
-  answer-judged v = ((λ is. by is (checkRun c n ps) refl), λ h. taken-answer c n ps h.0 ∙ ap (λ (w : Verdict). Judged w) h.1)
+  pub answer-judged : (v : Verdict) → (answer_of c n ps ≡ Judged v) ↔ (Taken c n ps × (verdict_of c (take n ps) ≡ v))
+  answer-judged v = ((λ is. by is (check_run c n ps) refl), λ h. taken-answer c n ps h.0 ∙ ap (λ (w : Verdict). Judged w) h.1)
     where
-      by : answer_of c n ps ≡ Judged v → (k : Check) → checkRun c n ps ≡ k → Taken c n ps × (verdictOf c (take n ps) ≡ v)
+      by : answer_of c n ps ≡ Judged v → (k : Check) → check_run c n ps ≡ k → Taken c n ps × (verdict_of c (take n ps) ≡ v)
       by is Fine e = (
         check-taken c n ps e,
-        (let h : Judged (verdictOf c (take n ps)) ≡ Judged v = sym (answer-fine c n ps e) ∙ is in cc),
+        (let h : Judged (verdict_of c (take n ps)) ≡ Judged v = sym (answer-fine c n ps e) ∙ is in cc),
       )
       by is (Bad r) e = let h : Refused r ≡ Judged v = sym (answer-bad c n ps r e) ∙ is in let z : ◌≡◌ {A = ℕ} 0 1 = cc in absurd (omega arith)
 
   -- a verdict by its meaning
-  meaning : (v : Verdict) (M : Type 0) → (Each Sized (take n ps) → (verdictOf c (take n ps) ≡ v) ↔ M) → (answer_of c n ps ≡ Judged v) ↔ (Taken c n ps × M)
+  meaning : (v : Verdict) (M : Type 0) → (Each Sized (take n ps) → (verdict_of c (take n ps) ≡ v) ↔ M) → (answer_of c n ps ≡ Judged v) ↔ (Taken c n ps × M)
   meaning v M means = (
     (λ is. (let h = (answer-judged v).0 is in (h.0, (means h.0.each).0 h.1))),
     λ h. (answer-judged v).1 (h.0, (means h.0.each).1 h.1),
@@ -81,20 +81,20 @@ module _ (c : Costs) (n : ℕ) (ps : List Piece) (p : Piece) (g : ℕ) where
   all : List Piece
   all = take n ps ++ (p ∷ [])
 
-  pub split-best : (s : Split) → (splitOf c n ps p g ≡ Best s) ↔ (Taken c (n + 1) (take n ps ++ (p ∷ [])) × Splits c g (take n ps) p s)
-  unfolding splitOf all
+  pub split-best : (s : Split) → (split_of c n ps p g ≡ Best s) ↔ (Taken c (n + 1) (take n ps ++ (p ∷ [])) × Splits c g (take n ps) p s)
+  unfolding split_of all
   split-best s = (
-    (λ is. by is (checkRun c (n + 1) all) refl),
-    λ h. ap (λ (k : Check). splitted k (greatestSplit c g (take n ps) p)) (taken-check c (n + 1) all h.0)
+    (λ is. by is (check_run c (n + 1) all) refl),
+    λ h. ap (λ (k : Check). splitted k (greatest_split c g (take n ps) p)) (taken-check c (n + 1) all h.0)
         ∙ ap (λ (z : Split). Best z) ((split-exact c g (take n ps) p s).1 h.1),
   )
     where
-      by : splitOf c n ps p g ≡ Best s → (k : Check) → checkRun c (n + 1) all ≡ k → Taken c (n + 1) all × Splits c g (take n ps) p s
+      by : split_of c n ps p g ≡ Best s → (k : Check) → check_run c (n + 1) all ≡ k → Taken c (n + 1) all × Splits c g (take n ps) p s
       by is Fine e =
-          let h : Best (greatestSplit c g (take n ps) p) ≡ Best s = split-fine (checkRun c (n + 1) all) (greatestSplit c g (take n ps) p) e ∙ is in
+          let h : Best (greatest_split c g (take n ps) p) ≡ Best s = split-fine (check_run c (n + 1) all) (greatest_split c g (take n ps) p) e ∙ is in
           (check-taken c (n + 1) all e, (split-exact c g (take n ps) p s).0 (cc))
       by is (Bad r) e =
-          let h : Denied r ≡ Best s = split-bad (checkRun c (n + 1) all) (greatestSplit c g (take n ps) p) r e ∙ is in
+          let h : Denied r ≡ Best s = split-bad (check_run c (n + 1) all) (greatest_split c g (take n ps) p) r e ∙ is in
           let z : ◌≡◌ {A = ℕ} 0 1 = cc in absurd (omega arith)
 
 -- ---- an overloaded length
@@ -108,65 +108,65 @@ none-starts : (t : ℕ) → Live [] t → ⊥
 unfolding Live
 none-starts t live = live
 
-pub start-within : (c : Costs) (ps : List Piece) → Each Sized ps → (t₀ : ℕ) → Least (Live (core_of c ps)) t₀ → t₀ ≤ timeMost
+pub start-within : (c : Costs) (ps : List Piece) → Each Sized ps → (t₀ : ℕ) → Least (Live (core_of c ps)) t₀ → t₀ ≤ time_most
 unfolding core_of charged
 start-within c [] sizes t₀ start = absurd (none-starts t₀ start.here)
 start-within c (p ∷ ps) sizes t₀ start =
     omega (arith, least-le start p.window (first_live (charged c p) (core_of c ps)), sizes.0.window-fits, sizes.0.period-fits)
 
-pub overloaded-within : (c : Costs) (ps : List Piece) → Each Sized ps → (t : ℕ) → verdictOf c ps ≡ Overloaded t → t ≤ lengthMost
+pub overloaded-within : (c : Costs) (ps : List Piece) → Each Sized ps → (t : ℕ) → verdict_of c ps ≡ Overloaded t → t ≤ length_most
 overloaded-within c ps sizes t e =
     let span = (verdict-exact c ps (Overloaded t)).0 e in
     omega (arith, start-within c ps sizes span.0 span.2.start, span.2.within, span.3.below)
 
 -- ---- a record's place
 
-pub first-bad-within : (k : ℕ) (ps : List Piece) → firstBad k ps ≤ k + length ps
+pub first-bad-within : (k : ℕ) (ps : List Piece) → first_bad k ps ≤ k + length ps
 first-bad-within k [] = omega arith
 first-bad-within k (p ∷ ps) = look (sized p) (first-bad-within (k + 1) ps)
   where
-    look : (b : Bool) → firstBad (k + 1) ps ≤ k + 1 + length ps → cond b (firstBad (k + 1) ps) k ≤ k + length (p ∷ ps)
+    look : (b : Bool) → first_bad (k + 1) ps ≤ k + 1 + length ps → cond b (first_bad (k + 1) ps) k ≤ k + length (p ∷ ps)
     look true more = omega arith
     look false more = omega arith
 
-bad-record-is : (k m : ℕ) → badRecord m ≡ Bad (BadRecord k) → k ≡ m
+bad-record-is : (k m : ℕ) → bad_record m ≡ Bad (BadRecord k) → k ≡ m
 bad-record-is k zero e = let z : ◌≡◌ {A = ℕ} 0 1 = cc in absurd (omega arith)
 bad-record-is k (suc m) e = cc
 
-bad-within : (c : Costs) (n : ℕ) (ps : List Piece) (k : ℕ) → checkRun c n ps ≡ Bad (BadRecord k) → k ≤ lengthMost
-unfolding checkRun
-bad-within c n ps k e = few (leb n runMost) refl e
+bad-within : (c : Costs) (n : ℕ) (ps : List Piece) (k : ℕ) → check_run c n ps ≡ Bad (BadRecord k) → k ≤ length_most
+unfolding check_run
+bad-within c n ps k e = few (leb n run_most) refl e
   where
-    place : n ≤ runMost → badRecord (firstBad 1 (take n ps)) ≡ Bad (BadRecord k) → k ≤ lengthMost
-    place h f = omega (arith, bad-record-is k (firstBad 1 (take n ps)) f, first-bad-within 1 (take n ps), length-take n ps)
+    place : n ≤ run_most → bad_record (first_bad 1 (take n ps)) ≡ Bad (BadRecord k) → k ≤ length_most
+    place h f = omega (arith, bad-record-is k (first_bad 1 (take n ps)) f, first-bad-within 1 (take n ps), length-take n ps)
 
-    fine : (b : Bool) → n ≤ runMost → cond b (badRecord (firstBad 1 (take n ps))) (Bad BadCosts) ≡ Bad (BadRecord k) → k ≤ lengthMost
+    fine : (b : Bool) → n ≤ run_most → cond b (bad_record (first_bad 1 (take n ps))) (Bad BadCosts) ≡ Bad (BadRecord k) → k ≤ length_most
     fine true h f = place h f
     fine false h f = let z : ◌≡◌ {A = ℕ} 0 1 = cc in absurd (omega arith)
 
-    few : (b : Bool) → leb n runMost ≡ b → cond b (cond (sizedCosts c) (badRecord (firstBad 1 (take n ps))) (Bad BadCosts)) (Bad TooMany)
-        ≡ Bad (BadRecord k) → k ≤ lengthMost
-    few true h f = fine (sizedCosts c) (leb-true n runMost h) f
+    few : (b : Bool) → leb n run_most ≡ b → cond b (cond (sized_costs c) (bad_record (first_bad 1 (take n ps))) (Bad BadCosts)) (Bad TooMany)
+        ≡ Bad (BadRecord k) → k ≤ length_most
+    few true h f = fine (sized_costs c) (leb-true n run_most h) f
     few false h f = let z : ◌≡◌ {A = ℕ} 0 1 = cc in absurd (omega arith)
 
 -- ---- an answer
 
-pub answer-carries : (c : Costs) (n : ℕ) (ps : List Piece) → (told (answer_of c n ps)).carries ≤ lengthMost
-answer-carries c n ps = look (checkRun c n ps) refl
+pub answer-carries : (c : Costs) (n : ℕ) (ps : List Piece) → (told (answer_of c n ps)).carries ≤ length_most
+answer-carries c n ps = look (check_run c n ps) refl
   where
-    when : (a : Answer) → answer_of c n ps ≡ a → (told a).carries ≤ lengthMost → (told (answer_of c n ps)).carries ≤ lengthMost
+    when : (a : Answer) → answer_of c n ps ≡ a → (told a).carries ≤ length_most → (told (answer_of c n ps)).carries ≤ length_most
     when a e fits = rw e fits
 
-    judged : Each Sized (take n ps) → (v : Verdict) → verdictOf c (take n ps) ≡ v → (told (Judged v)).carries ≤ lengthMost
+    judged : Each Sized (take n ps) → (v : Verdict) → verdict_of c (take n ps) ≡ v → (told (Judged v)).carries ≤ length_most
     judged sizes Passes e = omega arith
     judged sizes (Overloaded t) e = overloaded-within c (take n ps) sizes t e
     judged sizes Undecided e = omega arith
 
-    refused : (r : Refusal) → checkRun c n ps ≡ Bad r → (told (Refused r)).carries ≤ lengthMost
+    refused : (r : Refusal) → check_run c n ps ≡ Bad r → (told (Refused r)).carries ≤ length_most
     refused TooMany e = omega arith
     refused BadCosts e = omega arith
     refused (BadRecord k) e = bad-within c n ps k e
 
-    look : (k : Check) → checkRun c n ps ≡ k → (told (answer_of c n ps)).carries ≤ lengthMost
-    look Fine e = when (Judged (verdictOf c (take n ps))) (answer-fine c n ps e) (judged (check-taken c n ps e).each (verdictOf c (take n ps)) refl)
+    look : (k : Check) → check_run c n ps ≡ k → (told (answer_of c n ps)).carries ≤ length_most
+    look Fine e = when (Judged (verdict_of c (take n ps))) (answer-fine c n ps e) (judged (check-taken c n ps e).each (verdict_of c (take n ps)) refl)
     look (Bad r) e = when (Refused r) (answer-bad c n ps r e) (refused r e)

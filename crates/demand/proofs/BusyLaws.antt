@@ -3,7 +3,7 @@
 --
 --   least-le, least-unique        a least number is below all others, and one
 --   clear-one, clear_step         a climb passes nothing over
---   least-holding-finds           `leastHolding` finds it
+--   least-holding-finds           `least_holding` finds it
 --   finds-unique                  what is found is one
 --   busy-length-is, -within       what holds the busy sum least is the busy length, within the limit
 --   busy-found, -nothing          how a climb to it ends
@@ -19,9 +19,9 @@ use lib.Dec.{leb}
 use Rattle.demand.specs.declared.Charged.{Charged}
 use Rattle.demand.specs.declared.Found.{Found}
 use Rattle.demand.specs.declared.Found.TheVariants.{At, Nothing}
-use Rattle.demand.specs.Sizes.{busyMost}
-use Rattle.demand.specs.Busy.{Least, Finds, Clear, climbing, leastHolding, busyLoad, busySum, busyLength, tightWindow}
-use Rattle.demand.specs.Answer.{tightOfLast}
+use Rattle.demand.specs.Sizes.{busy_most}
+use Rattle.demand.specs.Busy.{Least, Finds, Clear, climbing, least_holding, busy_load, busy_sum, busy_length, tight_window}
+use Rattle.demand.specs.Answer.{tight_of_last}
 use Rattle.demand.proofs.Sums.{total_mono}
 use Rattle.demand.proofs.DemandLaws.{busy-load-mono}
 
@@ -59,43 +59,43 @@ module _ (f : ℕ → ℕ) (mono : (m n : ℕ) → m ≤ n → f m ≤ f n) wher
       outer true e more = inner (leb (f n) n) refl (leb-true n top e) more
       outer false e more = λ k h p. clear k (omega (arith, leb-false n top e)) p
 
-  pub least-holding-finds : (top : ℕ) → Finds f top (leastHolding f top)
-  unfolding leastHolding
+  pub least-holding-finds : (top : ℕ) → Finds f top (least_holding f top)
+  unfolding least_holding
   least-holding-finds top = climbing-finds top (suc top) 1 (omega arith) (clear-one f) (omega arith)
 
-  pub least-holding-is : (top : ℕ) (r : Found) → Finds f top r → r ≡ leastHolding f top
-  least-holding-is top r found = finds-unique f top r (leastHolding f top) found (least-holding-finds top)
+  pub least-holding-is : (top : ℕ) (r : Found) → Finds f top r → r ≡ least_holding f top
+  least-holding-is top r found = finds-unique f top r (least_holding f top) found (least-holding-finds top)
 
-  pub found_within : (top n : ℕ) → leastHolding f top ≡ At n → n ≤ top
+  pub found_within : (top n : ℕ) → least_holding f top ≡ At n → n ≤ top
   found_within top n e = (subst (λ (r : Found). Finds f top r) e (least-holding-finds top)).1
 
-pub busy-sum-mono : (qs : List Charged) (m n : ℕ) → m ≤ n → busySum qs m ≤ busySum qs n
-unfolding busySum
-busy-sum-mono qs m n h = total_mono (busyLoad m) (busyLoad n) (λ q. busy-load-mono q h) qs
+pub busy-sum-mono : (qs : List Charged) (m n : ℕ) → m ≤ n → busy_sum qs m ≤ busy_sum qs n
+unfolding busy_sum
+busy-sum-mono qs m n h = total_mono (busy_load m) (busy_load n) (λ q. busy-load-mono q h) qs
 
-pub busy-length-finds : (qs : List Charged) → Finds (busySum qs) busyMost (busyLength qs)
-unfolding busyLength
-busy-length-finds qs = least-holding-finds (busySum qs) (busy-sum-mono qs) busyMost
+pub busy-length-finds : (qs : List Charged) → Finds (busy_sum qs) busy_most (busy_length qs)
+unfolding busy_length
+busy-length-finds qs = least-holding-finds (busy_sum qs) (busy-sum-mono qs) busy_most
 
-pub busy-length-is : (qs : List Charged) (r : Found) → Finds (busySum qs) busyMost r → r ≡ busyLength qs
-busy-length-is qs r found = finds-unique (busySum qs) busyMost r (busyLength qs) found (busy-length-finds qs)
+pub busy-length-is : (qs : List Charged) (r : Found) → Finds (busy_sum qs) busy_most r → r ≡ busy_length qs
+busy-length-is qs r found = finds-unique (busy_sum qs) busy_most r (busy_length qs) found (busy-length-finds qs)
 
-pub busy-found : (qs : List Charged) (l : ℕ) → 1 ≤ l → l ≤ busyMost → busySum qs l ≤ l → Clear (busySum qs) l → At l ≡ busyLength qs
+pub busy-found : (qs : List Charged) (l : ℕ) → 1 ≤ l → l ≤ busy_most → busy_sum qs l ≤ l → Clear (busy_sum qs) l → At l ≡ busy_length qs
 busy-found qs l some near fits clear =
     busy-length-is qs (At l) (record { here = record { some = some; fits = fits }; none_below = clear }, near)
 
-pub busy-nothing : (qs : List Charged) (l : ℕ) → busyMost < l → Clear (busySum qs) l → Nothing ≡ busyLength qs
+pub busy-nothing : (qs : List Charged) (l : ℕ) → busy_most < l → Clear (busy_sum qs) l → Nothing ≡ busy_length qs
 busy-nothing qs l past clear = busy-length-is qs Nothing (λ k h p. clear k (omega arith) p)
 
-pub busy-length-within : (qs : List Charged) (l : ℕ) → busyLength qs ≡ At l → l ≤ busyMost
-busy-length-within qs l e = (subst (λ (r : Found). Finds (busySum qs) busyMost r) e (busy-length-finds qs)).1
+pub busy-length-within : (qs : List Charged) (l : ℕ) → busy_length qs ≡ At l → l ≤ busy_most
+busy-length-within qs l e = (subst (λ (r : Found). Finds (busy_sum qs) busy_most r) e (busy-length-finds qs)).1
 
-pub busy-length-some : (qs : List Charged) (l : ℕ) → busyLength qs ≡ At l → 1 ≤ l
-busy-length-some qs l e = (subst (λ (r : Found). Finds (busySum qs) busyMost r) e (busy-length-finds qs)).0.here.some
+pub busy-length-some : (qs : List Charged) (l : ℕ) → busy_length qs ≡ At l → 1 ≤ l
+busy-length-some qs l e = (subst (λ (r : Found). Finds (busy_sum qs) busy_most r) e (busy-length-finds qs)).0.here.some
 
 -- ---- the tight window
 
-pub tight-of-last : (b : ℕ) (all qs : List Charged) (q : Charged) → tightOfLast b all (qs ++ (q ∷ [])) ≡ tightWindow b all q q.window
+pub tight-of-last : (b : ℕ) (all qs : List Charged) (q : Charged) → tight_of_last b all (qs ++ (q ∷ [])) ≡ tight_window b all q q.window
 tight-of-last b all [] q = refl
 tight-of-last b all (p ∷ []) q = refl
 tight-of-last b all (p ∷ r ∷ qs) q = tight-of-last b all (r ∷ qs) q

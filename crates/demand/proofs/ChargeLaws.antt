@@ -21,11 +21,11 @@ use Rattle.demand.specs.Kinds.{departs, arrives}
 use Rattle.demand.specs.declared.Piece.{Piece}
 use Rattle.demand.specs.declared.Costs.{Costs}
 use Rattle.demand.specs.declared.Charged.{Charged}
-use Rattle.demand.specs.Sizes.{SizedCosts, Sized, Tells, Each, sized, sizedCosts, costMost, timeMost}
-use Rattle.demand.specs.ways.Ranges.{Countable, Ranged, countable, chargedWithin, noCharge, stallWithin, stallMost}
-use Rattle.demand.specs.Split.{lateJitter}
-use Rattle.demand.specs.Charge.{charge, stall, ipiCost, charged, core_of}
-use Rattle.demand.specs.Answer.{chargedTime}
+use Rattle.demand.specs.Sizes.{SizedCosts, Sized, Tells, Each, sized, sized_costs, cost_most, time_most}
+use Rattle.demand.specs.Ways.Ranges.{Countable, Ranged, countable, charged_within, no_charge, stall_within, stall_most}
+use Rattle.demand.specs.Split.{late_jitter}
+use Rattle.demand.specs.Charge.{charge, stall, ipi_cost, charged, core_of}
+use Rattle.demand.specs.Answer.{charged_time}
 use Rattle.demand.proofs.DemandLaws.{Recurs}
 use Rattle.demand.proofs.SizeLaws.{tells-sized, tells-costs, costs-exact, countable-is, sized-is, sized-costs-is}
 use Rattle.demand.proofs.Sums.{each_map, each-imp}
@@ -36,23 +36,23 @@ when-le false h = zero-le
 
 -- ---- the late jitter
 
-pub late-jitter-is : (c : Costs) → SizedCosts c → lateJitter c ≡ c.precision + c.ipb + c.relo + c.tseto
-unfolding lateJitter
+pub late-jitter-is : (c : Costs) → SizedCosts c → late_jitter c ≡ c.precision + c.ipb + c.relo + c.tseto
+unfolding late_jitter
 late-jitter-is c costs = rw ((costs-exact c).1 costs)
 
-pub late-jitter-none : (c : Costs) → sizedCosts c ≡ false → lateJitter c ≡ 0
-unfolding lateJitter
+pub late-jitter-none : (c : Costs) → sized_costs c ≡ false → late_jitter c ≡ 0
+unfolding late_jitter
 late-jitter-none c bad = rw bad
 
 -- whatever the costs are
-pub late-jitter-most : (c : Costs) → lateJitter c ≤ 4 * costMost
-late-jitter-most c = look (sizedCosts c) refl (tells-costs c)
+pub late-jitter-most : (c : Costs) → late_jitter c ≤ 4 * cost_most
+late-jitter-most c = look (sized_costs c) refl (tells-costs c)
   where
-    look : (b : Bool) → sizedCosts c ≡ b → Tells (SizedCosts c) b → lateJitter c ≤ 4 * costMost
+    look : (b : Bool) → sized_costs c ≡ b → Tells (SizedCosts c) b → late_jitter c ≤ 4 * cost_most
     look true told costs = omega (arith, late-jitter-is c costs, costs.precision-fits, costs.ipb-fits, costs.relo-fits, costs.tseto-fits)
     look false told bad = omega (arith, late-jitter-none c told)
 
-pub late-jitter-le : (c : Costs) → lateJitter c ≤ timeMost
+pub late-jitter-le : (c : Costs) → late_jitter c ≤ time_most
 late-jitter-le c = omega (arith, late-jitter-most c)
 
 -- ---- the charge
@@ -62,7 +62,7 @@ unfolding charged
 charged-recurs c p ok = record { again = ok.period-some }
 
 pub charged-ranged : (c : Costs) → SizedCosts c → (p : Piece) → Countable p → Ranged (charged c p)
-unfolding charged charge ipiCost
+unfolding charged charge ipi_cost
 charged-ranged c costs p ok = record {
   period-some = ok.period-some;
   period-fits = ok.period-fits;
@@ -107,50 +107,50 @@ all-countable ps ok = each-imp Sized Countable sized-countable ps ok
 pub all-recurs : (qs : List Charged) → Each Ranged qs → Each Recurs qs
 all-recurs qs ok = each-imp Ranged Recurs ranged-recurs qs ok
 
-pub charged-tells : (c : Costs) (p : Piece) (a b : Bool) → Tells (SizedCosts c) a → Tells (Sized p) b → chargedTime c p ≡ cond (a && b) (charge c p) 0
-unfolding chargedTime
+pub charged-tells : (c : Costs) (p : Piece) (a b : Bool) → Tells (SizedCosts c) a → Tells (Sized p) b → charged_time c p ≡ cond (a && b) (charge c p) 0
+unfolding charged_time
 charged-tells c p a b costs size = rw (sized-costs-is c a costs, sized-is p b size)
 
-pub charged-costs : (c : Costs) (p : Piece) → Tells (SizedCosts c) false → chargedTime c p ≡ 0
+pub charged-costs : (c : Costs) (p : Piece) → Tells (SizedCosts c) false → charged_time c p ≡ 0
 charged-costs c p costs = by (sized p) (tells-sized p)
   where
-    by : (b : Bool) → Tells (Sized p) b → chargedTime c p ≡ 0
+    by : (b : Bool) → Tells (Sized p) b → charged_time c p ≡ 0
     by b size = charged-tells c p false b costs size
 
-pub charged-time-is : (c : Costs) (p : Piece) → SizedCosts c → Sized p → chargedTime c p ≡ charge c p
+pub charged-time-is : (c : Costs) (p : Piece) → SizedCosts c → Sized p → charged_time c p ≡ charge c p
 charged-time-is c p costs size = charged-tells c p true true costs size
 
 -- ---- the total functions, where nothing is outside its range
 
-pub charged-within : (c : Costs) (p : Piece) → SizedCosts c → Countable p → chargedWithin c p ≡ charged c p
-unfolding chargedWithin
+pub charged-within : (c : Costs) (p : Piece) → SizedCosts c → Countable p → charged_within c p ≡ charged c p
+unfolding charged_within
 charged-within c p costs ok = rw ((costs-exact c).1 costs, sym (countable-is p true ok))
 
-pub charged-no-costs : (c : Costs) (p : Piece) → sizedCosts c ≡ false → chargedWithin c p ≡ noCharge
-unfolding chargedWithin
+pub charged-no-costs : (c : Costs) (p : Piece) → sized_costs c ≡ false → charged_within c p ≡ no_charge
+unfolding charged_within
 charged-no-costs c p bad = rw bad
 
-pub charged-no-piece : (c : Costs) (p : Piece) → countable p ≡ false → chargedWithin c p ≡ noCharge
-unfolding chargedWithin
-charged-no-piece c p bad = look (sizedCosts c)
+pub charged-no-piece : (c : Costs) (p : Piece) → countable p ≡ false → charged_within c p ≡ no_charge
+unfolding charged_within
+charged-no-piece c p bad = look (sized_costs c)
   where
-    look : (b : Bool) → cond (b && countable p) (charged c p) noCharge ≡ noCharge
+    look : (b : Bool) → cond (b && countable p) (charged c p) no_charge ≡ no_charge
     look true = rw bad
     look false = refl
 
-pub stall-no-costs : (c : Costs) → sizedCosts c ≡ false → stallWithin c ≡ 0
-unfolding stallWithin
+pub stall-no-costs : (c : Costs) → sized_costs c ≡ false → stall_within c ≡ 0
+unfolding stall_within
 stall-no-costs c bad = rw bad
 
-pub stall-within : (c : Costs) → SizedCosts c → stallWithin c ≡ stall c
-unfolding stallWithin
+pub stall-within : (c : Costs) → SizedCosts c → stall_within c ≡ stall c
+unfolding stall_within
 stall-within c costs = rw ((costs-exact c).1 costs)
 
-pub stall-le : (c : Costs) → stallWithin c ≤ stallMost
-unfolding stallWithin stall
-stall-le c = look (sizedCosts c) (tells-costs c)
+pub stall-le : (c : Costs) → stall_within c ≤ stall_most
+unfolding stall_within stall
+stall-le c = look (sized_costs c) (tells-costs c)
   where
-    look : (b : Bool) → Tells (SizedCosts c) b → cond b (stall c) 0 ≤ stallMost
+    look : (b : Bool) → Tells (SizedCosts c) b → cond b (stall c) 0 ≤ stall_most
     look true costs = omega (arith, costs.ipb-fits, costs.schedo-fits, costs.tseto-fits)
     look false bad = zero-le
 

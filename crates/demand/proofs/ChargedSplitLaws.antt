@@ -28,14 +28,14 @@ use Rattle.demand.specs.declared.Verdict.TheVariants.{Passes, Undecided}
 use Rattle.demand.specs.declared.Split.{Split}
 use Rattle.demand.specs.declared.Split.TheVariants.{Cut, Nowhere}
 use Rattle.demand.specs.Sizes.{SizedCosts, Sized, Each}
-use Rattle.demand.specs.ways.Ranges.{Countable, Ranged}
-use Rattle.demand.specs.Charge.{charge, charged, ipiCost, core_of, stall}
-use Rattle.demand.specs.Demand.{ceil, total, interrupts, largestWindow}
-use Rattle.demand.specs.Busy.{Least, Holds, Finds, leastHolding, busyLoad, busySum, later, tightSum, tightWindow}
-use Rattle.demand.specs.Verdict.{Means, verdict, verdictOf}
-use Rattle.demand.specs.Split.{piece_of, firstPiece, lastPiece, tightOn, Allowed, Candidate, Splits}
-use Rattle.demand.specs.Answer.{tightOfLast}
-use Rattle.demand.specs.ways.ChargedSplit.{NoneBetween, withFirst, lastAlone, tightBeside, Tight, Fits, NoneAbove, Chosen, TightIn}
+use Rattle.demand.specs.Ways.Ranges.{Countable, Ranged}
+use Rattle.demand.specs.Charge.{charge, charged, ipi_cost, core_of, stall}
+use Rattle.demand.specs.Demand.{ceil, total, interrupts, largest_window}
+use Rattle.demand.specs.Busy.{Least, Holds, Finds, least_holding, busy_load, busy_sum, later, tight_sum, tight_window}
+use Rattle.demand.specs.Verdict.{Means, verdict, verdict_of}
+use Rattle.demand.specs.Split.{piece_of, first_piece, last_piece, tight_on, Allowed, Candidate, Splits}
+use Rattle.demand.specs.Answer.{tight_of_last}
+use Rattle.demand.specs.Ways.ChargedSplit.{NoneBetween, with_first, last_alone, tight_beside, Tight, Fits, NoneAbove, Chosen, TightIn}
 use Rattle.demand.proofs.Sums.{total-snoc, each_snoc}
 use Rattle.demand.proofs.DemandLaws.{Recurs, interrupts-mono, interrupts-all-mono}
 use Rattle.demand.proofs.ChargeLaws.{charged-ranged, core-snoc, late-jitter-le}
@@ -44,8 +44,8 @@ use Rattle.demand.proofs.VerdictLaws.{verdict-means}
 
 -- ---- the two pieces
 
-pub first-countable : (p : Piece) (x w : ℕ) → Sized p → x ≤ p.budget → w ≤ p.window → Countable (firstPiece p x w)
-unfolding firstPiece piece_of
+pub first-countable : (p : Piece) (x w : ℕ) → Sized p → x ≤ p.budget → w ≤ p.window → Countable (first_piece p x w)
+unfolding first_piece piece_of
 first-countable p x w ok less room = record {
   budget-fits = omega arith;
   window-fits = omega arith;
@@ -56,8 +56,8 @@ first-countable p x w ok less room = record {
   migrate-fits = omega arith;
 }
 
-pub last-countable : (c : Costs) (p : Piece) (x w : ℕ) → SizedCosts c → Sized p → Countable (lastPiece c p x w)
-unfolding lastPiece piece_of
+pub last-countable : (c : Costs) (p : Piece) (x w : ℕ) → SizedCosts c → Sized p → Countable (last_piece c p x w)
+unfolding last_piece piece_of
 last-countable c p x w costs ok = record {
   budget-fits = omega arith;
   window-fits = omega arith;
@@ -72,92 +72,92 @@ last-countable c p x w costs ok = record {
 unfoldable pub extra : Costs → Piece → ℕ
 extra c p = 2 * c.schedo + c.tseto + p.preempt + (c.ipb + c.beto + c.migro)
 
-unfoldable pub lastExtra : Costs → Piece → ℕ
-lastExtra c p = 2 * c.schedo + c.tseto + p.preempt + p.migrate
+unfoldable pub last_extra : Costs → Piece → ℕ
+last_extra c p = 2 * c.schedo + c.tseto + p.preempt + p.migrate
 
-pub first-charge : (c : Costs) (p : Piece) (x w : ℕ) → (charged c (firstPiece p x w)).charge ≡ x + extra c p
-unfolding charged charge firstPiece extra piece_of
+pub first-charge : (c : Costs) (p : Piece) (x w : ℕ) → (charged c (first_piece p x w)).charge ≡ x + extra c p
+unfolding charged charge first_piece extra piece_of
 first-charge c p x w = omega arith
 
-pub last-charge : (c : Costs) (p : Piece) (x w : ℕ) → (charged c (lastPiece c p x w)).charge ≡ p.budget - x + lastExtra c p
-unfolding charged charge lastPiece lastExtra piece_of
+pub last-charge : (c : Costs) (p : Piece) (x w : ℕ) → (charged c (last_piece c p x w)).charge ≡ p.budget - x + last_extra c p
+unfolding charged charge last_piece last_extra piece_of
 last-charge c p x w = omega arith
 
 -- what holds of a core's pieces and of the first piece holds of both
-pub with_each : (P : Charged → Type 0) (c : Costs) (qs : List Charged) (p : Piece) (x w : ℕ) → Each P qs → P (charged c (firstPiece p x w))
-    → Each P (withFirst c qs p x w)
-unfolding withFirst
-with_each P c qs p x w ok own = each_snoc P qs (charged c (firstPiece p x w)) ok own
+pub with_each : (P : Charged → Type 0) (c : Costs) (qs : List Charged) (p : Piece) (x w : ℕ) → Each P qs → P (charged c (first_piece p x w))
+    → Each P (with_first c qs p x w)
+unfolding with_first
+with_each P c qs p x w ok own = each_snoc P qs (charged c (first_piece p x w)) ok own
 
 pub with-ranged : (c : Costs) (qs : List Charged) (p : Piece) (x w : ℕ) → SizedCosts c → Sized p → x ≤ p.budget → w ≤ p.window
-    → Each Ranged qs → Each Ranged (withFirst c qs p x w)
+    → Each Ranged qs → Each Ranged (with_first c qs p x w)
 with-ranged c qs p x w costs ok less room each =
-    with_each Ranged c qs p x w each (charged-ranged c costs (firstPiece p x w) (first-countable p x w ok less room))
+    with_each Ranged c qs p x w each (charged-ranged c costs (first_piece p x w) (first-countable p x w ok less room))
 
-pub alone-ranged : (c : Costs) (p : Piece) (x w : ℕ) → SizedCosts c → Sized p → Each Ranged (lastAlone c p x w)
-unfolding lastAlone
-alone-ranged c p x w costs ok = (charged-ranged c costs (lastPiece c p x w) (last-countable c p x w costs ok), tt)
+pub alone-ranged : (c : Costs) (p : Piece) (x w : ℕ) → SizedCosts c → Sized p → Each Ranged (last_alone c p x w)
+unfolding last_alone
+alone-ranged c p x w costs ok = (charged-ranged c costs (last_piece c p x w) (last-countable c p x w costs ok), tt)
 
 -- ---- the tight window
 
 -- all interrupts within t, the first piece's included
 unfoldable pub calls : Costs → List Charged → Piece → ℕ → ℕ
-calls c qs p t = total (λ q. interrupts q t) qs + interrupts (charged c (firstPiece p 0 0)) t
+calls c qs p t = total (λ q. interrupts q t) qs + interrupts (charged c (first_piece p 0 0)) t
 
-pub first-interrupts : (c : Costs) (p : Piece) (x w t : ℕ) → interrupts (charged c (firstPiece p x w)) t ≡ interrupts (charged c (firstPiece p 0 0)) t
-unfolding interrupts charged ipiCost firstPiece piece_of
+pub first-interrupts : (c : Costs) (p : Piece) (x w t : ℕ) → interrupts (charged c (first_piece p x w)) t ≡ interrupts (charged c (first_piece p 0 0)) t
+unfolding interrupts charged ipi_cost first_piece piece_of
 first-interrupts c p x w t = refl
 
 sum-parts : (c : Costs) (qs : List Charged) (p : Piece) (x w t : ℕ)
-    → tightSum (stall c) (withFirst c qs p x w) (charged c (firstPiece p x w)) t ≡ stall c + (x + extra c p) + calls c qs p t
-unfolding tightSum withFirst calls
+    → tight_sum (stall c) (with_first c qs p x w) (charged c (first_piece p x w)) t ≡ stall c + (x + extra c p) + calls c qs p t
+unfolding tight_sum with_first calls
 sum-parts c qs p x w t =
-    omega (arith, first-charge c p x w, first-interrupts c p x w t, total-snoc (λ q. interrupts q t) qs (charged c (firstPiece p x w)))
+    omega (arith, first-charge c p x w, first-interrupts c p x w t, total-snoc (λ q. interrupts q t) qs (charged c (first_piece p x w)))
 
-pub tight-parts : (c : Costs) (qs : List Charged) (p : Piece) (x t : ℕ) → tightBeside c qs p x t ≡ stall c + (x + extra c p) + calls c qs p t
-unfolding tightBeside
+pub tight-parts : (c : Costs) (qs : List Charged) (p : Piece) (x t : ℕ) → tight_beside c qs p x t ≡ stall c + (x + extra c p) + calls c qs p t
+unfolding tight_beside
 tight-parts c qs p x t = sum-parts c qs p x 0 t
 
-pub first-recurs : (c : Costs) (p : Piece) (x w : ℕ) → Sized p → Recurs (charged c (firstPiece p x w))
-unfolding charged firstPiece piece_of
+pub first-recurs : (c : Costs) (p : Piece) (x w : ℕ) → Sized p → Recurs (charged c (first_piece p x w))
+unfolding charged first_piece piece_of
 first-recurs c p x w ok = record { again = omega arith }
 
 pub calls_mono : (c : Costs) (qs : List Charged) (p : Piece) {t u : ℕ} → t ≤ u → calls c qs p t ≤ calls c qs p u
 unfolding calls
-calls_mono c qs p h = omega (arith, interrupts-all-mono qs h, interrupts-mono (charged c (firstPiece p 0 0)) h)
+calls_mono c qs p h = omega (arith, interrupts-all-mono qs h, interrupts-mono (charged c (first_piece p 0 0)) h)
 
-tight-mono : (c : Costs) (qs : List Charged) (p : Piece) (x m n : ℕ) → m ≤ n → tightBeside c qs p x m ≤ tightBeside c qs p x n
+tight-mono : (c : Costs) (qs : List Charged) (p : Piece) (x m n : ℕ) → m ≤ n → tight_beside c qs p x m ≤ tight_beside c qs p x n
 tight-mono c qs p x m n h = omega (arith, tight-parts c qs p x m, tight-parts c qs p x n, calls_mono c qs p h)
 
 -- the window of the first piece does not count
 sum_same : (c : Costs) (qs : List Charged) (p : Piece) (x w : ℕ)
-    → tightSum (stall c) (withFirst c qs p x w) (charged c (firstPiece p x w)) ≡ tightBeside c qs p x
+    → tight_sum (stall c) (with_first c qs p x w) (charged c (first_piece p x w)) ≡ tight_beside c qs p x
 sum_same c qs p x w = fun_ext (λ t. sum-parts c qs p x w t ∙ sym (tight-parts c qs p x t))
 
 window-parts : (c : Costs) (qs : List Charged) (p : Piece) (x w top : ℕ)
-    → tightWindow (stall c) (withFirst c qs p x w) (charged c (firstPiece p x w)) top
-    ≡ later p.jitter (leastHolding (tightBeside c qs p x) (top - p.jitter))
-unfolding tightWindow charged firstPiece piece_of
-window-parts c qs p x w top = ap (λ (f : ℕ → ℕ). later p.jitter (leastHolding f (top - p.jitter))) (sum_same c qs p x w)
+    → tight_window (stall c) (with_first c qs p x w) (charged c (first_piece p x w)) top
+    ≡ later p.jitter (least_holding (tight_beside c qs p x) (top - p.jitter))
+unfolding tight_window charged first_piece piece_of
+window-parts c qs p x w top = ap (λ (f : ℕ → ℕ). later p.jitter (least_holding f (top - p.jitter))) (sum_same c qs p x w)
 
 module _ (c : Costs) (qs : List Charged) (p : Piece) (x : ℕ) where
-  found_in : (f : Found) → Finds (tightBeside c qs p x) (p.window - 1 - p.jitter) f → TightIn c qs p x (later p.jitter f)
+  found_in : (f : Found) → Finds (tight_beside c qs p x) (p.window - 1 - p.jitter) f → TightIn c qs p x (later p.jitter f)
   found_in (At t) found = (t, found.0, omega (arith, found.0.here.some, found.1), refl)
   found_in Nothing none = λ t tight room. none t (omega arith) tight.here
 
-  pub window-in : (w : ℕ) → TightIn c qs p x (tightWindow (stall c) (withFirst c qs p x w) (charged c (firstPiece p x w)) (p.window - 1))
+  pub window-in : (w : ℕ) → TightIn c qs p x (tight_window (stall c) (with_first c qs p x w) (charged c (first_piece p x w)) (p.window - 1))
   window-in w =
-      rw (window-parts c qs p x w (p.window - 1)) (found_in (leastHolding (tightBeside c qs p x) (p.window - 1 - p.jitter))
-      (least-holding-finds (tightBeside c qs p x) (tight-mono c qs p x) (p.window - 1 - p.jitter)))
+      rw (window-parts c qs p x w (p.window - 1)) (found_in (least_holding (tight_beside c qs p x) (p.window - 1 - p.jitter))
+      (least-holding-finds (tight_beside c qs p x) (tight-mono c qs p x) (p.window - 1 - p.jitter)))
 
 last-window : (b : ℕ) (c : Costs) (qs : List Charged) (p : Piece) (x w : ℕ)
-    → tightOfLast b (withFirst c qs p x w) (withFirst c qs p x w) ≡ tightWindow b (withFirst c qs p x w) (charged c (firstPiece p x w)) w
-unfolding withFirst charged firstPiece piece_of
-last-window b c qs p x w = tight-of-last b (qs ++ (charged c (firstPiece p x w) ∷ [])) qs (charged c (firstPiece p x w))
+    → tight_of_last b (with_first c qs p x w) (with_first c qs p x w) ≡ tight_window b (with_first c qs p x w) (charged c (first_piece p x w)) w
+unfolding with_first charged first_piece piece_of
+last-window b c qs p x w = tight-of-last b (qs ++ (charged c (first_piece p x w) ∷ [])) qs (charged c (first_piece p x w))
 
 -- as the code looks for it: behind the core, with the widest window that leaves the last piece one
 pub tight-in : (c : Costs) (qs : List Charged) (p : Piece) (x : ℕ) (rs : List Charged)
-    → rs ≡ withFirst c qs p x (p.window - 1) → (r : Found) → r ≡ tightOfLast (stall c) rs rs → TightIn c qs p x r
+    → rs ≡ with_first c qs p x (p.window - 1) → (r : Found) → r ≡ tight_of_last (stall c) rs rs → TightIn c qs p x r
 tight-in c qs p x rs laid r found =
     rw (found, laid, last-window (stall c) c qs p x (p.window - 1)) (window-in c qs p x (p.window - 1))
 
@@ -170,52 +170,52 @@ module _ (c : Costs) (qs : List Charged) (p : Piece) (x : ℕ) where
   pub untight : TightIn c qs p x Nothing → (u : ℕ) → Fits c qs p x u → ⊥
   untight none u fits = none u fits.tight fits.room
 
-  pub fails-here : (t w : ℕ) → Tight c qs p x t → w ≡ p.jitter + t → (v : Verdict) → v ≡ verdict (stall c) (withFirst c qs p x w)
+  pub fails-here : (t w : ℕ) → Tight c qs p x t → w ≡ p.jitter + t → (v : Verdict) → v ≡ verdict (stall c) (with_first c qs p x w)
       → (v ≡ Passes → ⊥) → (u : ℕ) → Fits c qs p x u → ⊥
   fails-here t w tight at v judged fails u fits =
       let e : w ≡ p.jitter + u = omega (arith, tight-same c qs p x tight fits.tight) in
-      fails (judged ∙ (ap (λ (n : ℕ). verdict (stall c) (withFirst c qs p x n)) e ∙ fits.here))
+      fails (judged ∙ (ap (λ (n : ℕ). verdict (stall c) (with_first c qs p x n)) e ∙ fits.here))
 
-  pub fails-there : (t w : ℕ) → Tight c qs p x t → w ≡ p.jitter + t → (v : Verdict) → v ≡ verdict (stall c) (lastAlone c p x w)
+  pub fails-there : (t w : ℕ) → Tight c qs p x t → w ≡ p.jitter + t → (v : Verdict) → v ≡ verdict (stall c) (last_alone c p x w)
       → (v ≡ Passes → ⊥) → (u : ℕ) → Fits c qs p x u → ⊥
   fails-there t w tight at v judged fails u fits =
       let e : w ≡ p.jitter + u = omega (arith, tight-same c qs p x tight fits.tight) in
-      fails (judged ∙ (ap (λ (n : ℕ). verdict (stall c) (lastAlone c p x n)) e ∙ fits.there))
+      fails (judged ∙ (ap (λ (n : ℕ). verdict (stall c) (last_alone c p x n)) e ∙ fits.there))
 
 -- ---- the last piece alone
 
-pub last-largest : (c : Costs) (p : Piece) (x w : ℕ) → largestWindow (lastAlone c p x w) ≡ p.window - w
-unfolding lastAlone charged lastPiece piece_of
+pub last-largest : (c : Costs) (p : Piece) (x w : ℕ) → largest_window (last_alone c p x w) ≡ p.window - w
+unfolding last_alone charged last_piece piece_of
 last-largest c p x w = omega arith
 
-pub last-recurs : (c : Costs) (p : Piece) (x w : ℕ) → Sized p → Each Recurs (lastAlone c p x w)
-unfolding lastAlone charged lastPiece piece_of
+pub last-recurs : (c : Costs) (p : Piece) (x w : ℕ) → Sized p → Each Recurs (last_alone c p x w)
+unfolding last_alone charged last_piece piece_of
 last-recurs c p x w ok = (record { again = omega arith }, tt)
 
 -- what the last piece asks for beside its charge: its interrupts
-unfoldable lastCalls : Costs → ℕ
-lastCalls c = c.relo + c.tseto + c.ipio
+unfoldable last_calls : Costs → ℕ
+last_calls c = c.relo + c.tseto + c.ipio
 
-last-load : (c : Costs) (p : Piece) (x w l : ℕ) → busySum (lastAlone c p x w) l ≡ ceil l p.period * (p.budget - x + lastExtra c p + lastCalls c)
-unfolding busySum busyLoad lastAlone charged charge ipiCost lastPiece lastExtra lastCalls piece_of
+last-load : (c : Costs) (p : Piece) (x w l : ℕ) → busy_sum (last_alone c p x w) l ≡ ceil l p.period * (p.budget - x + last_extra c p + last_calls c)
+unfolding busy_sum busy_load last_alone charged charge ipi_cost last_piece last_extra last_calls piece_of
 last-load c p x w l = omega arith
 
-busier : (c : Costs) (p : Piece) (x y v w l : ℕ) → y ≤ x → busySum (lastAlone c p x v) l ≤ busySum (lastAlone c p y w) l
+busier : (c : Costs) (p : Piece) (x y v w l : ℕ) → y ≤ x → busy_sum (last_alone c p x v) l ≤ busy_sum (last_alone c p y w) l
 busier c p x y v w l h =
     omega (arith, last-load c p x v l, last-load c p y w l, mul-le-mul_left (ceil l p.period) (more h))
   where
-    more : y ≤ x → p.budget - x + lastExtra c p + lastCalls c ≤ p.budget - y + lastExtra c p + lastCalls c
+    more : y ≤ x → p.budget - x + last_extra c p + last_calls c ≤ p.budget - y + last_extra c p + last_calls c
     more h = omega arith
 
-pub never-empty : (c : Costs) (p : Piece) (x w : ℕ) → lastAlone c p x w ≡ [] → ⊥
-unfolding lastAlone
+pub never-empty : (c : Costs) (p : Piece) (x w : ℕ) → last_alone c p x w ≡ [] → ⊥
+unfolding last_alone
 never-empty c p x w e = let z : ◌≡◌ {A = ℕ} 0 1 = cc in omega arith
 
-pub last-undecided : (c : Costs) (p : Piece) (x y v w : ℕ) → y ≤ x → verdict (stall c) (lastAlone c p x v) ≡ Undecided
-    → verdict (stall c) (lastAlone c p y w) ≡ Passes → ⊥
+pub last-undecided : (c : Costs) (p : Piece) (x y v w : ℕ) → y ≤ x → verdict (stall c) (last_alone c p x v) ≡ Undecided
+    → verdict (stall c) (last_alone c p y w) ≡ Passes → ⊥
 last-undecided c p x y v w h undecided pass =
-    let none = subst (λ (r : Verdict). Means (stall c) (lastAlone c p x v) r) undecided (verdict-means (stall c) (lastAlone c p x v)) in
-    let span = subst (λ (r : Verdict). Means (stall c) (lastAlone c p y w) r) pass (verdict-means (stall c) (lastAlone c p y w)) in
+    let none = subst (λ (r : Verdict). Means (stall c) (last_alone c p x v) r) undecided (verdict-means (stall c) (last_alone c p x v)) in
+    let span = subst (λ (r : Verdict). Means (stall c) (last_alone c p y w) r) pass (verdict-means (stall c) (last_alone c p y w)) in
     ⊎_elim (λ e. never-empty c p y w e)
     (λ j. none j.1 j.2.within (record { some = j.2.busy.here.some; fits = omega (arith, j.2.busy.here.fits, busier c p x y v w j.1 h) })) span
 
@@ -262,20 +262,20 @@ module _ (g : ℕ) (p : Piece) (pos : 1 ≤ g) where
 -- ---- from charged pieces to pieces
 
 module _ (c : Costs) (ps : List Piece) (p : Piece) where
-  pub with-core : (x w : ℕ) → core_of c (ps ++ (firstPiece p x w ∷ [])) ≡ withFirst c (core_of c ps) p x w
-  unfolding withFirst
-  with-core x w = core-snoc c ps (firstPiece p x w)
+  pub with-core : (x w : ℕ) → core_of c (ps ++ (first_piece p x w ∷ [])) ≡ with_first c (core_of c ps) p x w
+  unfolding with_first
+  with-core x w = core-snoc c ps (first_piece p x w)
 
-  pub sum-core : (x : ℕ) → tightOn c ps p x ≡ tightBeside c (core_of c ps) p x
-  unfolding tightOn tightBeside
-  sum-core x = fun_ext (λ t. ap (λ (qs : List Charged). tightSum (stall c) qs (charged c (firstPiece p x 0)) t) (with-core x 0))
+  pub sum-core : (x : ℕ) → tight_on c ps p x ≡ tight_beside c (core_of c ps) p x
+  unfolding tight_on tight_beside
+  sum-core x = fun_ext (λ t. ap (λ (qs : List Charged). tight_sum (stall c) qs (charged c (first_piece p x 0)) t) (with-core x 0))
 
-  pub first-verdict : (x w : ℕ) → verdictOf c (ps ++ (firstPiece p x w ∷ [])) ≡ verdict (stall c) (withFirst c (core_of c ps) p x w)
-  unfolding verdictOf
+  pub first-verdict : (x w : ℕ) → verdict_of c (ps ++ (first_piece p x w ∷ [])) ≡ verdict (stall c) (with_first c (core_of c ps) p x w)
+  unfolding verdict_of
   first-verdict x w = rw (with-core x w)
 
-  pub last-verdict : (x w : ℕ) → verdictOf c (lastPiece c p x w ∷ []) ≡ verdict (stall c) (lastAlone c p x w)
-  unfolding verdictOf core_of lastAlone
+  pub last-verdict : (x w : ℕ) → verdict_of c (last_piece c p x w ∷ []) ≡ verdict (stall c) (last_alone c p x w)
+  unfolding verdict_of core_of last_alone
   last-verdict x w = refl
 
   pub fits-allowed : (x t : ℕ) → Fits c (core_of c ps) p x t → Allowed c ps p x t

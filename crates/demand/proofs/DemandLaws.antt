@@ -8,7 +8,7 @@
 --   demand-add               g(s + l) ≤ g(s) + busy sum of l
 --   demand-mono              g(t) ≤ g(u) for t ≤ u on one side of the largest window
 --   live-mono                from a live length on all are live
---   least-live-least         `leastLive` is the least live length
+--   least-live-least         `least_live` is the least live length
 use mathlib.Core.Path.{◌≡◌}
 use mathlib.Core.List.{List, [], ◌∷◌, ◌++◌}
 use mathlib.Core.Logic.{◌⊎◌, ⊎_elim}
@@ -19,8 +19,8 @@ use native.Mathlib.Omega.{arith}
 use borrow.Author.Tests.{lt-ltb, le-ltb}
 use Rattle.demand.specs.declared.Charged.{Charged}
 use Rattle.demand.specs.Sizes.{Each, Some}
-use Rattle.demand.specs.Demand.{ceil, total, jobsDue, interrupts, largestWindow, blocking, load, demand, Live, earliest, leastLive}
-use Rattle.demand.specs.Busy.{Least, busyLoad, busySum}
+use Rattle.demand.specs.Demand.{ceil, total, jobs_due, interrupts, largest_window, blocking, load, demand, Live, earliest, least_live}
+use Rattle.demand.specs.Busy.{Least, busy_load, busy_sum}
 use Rattle.demand.proofs.Division.{div_mono, div-add-ceil, ceil-mono, ceil-add, ceil-one-more}
 use Rattle.demand.proofs.Sums.{total_mono, total-add}
 
@@ -30,15 +30,15 @@ pub record Recurs (q : Charged) : Type 0 where
 
 -- ---- jobs due
 
-pub jobs-due-none : (q : Charged) (t : ℕ) → t + q.jitter < q.window → jobsDue q t ≡ 0
-unfolding jobsDue
+pub jobs-due-none : (q : Charged) (t : ℕ) → t + q.jitter < q.window → jobs_due q t ≡ 0
+unfolding jobs_due
 jobs-due-none q t early = simp (lt-ltb _ _ early)
 
-pub jobs-due-some : (q : Charged) (t : ℕ) → q.window ≤ t + q.jitter → jobsDue q t ≡ 1 + (t + q.jitter - q.window) / q.period
-unfolding jobsDue
+pub jobs-due-some : (q : Charged) (t : ℕ) → q.window ≤ t + q.jitter → jobs_due q t ≡ 1 + (t + q.jitter - q.window) / q.period
+unfolding jobs_due
 jobs-due-some q t late = simp (le-ltb _ _ late)
 
-pub jobs-due-mono : (q : Charged) {t u : ℕ} → t ≤ u → jobsDue q t ≤ jobsDue q u
+pub jobs-due-mono : (q : Charged) {t u : ℕ} → t ≤ u → jobs_due q t ≤ jobs_due q u
 jobs-due-mono q {t} {u} h = elim (dec_lt (t + q.jitter) q.window) [
   | yes early ↦ rw (jobs-due-none q t early) zero-le
   | no late ↦
@@ -47,7 +47,7 @@ jobs-due-mono q {t} {u} h = elim (dec_lt (t + q.jitter) q.window) [
 ]
 
 -- within l more at most ⌈l / T⌉ more
-pub jobs-due-add : {q : Charged} → Recurs q → (s l : ℕ) → jobsDue q (s + l) ≤ jobsDue q s + ceil l q.period
+pub jobs-due-add : {q : Charged} → Recurs q → (s l : ℕ) → jobs_due q (s + l) ≤ jobs_due q s + ceil l q.period
 jobs-due-add {q} pos s l = elim (dec_lt (s + l + q.jitter) q.window) [
   | yes early ↦ rw (jobs-due-none q (s + l) early) zero-le
   | no late ↦ elim (dec_lt (s + q.jitter) q.window) [
@@ -80,8 +80,8 @@ pub load-mono : (q : Charged) {t u : ℕ} → t ≤ u → load t q ≤ load u q
 unfolding load
 load-mono q h = omega (arith, mul-le-mul_right q.charge (jobs-due-mono q h), interrupts-mono q h)
 
-pub busy-load-mono : (q : Charged) {t u : ℕ} → t ≤ u → busyLoad t q ≤ busyLoad u q
-unfolding busyLoad
+pub busy-load-mono : (q : Charged) {t u : ℕ} → t ≤ u → busy_load t q ≤ busy_load u q
+unfolding busy_load
 busy-load-mono q h = mul-le-mul_right (q.charge + q.release + q.ipi) (ceil-mono q.period h)
 
 ceil-shifted : (s l j : ℕ) {k : ℕ} → 0 < k → ceil (s + l + j) k ≤ ceil (s + j) k + ceil l k
@@ -89,8 +89,8 @@ ceil-shifted s l j pos =
     let e : s + l + j ≡ s + j + l = omega arith in
     rw e (ceil-add (s + j) l pos)
 
-pub load-add : {q : Charged} → Recurs q → (s l : ℕ) → load (s + l) q ≤ load s q + busyLoad l q
-unfolding load interrupts busyLoad
+pub load-add : {q : Charged} → Recurs q → (s l : ℕ) → load (s + l) q ≤ load s q + busy_load l q
+unfolding load interrupts busy_load
 load-add {q} pos s l =
     omega (
       arith,
@@ -103,26 +103,26 @@ load-add {q} pos s l =
 
 pub blocking-falls : (b : ℕ) (qs : List Charged) {t u : ℕ} → t ≤ u → blocking b qs u ≤ blocking b qs t
 unfolding blocking
-blocking-falls b qs {t} {u} h = elim (dec_lt u (largestWindow qs)) [
-  | yes k ↦ simp (lt-ltb u (largestWindow qs) k, lt-ltb t (largestWindow qs) (omega arith)) (le_refl _)
-  | no k ↦ simp (le-ltb u (largestWindow qs) (omega arith)) zero-le
+blocking-falls b qs {t} {u} h = elim (dec_lt u (largest_window qs)) [
+  | yes k ↦ simp (lt-ltb u (largest_window qs) k, lt-ltb t (largest_window qs) (omega arith)) (le_refl _)
+  | no k ↦ simp (le-ltb u (largest_window qs) (omega arith)) zero-le
 ]
 
 -- where u is not past the largest window unless t is, the blocking is as large at u as at t
-pub blocking-kept : (b : ℕ) (qs : List Charged) {t u : ℕ} → t ≤ u → (largestWindow qs ≤ u → largestWindow qs ≤ t) → blocking b qs t ≤ blocking b qs u
+pub blocking-kept : (b : ℕ) (qs : List Charged) {t u : ℕ} → t ≤ u → (largest_window qs ≤ u → largest_window qs ≤ t) → blocking b qs t ≤ blocking b qs u
 unfolding blocking
-blocking-kept b qs {t} {u} h side = elim (dec_lt u (largestWindow qs)) [
-  | yes k ↦ simp (lt-ltb u (largestWindow qs) k, lt-ltb t (largestWindow qs) (omega arith)) (le_refl _)
-  | no k ↦ simp (le-ltb t (largestWindow qs) (side (omega arith))) zero-le
+blocking-kept b qs {t} {u} h side = elim (dec_lt u (largest_window qs)) [
+  | yes k ↦ simp (lt-ltb u (largest_window qs) k, lt-ltb t (largest_window qs) (omega arith)) (le_refl _)
+  | no k ↦ simp (le-ltb t (largest_window qs) (side (omega arith))) zero-le
 ]
 
-pub demand-below : (b : ℕ) (qs : List Charged) (t : ℕ) → t < largestWindow qs → demand b qs t ≡ b + total (load t) qs
+pub demand-below : (b : ℕ) (qs : List Charged) (t : ℕ) → t < largest_window qs → demand b qs t ≡ b + total (load t) qs
 unfolding demand blocking
-demand-below b qs t h = simp (lt-ltb t (largestWindow qs) h)
+demand-below b qs t h = simp (lt-ltb t (largest_window qs) h)
 
-pub demand-above : (b : ℕ) (qs : List Charged) (t : ℕ) → largestWindow qs ≤ t → demand b qs t ≡ total (load t) qs
+pub demand-above : (b : ℕ) (qs : List Charged) (t : ℕ) → largest_window qs ≤ t → demand b qs t ≡ total (load t) qs
 unfolding demand blocking
-demand-above b qs t h = simp (le-ltb t (largestWindow qs) h) (omega arith)
+demand-above b qs t h = simp (le-ltb t (largest_window qs) h) (omega arith)
 
 module _ (qs : List Charged) where
   pub loads-mono : {t u : ℕ} → t ≤ u → total (load t) qs ≤ total (load u) qs
@@ -131,22 +131,22 @@ module _ (qs : List Charged) where
   pub interrupts-all-mono : {t u : ℕ} → t ≤ u → total (λ q. interrupts q t) qs ≤ total (λ q. interrupts q u) qs
   interrupts-all-mono {t} {u} h = total_mono (λ q. interrupts q t) (λ q. interrupts q u) (λ q. interrupts-mono q h) qs
 
-  pub demand-mono : (b : ℕ) {t u : ℕ} → t ≤ u → (largestWindow qs ≤ u → largestWindow qs ≤ t) → demand b qs t ≤ demand b qs u
+  pub demand-mono : (b : ℕ) {t u : ℕ} → t ≤ u → (largest_window qs ≤ u → largest_window qs ≤ t) → demand b qs t ≤ demand b qs u
   unfolding demand
   demand-mono b {t} {u} h side = omega (arith, blocking-kept b qs h side, loads-mono h)
 
-  pub demand-add : Each Recurs qs → (b s l : ℕ) → demand b qs (s + l) ≤ demand b qs s + busySum qs l
-  unfolding demand busySum
+  pub demand-add : Each Recurs qs → (b s l : ℕ) → demand b qs (s + l) ≤ demand b qs s + busy_sum qs l
+  unfolding demand busy_sum
   demand-add recurs b s l =
       omega (
         arith,
         blocking-falls b qs {t = s} {u = s + l} (omega arith),
-        total-add Recurs (load (s + l)) (load s) (busyLoad l) (λ q pos. load-add pos s l) qs recurs,
+        total-add Recurs (load (s + l)) (load s) (busy_load l) (λ q pos. load-add pos s l) qs recurs,
       )
 
 -- ---- live lengths
 
-live-before : (qs : List Charged) {t u : ℕ} → t ≤ u → Some (λ q. 1 ≤ jobsDue q t) qs → Some (λ q. 1 ≤ jobsDue q u) qs
+live-before : (qs : List Charged) {t u : ℕ} → t ≤ u → Some (λ q. 1 ≤ jobs_due q t) qs → Some (λ q. 1 ≤ jobs_due q u) qs
 live-before [] h live = live
 live-before (q ∷ qs) {t} {u} h live =
     ⊎_elim (λ here. ◌⊎◌.inl (omega (arith, jobs-due-mono q h))) (λ there. ◌⊎◌.inr (live-before qs h there)) live
@@ -155,17 +155,17 @@ pub live-mono : (qs : List Charged) {t u : ℕ} → t ≤ u → Live qs t → Li
 unfolding Live
 live-mono qs h live = live-before qs h live
 
-due-from : (q : Charged) (t : ℕ) → q.window - q.jitter ≤ t → 1 ≤ jobsDue q t
+due-from : (q : Charged) (t : ℕ) → q.window - q.jitter ≤ t → 1 ≤ jobs_due q t
 due-from q t late = omega (arith, jobs-due-some q t (omega arith))
 
 -- before the earliest no piece has a job due
-none-live : (w : ℕ) (qs : List Charged) (t : ℕ) → t < earliest w qs → Some (λ q. 1 ≤ jobsDue q t) qs → ⊥
+none-live : (w : ℕ) (qs : List Charged) (t : ℕ) → t < earliest w qs → Some (λ q. 1 ≤ jobs_due q t) qs → ⊥
 none-live w [] t early live = live
 none-live w (q ∷ qs) t early live =
     ⊎_elim (λ here. omega (arith, jobs-due-none q t (omega arith))) (λ there. none-live w qs t (omega arith) there) live
 
 -- from it on one has, or it is w
-some-live : (w : ℕ) (qs : List Charged) (t : ℕ) → earliest w qs ≤ t → w ≤ t ⊎ Some (λ q. 1 ≤ jobsDue q t) qs
+some-live : (w : ℕ) (qs : List Charged) (t : ℕ) → earliest w qs ≤ t → w ≤ t ⊎ Some (λ q. 1 ≤ jobs_due q t) qs
 some-live w [] t late = ◌⊎◌.inl late
 some-live w (q ∷ qs) t late = elim (dec_lt t (q.window - q.jitter)) [
   | yes early ↦ ⊎_elim (λ past. ◌⊎◌.inl past) (λ there. ◌⊎◌.inr (◌⊎◌.inr there)) (some-live w qs t (omega arith))
@@ -186,12 +186,12 @@ earliest-snoc w (p ∷ qs) q = rw (earliest-snoc w qs q) (min_assoc (p.window - 
     min_assoc : (a b e : ℕ) → min a (min b e) ≡ min (min a b) e
     min_assoc a b e = omega arith
 
-pub largest-snoc : (qs : List Charged) (q : Charged) → largestWindow (qs ++ (q ∷ [])) ≡ max (largestWindow qs) q.window
+pub largest-snoc : (qs : List Charged) (q : Charged) → largest_window (qs ++ (q ∷ [])) ≡ max (largest_window qs) q.window
 largest-snoc [] q = omega arith
 largest-snoc (p ∷ qs) q = omega (arith, largest-snoc qs q)
 
-pub least-live-least : (q : Charged) (qs : List Charged) → Least (Live (q ∷ qs)) (leastLive (q ∷ qs))
-unfolding Live leastLive
+pub least-live-least : (q : Charged) (qs : List Charged) → Least (Live (q ∷ qs)) (least_live (q ∷ qs))
+unfolding Live least_live
 least-live-least q qs =
     let w = q.window - q.jitter in
     record {

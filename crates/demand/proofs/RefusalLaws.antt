@@ -1,7 +1,7 @@
 -- A run of records is refused exactly as its table says.
 -- Assumes nothing.
 --
---   badNumber, badCarries      document 01's number for what a check finds, and what it carries; 0 where that is nothing
+--   bad_number, bad_carries      document 01's number for what a check finds, and what it carries; 0 where that is nothing
 --   sized-breaks, costs-break      the tests of a size rule, and where it is broken
 --   check-comes                the check comes to what the table says
 --   check-refused              and finds a refusal exactly where the table gives it
@@ -28,85 +28,85 @@ use Rattle.demand.specs.declared.Check.TheVariants.{Fine, Bad}
 use Rattle.demand.specs.declared.Answer.TheVariants.{Judged, Refused}
 use Rattle.demand.specs.declared.Split.{Split}
 use Rattle.demand.specs.declared.Splitting.TheVariants.{Denied}
-use Rattle.demand.specs.Sizes.{runMost, Sized, SizedCosts, sized, sizedCosts}
-use Rattle.demand.specs.Verdict.{verdictOf}
-use Rattle.demand.specs.Split.{greatestSplit}
-use Rattle.demand.specs.Answer.{firstBad, badRecord, checkRun, answer_of, splitOf, Told, told}
-use Rattle.demand.specs.Tables.{Rule, ◌if◌carrying◌, Not, Gives, Kept, atEach}
-use Rattle.demand.specs.Refusals.{recordTable, Refuses}
+use Rattle.demand.specs.Sizes.{run_most, Sized, SizedCosts, sized, sized_costs}
+use Rattle.demand.specs.Verdict.{verdict_of}
+use Rattle.demand.specs.Split.{greatest_split}
+use Rattle.demand.specs.Answer.{first_bad, bad_record, check_run, answer_of, split_of, Told, told}
+use Rattle.demand.specs.Tables.{Rule, ◌if◌carrying◌, Not, Gives, Kept, at_each}
+use Rattle.demand.specs.Refusals.{record_table, Refuses}
 use Rattle.demand.proofs.SizeLaws.{sized-exact, costs-exact}
 use Rattle.demand.proofs.RunLaws.{answer-fine, answer-bad, split-fine, split-bad}
 use Rattle.demand.proofs.TableLaws.{Comes, none, here, next, comes-kept, comes-gives, Breaks, breaks-kept, breaks-exact, breaks-leb}
 
-abbrev refusalNumber : Refusal → ℕ
-refusalNumber TooMany = 6
-refusalNumber BadCosts = 2
-refusalNumber (BadRecord k) = 3
+abbrev refusal_number : Refusal → ℕ
+refusal_number TooMany = 6
+refusal_number BadCosts = 2
+refusal_number (BadRecord k) = 3
 
-abbrev carriesOf : Refusal → ℕ
-carriesOf TooMany = 0
-carriesOf BadCosts = 0
-carriesOf (BadRecord k) = k
+abbrev carries_of : Refusal → ℕ
+carries_of TooMany = 0
+carries_of BadCosts = 0
+carries_of (BadRecord k) = k
 
-abbrev pub badNumber : Check → ℕ
-badNumber Fine = 0
-badNumber (Bad r) = refusalNumber r
+abbrev pub bad_number : Check → ℕ
+bad_number Fine = 0
+bad_number (Bad r) = refusal_number r
 
-abbrev pub badCarries : Check → ℕ
-badCarries Fine = 0
-badCarries (Bad r) = carriesOf r
+abbrev pub bad_carries : Check → ℕ
+bad_carries Fine = 0
+bad_carries (Bad r) = carries_of r
 
 -- ---- the check
 
 pub sized-breaks : (p : Piece) → Breaks (Not (Sized p)) (sized p)
 sized-breaks p = breaks-exact (sized p) (sized-exact p)
 
-pub costs-break : (c : Costs) → Breaks (Not (SizedCosts c)) (sizedCosts c)
-costs-break c = breaks-exact (sizedCosts c) (costs-exact c)
+pub costs-break : (c : Costs) → Breaks (Not (SizedCosts c)) (sized_costs c)
+costs-break c = breaks-exact (sized_costs c) (costs-exact c)
 
 records-come : (k : ℕ) (ps : List Piece) → 1 ≤ k
-    → Comes (atEach (λ i p. 3 if Not (Sized p) carrying i ∷ []) k ps) (badNumber (badRecord (firstBad k ps))) (badCarries (badRecord (firstBad k ps)))
+    → Comes (at_each (λ i p. 3 if Not (Sized p) carrying i ∷ []) k ps) (bad_number (bad_record (first_bad k ps))) (bad_carries (bad_record (first_bad k ps)))
 records-come k [] some = none
 records-come k (p ∷ ps) some = by (sized p) refl (records-come (k + 1) ps (omega arith))
   where
     table : List Rule
-    table = atEach (λ i p. 3 if Not (Sized p) carrying i ∷ []) (k + 1) ps
+    table = at_each (λ i p. 3 if Not (Sized p) carrying i ∷ []) (k + 1) ps
 
-    found : (j : ℕ) → j ≡ k → 1 ≤ j → Not (Sized p) → Comes (3 if Not (Sized p) carrying k ∷ table) (badNumber (badRecord j)) (badCarries (badRecord j))
+    found : (j : ℕ) → j ≡ k → 1 ≤ j → Not (Sized p) → Comes (3 if Not (Sized p) carrying k ∷ table) (bad_number (bad_record j)) (bad_carries (bad_record j))
     found zero is low bad = absurd (omega arith)
     found (suc j) is low bad = here bad refl (sym is)
 
-    by : (b : Bool) → sized p ≡ b → Comes table (badNumber (badRecord (firstBad (k + 1) ps))) (badCarries (badRecord (firstBad (k + 1) ps)))
-        → Comes (3 if Not (Sized p) carrying k ∷ table) (badNumber (badRecord (cond b (firstBad (k + 1) ps) k)))
-        (badCarries (badRecord (cond b (firstBad (k + 1) ps) k)))
+    by : (b : Bool) → sized p ≡ b → Comes table (bad_number (bad_record (first_bad (k + 1) ps))) (bad_carries (bad_record (first_bad (k + 1) ps)))
+        → Comes (3 if Not (Sized p) carrying k ∷ table) (bad_number (bad_record (cond b (first_bad (k + 1) ps) k)))
+        (bad_carries (bad_record (cond b (first_bad (k + 1) ps) k)))
     by true good more = next (breaks-kept (sized-breaks p) good) more
     by false bad more = found k refl some ((sized-breaks p).breaks bad)
 
-pub check-comes : (c : Costs) (n : ℕ) (ps : List Piece) → Comes (recordTable c n ps) (badNumber (checkRun c n ps)) (badCarries (checkRun c n ps))
-unfolding recordTable checkRun
-check-comes c n ps = few (leb n runMost) refl
+pub check-comes : (c : Costs) (n : ℕ) (ps : List Piece) → Comes (record_table c n ps) (bad_number (check_run c n ps)) (bad_carries (check_run c n ps))
+unfolding record_table check_run
+check-comes c n ps = few (leb n run_most) refl
   where
     records : List Rule
-    records = atEach (λ k p. 3 if Not (Sized p) carrying k ∷ []) 1 (take n ps)
+    records = at_each (λ k p. 3 if Not (Sized p) carrying k ∷ []) 1 (take n ps)
 
-    inside : (b : Bool) → sizedCosts c ≡ b → Comes (2 if Not (SizedCosts c) carrying 0 ∷ records)
-        (badNumber (cond b (badRecord (firstBad 1 (take n ps))) (Bad BadCosts))) (badCarries (cond b (badRecord (firstBad 1 (take n ps))) (Bad BadCosts)))
+    inside : (b : Bool) → sized_costs c ≡ b → Comes (2 if Not (SizedCosts c) carrying 0 ∷ records)
+        (bad_number (cond b (bad_record (first_bad 1 (take n ps))) (Bad BadCosts))) (bad_carries (cond b (bad_record (first_bad 1 (take n ps))) (Bad BadCosts)))
     inside true good = next (breaks-kept (costs-break c) good) (records-come 1 (take n ps) (omega arith))
     inside false bad = here ((costs-break c).breaks bad) refl refl
 
-    few : (b : Bool) → leb n runMost ≡ b → Comes (6 if (runMost < n) carrying 0 ∷ 2 if Not (SizedCosts c) carrying 0 ∷ records)
-        (badNumber (cond b (cond (sizedCosts c) (badRecord (firstBad 1 (take n ps))) (Bad BadCosts)) (Bad TooMany)))
-        (badCarries (cond b (cond (sizedCosts c) (badRecord (firstBad 1 (take n ps))) (Bad BadCosts)) (Bad TooMany)))
-    few true fits = next (breaks-kept (breaks-leb n runMost) fits) (inside (sizedCosts c) refl)
-    few false over = here ((breaks-leb n runMost).breaks over) refl refl
+    few : (b : Bool) → leb n run_most ≡ b → Comes (6 if (run_most < n) carrying 0 ∷ 2 if Not (SizedCosts c) carrying 0 ∷ records)
+        (bad_number (cond b (cond (sized_costs c) (bad_record (first_bad 1 (take n ps))) (Bad BadCosts)) (Bad TooMany)))
+        (bad_carries (cond b (cond (sized_costs c) (bad_record (first_bad 1 (take n ps))) (Bad BadCosts)) (Bad TooMany)))
+    few true fits = next (breaks-kept (breaks-leb n run_most) fits) (inside (sized_costs c) refl)
+    few false over = here ((breaks-leb n run_most).breaks over) refl refl
 
 -- a refusal by its name is one by its number and what it carries
-named-given : (rules : List Rule) (r : Refusal) → Refuses rules r ↔ Gives rules (refusalNumber r) (carriesOf r)
+named-given : (rules : List Rule) (r : Refusal) → Refuses rules r ↔ Gives rules (refusal_number r) (carries_of r)
 named-given rules TooMany = ((λ gives. gives), λ gives. gives)
 named-given rules BadCosts = ((λ gives. gives), λ gives. gives)
 named-given rules (BadRecord k) = ((λ gives. gives), λ gives. gives)
 
-refusal-one : (r s : Refusal) → refusalNumber r ≡ refusalNumber s → carriesOf r ≡ carriesOf s → r ≡ s
+refusal-one : (r s : Refusal) → refusal_number r ≡ refusal_number s → carries_of r ≡ carries_of s → r ≡ s
 refusal-one TooMany TooMany number carries = refl
 refusal-one TooMany BadCosts number carries = absurd (omega arith)
 refusal-one TooMany (BadRecord k) number carries = absurd (omega arith)
@@ -117,62 +117,62 @@ refusal-one (BadRecord j) TooMany number carries = absurd (omega arith)
 refusal-one (BadRecord j) BadCosts number carries = absurd (omega arith)
 refusal-one (BadRecord j) (BadRecord k) number carries = ap BadRecord carries
 
-number-some : (r : Refusal) → refusalNumber r ≡ 0 → ⊥
+number-some : (r : Refusal) → refusal_number r ≡ 0 → ⊥
 number-some TooMany e = omega arith
 number-some BadCosts e = omega arith
 number-some (BadRecord k) e = omega arith
 
 module _ (c : Costs) (n : ℕ) (ps : List Piece) where
-  pub check-refused : (r : Refusal) → (checkRun c n ps ≡ Bad r) ↔ Refuses (recordTable c n ps) r
+  pub check-refused : (r : Refusal) → (check_run c n ps ≡ Bad r) ↔ Refuses (record_table c n ps) r
   check-refused r = (
-    (λ e. (named-given (recordTable c n ps) r).1 (comes.0 (ap badNumber e, ap badCarries e, λ none. number-some r (ap badNumber (sym e) ∙ none)))),
-    λ gives. (let so = comes.1 ((named-given (recordTable c n ps) r).0 gives) in by (checkRun c n ps) so.0 so.1 so.2),
+    (λ e. (named-given (record_table c n ps) r).1 (comes.0 (ap bad_number e, ap bad_carries e, λ none. number-some r (ap bad_number (sym e) ∙ none)))),
+    λ gives. (let so = comes.1 ((named-given (record_table c n ps) r).0 gives) in by (check_run c n ps) so.0 so.1 so.2),
   )
     where
-      comes : ((badNumber (checkRun c n ps) ≡ refusalNumber r) × (badCarries (checkRun c n ps) ≡ carriesOf r) × (badNumber (checkRun c n ps) ≡ 0 → ⊥))
-          ↔ Gives (recordTable c n ps) (refusalNumber r) (carriesOf r)
-      comes = comes-gives (check-comes c n ps) (refusalNumber r) (carriesOf r)
+      comes : ((bad_number (check_run c n ps) ≡ refusal_number r) × (bad_carries (check_run c n ps) ≡ carries_of r) × (bad_number (check_run c n ps) ≡ 0 → ⊥))
+          ↔ Gives (record_table c n ps) (refusal_number r) (carries_of r)
+      comes = comes-gives (check-comes c n ps) (refusal_number r) (carries_of r)
 
-      by : (k : Check) → badNumber k ≡ refusalNumber r → badCarries k ≡ carriesOf r → (badNumber k ≡ 0 → ⊥) → k ≡ Bad r
+      by : (k : Check) → bad_number k ≡ refusal_number r → bad_carries k ≡ carries_of r → (bad_number k ≡ 0 → ⊥) → k ≡ Bad r
       by Fine number carries some = absurd (some refl)
       by (Bad s) number carries some = ap Bad (refusal-one s r number carries)
 
-  pub record-settled : Kept (recordTable c n ps) ⊎ ((r : Refusal) × Refuses (recordTable c n ps) r)
-  record-settled = by (checkRun c n ps) refl
+  pub record-settled : Kept (record_table c n ps) ⊎ ((r : Refusal) × Refuses (record_table c n ps) r)
+  record-settled = by (check_run c n ps) refl
     where
-      by : (k : Check) → checkRun c n ps ≡ k → Kept (recordTable c n ps) ⊎ ((r : Refusal) × Refuses (recordTable c n ps) r)
-      by Fine fine = inl ((comes-kept (check-comes c n ps)).0 (ap badNumber fine))
+      by : (k : Check) → check_run c n ps ≡ k → Kept (record_table c n ps) ⊎ ((r : Refusal) × Refuses (record_table c n ps) r)
+      by Fine fine = inl ((comes-kept (check-comes c n ps)).0 (ap bad_number fine))
       by (Bad r) bad = inr (r, (check-refused r).0 bad)
 
 -- ---- the answer
 
-pub answer-refused : (c : Costs) (n : ℕ) (ps : List Piece) (r : Refusal) → (answer_of c n ps ≡ Refused r) ↔ Refuses (recordTable c n ps) r
-answer-refused c n ps r = ((λ is. (check-refused c n ps r).0 (by (checkRun c n ps) refl is)), λ gives. answer-bad c n ps r ((check-refused c n ps r).1 gives))
+pub answer-refused : (c : Costs) (n : ℕ) (ps : List Piece) (r : Refusal) → (answer_of c n ps ≡ Refused r) ↔ Refuses (record_table c n ps) r
+answer-refused c n ps r = ((λ is. (check-refused c n ps r).0 (by (check_run c n ps) refl is)), λ gives. answer-bad c n ps r ((check-refused c n ps r).1 gives))
   where
-    by : (k : Check) → checkRun c n ps ≡ k → answer_of c n ps ≡ Refused r → checkRun c n ps ≡ Bad r
+    by : (k : Check) → check_run c n ps ≡ k → answer_of c n ps ≡ Refused r → check_run c n ps ≡ Bad r
     by Fine fine is = let twice = sym (answer-fine c n ps fine) ∙ is in let z : ◌≡◌ {A = ℕ} 0 1 = cc in absurd (omega arith)
     by (Bad s) bad is = let twice = sym (answer-bad c n ps s bad) ∙ is in bad ∙ cc
 
 pub split-refused : (c : Costs) (n : ℕ) (ps : List Piece) (p : Piece) (g : ℕ) (r : Refusal)
-    → (splitOf c n ps p g ≡ Denied r) ↔ Refuses (recordTable c (n + 1) (take n ps ++ (p ∷ []))) r
-unfolding splitOf
+    → (split_of c n ps p g ≡ Denied r) ↔ Refuses (record_table c (n + 1) (take n ps ++ (p ∷ []))) r
+unfolding split_of
 split-refused c n ps p g r = (
-  (λ is. (check-refused c (n + 1) all r).0 (by (checkRun c (n + 1) all) refl is)),
-  λ gives. sym (split-bad (checkRun c (n + 1) all) best r ((check-refused c (n + 1) all r).1 gives)),
+  (λ is. (check-refused c (n + 1) all r).0 (by (check_run c (n + 1) all) refl is)),
+  λ gives. sym (split-bad (check_run c (n + 1) all) best r ((check-refused c (n + 1) all r).1 gives)),
 )
   where
     all : List Piece
     all = take n ps ++ (p ∷ [])
 
     best : Split
-    best = greatestSplit c g (take n ps) p
+    best = greatest_split c g (take n ps) p
 
-    by : (k : Check) → checkRun c (n + 1) all ≡ k → splitOf c n ps p g ≡ Denied r → checkRun c (n + 1) all ≡ Bad r
-    by Fine fine is = let twice = split-fine (checkRun c (n + 1) all) best fine ∙ is in let z : ◌≡◌ {A = ℕ} 0 1 = cc in absurd (omega arith)
-    by (Bad s) bad is = let twice = split-bad (checkRun c (n + 1) all) best s bad ∙ is in bad ∙ cc
+    by : (k : Check) → check_run c (n + 1) all ≡ k → split_of c n ps p g ≡ Denied r → check_run c (n + 1) all ≡ Bad r
+    by Fine fine is = let twice = split-fine (check_run c (n + 1) all) best fine ∙ is in let z : ◌≡◌ {A = ℕ} 0 1 = cc in absurd (omega arith)
+    by (Bad s) bad is = let twice = split-bad (check_run c (n + 1) all) best s bad ∙ is in bad ∙ cc
 
 -- what is told of a refusal
-told-refused : (r : Refusal) → told (Refused r) ≡ record { which = 100 + refusalNumber r; carries = carriesOf r }
+told-refused : (r : Refusal) → told (Refused r) ≡ record { which = 100 + refusal_number r; carries = carries_of r }
 told-refused TooMany = refl
 told-refused BadCosts = refl
 told-refused (BadRecord k) = refl
@@ -183,37 +183,37 @@ judged-below (Overloaded t) = omega arith
 judged-below Undecided = omega arith
 
 pub record-refused : (c : Costs) (n : ℕ) (ps : List Piece) (N k : ℕ)
-    → (told (answer_of c n ps) ≡ record { which = 100 + N; carries = k }) ↔ Gives (recordTable c n ps) N k
-record-refused c n ps N k = (by (checkRun c n ps) refl, from)
+    → (told (answer_of c n ps) ≡ record { which = 100 + N; carries = k }) ↔ Gives (record_table c n ps) N k
+record-refused c n ps N k = (by (check_run c n ps) refl, from)
   where
-    comes : ((badNumber (checkRun c n ps) ≡ N) × (badCarries (checkRun c n ps) ≡ k) × (badNumber (checkRun c n ps) ≡ 0 → ⊥)) ↔ Gives (recordTable c n ps) N k
+    comes : ((bad_number (check_run c n ps) ≡ N) × (bad_carries (check_run c n ps) ≡ k) × (bad_number (check_run c n ps) ≡ 0 → ⊥)) ↔ Gives (record_table c n ps) N k
     comes = comes-gives (check-comes c n ps) N k
 
-    by : (r : Check) → checkRun c n ps ≡ r → told (answer_of c n ps) ≡ record { which = 100 + N; carries = k } → Gives (recordTable c n ps) N k
+    by : (r : Check) → check_run c n ps ≡ r → told (answer_of c n ps) ≡ record { which = 100 + N; carries = k } → Gives (record_table c n ps) N k
     by Fine fine is =
-        let which : (told (Judged (verdictOf c (take n ps)))).which ≡ 100 + N = ap (λ (t : Told). t.which) (ap told (sym (answer-fine c n ps fine)) ∙ is) in
-        absurd (omega (arith, judged-below (verdictOf c (take n ps))))
+        let which : (told (Judged (verdict_of c (take n ps)))).which ≡ 100 + N = ap (λ (t : Told). t.which) (ap told (sym (answer-fine c n ps fine)) ∙ is) in
+        absurd (omega (arith, judged-below (verdict_of c (take n ps))))
     by (Bad r) bad is =
         let so = sym (told-refused r) ∙ (ap told (sym (answer-bad c n ps r bad)) ∙ is) in
-        let number : 100 + refusalNumber r ≡ 100 + N = ap (λ (t : Told). t.which) so in
-        comes.0 (ap badNumber bad ∙ omega arith, ap badCarries bad ∙ ap (λ (t : Told). t.carries) so, (λ e. number-some r (ap badNumber (sym bad) ∙ e)))
+        let number : 100 + refusal_number r ≡ 100 + N = ap (λ (t : Told). t.which) so in
+        comes.0 (ap bad_number bad ∙ omega arith, ap bad_carries bad ∙ ap (λ (t : Told). t.carries) so, (λ e. number-some r (ap bad_number (sym bad) ∙ e)))
 
-    told-by : (r : Check) → checkRun c n ps ≡ r → badNumber r ≡ N → badCarries r ≡ k → (badNumber r ≡ 0 → ⊥)
+    told-by : (r : Check) → check_run c n ps ≡ r → bad_number r ≡ N → bad_carries r ≡ k → (bad_number r ≡ 0 → ⊥)
         → told (answer_of c n ps) ≡ record { which = 100 + N; carries = k }
     told-by Fine fine number carries some = absurd (some refl)
     told-by (Bad r) bad number carries some =
         ap told (answer-bad c n ps r bad) ∙ (told-refused r ∙ (λ i. record { which = 100 + number i; carries = carries i }))
 
-    from : Gives (recordTable c n ps) N k → told (answer_of c n ps) ≡ record { which = 100 + N; carries = k }
-    from gives = let so = comes.1 gives in told-by (checkRun c n ps) refl so.0 so.1 so.2
+    from : Gives (record_table c n ps) N k → told (answer_of c n ps) ≡ record { which = 100 + N; carries = k }
+    from gives = let so = comes.1 gives in told-by (check_run c n ps) refl so.0 so.1 so.2
 
-pub record-judged : (c : Costs) (n : ℕ) (ps : List Piece) → (answer_of c n ps ≡ Judged (verdictOf c (take n ps))) ↔ Kept (recordTable c n ps)
-record-judged c n ps = (by (checkRun c n ps) refl, (λ kept. fine (checkRun c n ps) refl ((comes-kept (check-comes c n ps)).1 kept)))
+pub record-judged : (c : Costs) (n : ℕ) (ps : List Piece) → (answer_of c n ps ≡ Judged (verdict_of c (take n ps))) ↔ Kept (record_table c n ps)
+record-judged c n ps = (by (check_run c n ps) refl, (λ kept. fine (check_run c n ps) refl ((comes-kept (check-comes c n ps)).1 kept)))
   where
-    fine : (r : Check) → checkRun c n ps ≡ r → badNumber r ≡ 0 → answer_of c n ps ≡ Judged (verdictOf c (take n ps))
+    fine : (r : Check) → check_run c n ps ≡ r → bad_number r ≡ 0 → answer_of c n ps ≡ Judged (verdict_of c (take n ps))
     fine Fine is e = answer-fine c n ps is
     fine (Bad r) is e = absurd (number-some r e)
 
-    by : (r : Check) → checkRun c n ps ≡ r → answer_of c n ps ≡ Judged (verdictOf c (take n ps)) → Kept (recordTable c n ps)
-    by Fine is e = (comes-kept (check-comes c n ps)).0 (ap badNumber is)
+    by : (r : Check) → check_run c n ps ≡ r → answer_of c n ps ≡ Judged (verdict_of c (take n ps)) → Kept (record_table c n ps)
+    by Fine is e = (comes-kept (check-comes c n ps)).0 (ap bad_number is)
     by (Bad r) is e = let twice = sym (answer-bad c n ps r is) ∙ e in let z : ◌≡◌ {A = ℕ} 0 1 = cc in absurd (omega arith)

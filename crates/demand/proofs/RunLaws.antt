@@ -27,10 +27,10 @@ use Rattle.demand.specs.declared.Refusal.{Refusal}
 use Rattle.demand.specs.declared.Refusal.TheVariants.{TooMany, BadCosts, BadRecord}
 use Rattle.demand.specs.declared.Check.{Check}
 use Rattle.demand.specs.declared.Check.TheVariants.{Fine, Bad}
-use Rattle.demand.specs.Kinds.{kindMost}
-use Rattle.demand.specs.Records.{outside, recordsOf}
-use Rattle.demand.specs.Sizes.{runMost, Sized, SizedCosts, Each, sized, sizedCosts}
-use Rattle.demand.specs.ways.Ranges.{Countable, Ranged}
+use Rattle.demand.specs.Kinds.{kind_most}
+use Rattle.demand.specs.Records.{outside, records_of}
+use Rattle.demand.specs.Sizes.{run_most, Sized, SizedCosts, Each, sized, sized_costs}
+use Rattle.demand.specs.Ways.Ranges.{Countable, Ranged}
 use Rattle.demand.specs.declared.Answer.TheVariants.{Judged, Refused}
 use Rattle.demand.specs.declared.Charged.{Charged}
 use Rattle.demand.specs.declared.Found.{Found}
@@ -38,10 +38,10 @@ use Rattle.demand.specs.declared.Figure.TheVariants.{Of, Barred}
 use Rattle.demand.specs.declared.Split.{Split}
 use Rattle.demand.specs.declared.Splitting.TheVariants.{Best, Denied}
 use Rattle.demand.specs.Charge.{core_of}
-use Rattle.demand.specs.Verdict.{verdictOf}
+use Rattle.demand.specs.Verdict.{verdict_of}
 use Rattle.demand.specs.declared.Showing.TheVariants.{Shows, Unshown}
-use Rattle.demand.specs.Why.{shownOf}
-use Rattle.demand.specs.Answer.{Taken, firstBad, badRecord, checkRun, answer_of, showingOf, figured, splitted}
+use Rattle.demand.specs.Why.{shown_of}
+use Rattle.demand.specs.Answer.{Taken, first_bad, bad_record, check_run, answer_of, showing_of, figured, splitted}
 use Rattle.demand.proofs.RecordLaws.{records-length, records-at, kind-outside}
 use Rattle.demand.proofs.Sums.{each-front, each_last}
 use Rattle.demand.proofs.ChargeLaws.{all-countable, core-ranged}
@@ -54,70 +54,70 @@ length-mapped X Y f l n e = sym (length-map l f) ∙ e
 
 module _ (n : ℕ) (ps : List Piece) (room : n ≤ length ps) where
   pub bad-good : (i : ℕ) (d : Piece) → i < n → sized (get_or ps i d) ≡ true
-      → firstBad (i + 1) (drop i (take n ps)) ≡ firstBad (i + 1 + 1) (drop (i + 1) (take n ps))
+      → first_bad (i + 1) (drop i (take n ps)) ≡ first_bad (i + 1 + 1) (drop (i + 1) (take n ps))
   bad-good i d h e = first-bad-good (take n ps) i d (omega (arith, length-take-le n ps room)) (rw (get_or-take n ps i d h) e)
 
-  pub bad-here : (i : ℕ) (d : Piece) → i < n → sized (get_or ps i d) ≡ false → firstBad (i + 1) (drop i (take n ps)) ≡ i + 1
+  pub bad-here : (i : ℕ) (d : Piece) → i < n → sized (get_or ps i d) ≡ false → first_bad (i + 1) (drop i (take n ps)) ≡ i + 1
   bad-here i d h e = first-bad-here (take n ps) i d (omega (arith, length-take-le n ps room)) (rw (get_or-take n ps i d h) e)
 
-  pub bad-end : (k : ℕ) → firstBad k (drop n (take n ps)) ≡ 0
+  pub bad-end : (k : ℕ) → first_bad k (drop n (take n ps)) ≡ 0
   bad-end k = rw (drop_of_length-le (take n ps) {i = n} (omega (arith, length-take-le n ps room)))
 
 -- ---- the refusals
 
 module _ (c : Costs) (n : ℕ) (ps : List Piece) where
-  pub check-many : runMost < n → checkRun c n ps ≡ Bad TooMany
-  unfolding checkRun
-  check-many h = simp (lt-leb n runMost h)
+  pub check-many : run_most < n → check_run c n ps ≡ Bad TooMany
+  unfolding check_run
+  check-many h = simp (lt-leb n run_most h)
 
-  pub check-costs : n ≤ runMost → sizedCosts c ≡ false → checkRun c n ps ≡ Bad BadCosts
-  unfolding checkRun
-  check-costs h bad = simp (le-leb n runMost h, bad)
+  pub check-costs : n ≤ run_most → sized_costs c ≡ false → check_run c n ps ≡ Bad BadCosts
+  unfolding check_run
+  check-costs h bad = simp (le-leb n run_most h, bad)
 
-  pub check-records : n ≤ runMost → sizedCosts c ≡ true → checkRun c n ps ≡ badRecord (firstBad 1 (take n ps))
-  unfolding checkRun
-  check-records h good = simp (le-leb n runMost h, good)
+  pub check-records : n ≤ run_most → sized_costs c ≡ true → check_run c n ps ≡ bad_record (first_bad 1 (take n ps))
+  unfolding check_run
+  check-records h good = simp (le-leb n run_most h, good)
 
-pub bad-record-some : (k : ℕ) → (k ≡ 0 → ⊥) → badRecord k ≡ Bad (BadRecord k)
+pub bad-record-some : (k : ℕ) → (k ≡ 0 → ⊥) → bad_record k ≡ Bad (BadRecord k)
 bad-record-some zero h = absurd (h refl)
 bad-record-some (suc k) h = refl
 
 pub taken-countable : (c : Costs) (n : ℕ) (ps : List Piece) → Taken c n ps → Each Countable (take n ps)
 taken-countable c n ps ok = all-countable (take n ps) ok.each
 
-bad-record-fine : (k : ℕ) → badRecord k ≡ Fine → k ≡ 0
+bad-record-fine : (k : ℕ) → bad_record k ≡ Fine → k ≡ 0
 bad-record-fine zero e = refl
 bad-record-fine (suc k) e = let z : ◌≡◌ {A = ℕ} 0 1 = cc in absurd (omega arith)
 
-pub check-taken : (c : Costs) (n : ℕ) (ps : List Piece) → checkRun c n ps ≡ Fine → Taken c n ps
-unfolding checkRun
-check-taken c n ps e = few (leb n runMost) refl e
+pub check-taken : (c : Costs) (n : ℕ) (ps : List Piece) → check_run c n ps ≡ Fine → Taken c n ps
+unfolding check_run
+check-taken c n ps e = few (leb n run_most) refl e
   where
-    all : (b : Bool) → sizedCosts c ≡ b → n ≤ runMost → cond b (badRecord (firstBad 1 (take n ps))) (Bad BadCosts) ≡ Fine → Taken c n ps
-    all true good h f = record { few = h; costs = (costs-exact c).0 good; each = first-bad-none 0 (take n ps) (bad-record-fine (firstBad 1 (take n ps)) f) }
+    all : (b : Bool) → sized_costs c ≡ b → n ≤ run_most → cond b (bad_record (first_bad 1 (take n ps))) (Bad BadCosts) ≡ Fine → Taken c n ps
+    all true good h f = record { few = h; costs = (costs-exact c).0 good; each = first-bad-none 0 (take n ps) (bad-record-fine (first_bad 1 (take n ps)) f) }
     all false bad h f = let z : ◌≡◌ {A = ℕ} 0 1 = cc in absurd (omega arith)
 
-    few : (b : Bool) → leb n runMost ≡ b → cond b (cond (sizedCosts c) (badRecord (firstBad 1 (take n ps))) (Bad BadCosts)) (Bad TooMany) ≡ Fine → Taken c n ps
-    few true h f = all (sizedCosts c) refl (leb-true n runMost h) f
+    few : (b : Bool) → leb n run_most ≡ b → cond b (cond (sized_costs c) (bad_record (first_bad 1 (take n ps))) (Bad BadCosts)) (Bad TooMany) ≡ Fine → Taken c n ps
+    few true h f = all (sized_costs c) refl (leb-true n run_most h) f
     few false h f = let z : ◌≡◌ {A = ℕ} 0 1 = cc in absurd (omega arith)
 
 -- ---- one bad record
 
 -- those before it are taken
-module _ (c : Costs) (n i : ℕ) (few : n ≤ runMost) (here : i < n) where
-  pub check-place : (ps : List Piece) (d : Piece) → n ≤ length ps → checkRun c i ps ≡ Fine → sized (get_or ps i d) ≡ false
-      → checkRun c n ps ≡ Bad (BadRecord (i + 1))
+module _ (c : Costs) (n i : ℕ) (few : n ≤ run_most) (here : i < n) where
+  pub check-place : (ps : List Piece) (d : Piece) → n ≤ length ps → check_run c i ps ≡ Fine → sized (get_or ps i d) ≡ false
+      → check_run c n ps ≡ Bad (BadRecord (i + 1))
   check-place ps d room fine bad =
       let ok = check-taken c i ps fine in
-      let good : sizedCosts c ≡ true = (costs-exact c).1 ok.costs in
+      let good : sized_costs c ≡ true = (costs-exact c).1 ok.costs in
       let before : Each Sized (take i (take n ps)) = rw (take-take i n ps (omega arith)) ok.each in
-      let there : firstBad 1 (take n ps) ≡ i + 1 =
+      let there : first_bad 1 (take n ps) ≡ i + 1 =
       first-bad-there 1 i (take n ps) d (omega (arith, length-take-le n ps room)) before (rw (get_or-take n ps i d here) bad) ∙ add_comm 1 i in
-      check-records c n ps few good ∙ (ap badRecord there ∙ bad-record-some (i + 1) (λ none. omega arith))
+      check-records c n ps few good ∙ (ap bad_record there ∙ bad-record-some (i + 1) (λ none. omega arith))
 
-  pub other-kind : (a : List ℕ) → checkRun c i (recordsOf a) ≡ Fine → kindMost < get_or a (7 * i) 0 → checkRun c n (recordsOf a) ≡ Bad (BadRecord (i + 1))
+  pub other-kind : (a : List ℕ) → check_run c i (records_of a) ≡ Fine → kind_most < get_or a (7 * i) 0 → check_run c n (records_of a) ≡ Bad (BadRecord (i + 1))
   other-kind a fine other =
-      check-place (recordsOf a) outside (omega (arith, records-length a)) fine (rw (records-at a i outside (omega arith)) (kind-outside a i other))
+      check-place (records_of a) outside (omega (arith, records-length a)) fine (rw (records-at a i outside (omega arith)) (kind-outside a i other))
 
 -- ---- one record more
 
@@ -126,42 +126,42 @@ take_more n ps p room =
     let long : length (take n ps) ≡ n = length-take-le n ps room in
     subst (λ (k : ℕ). take (k + 1) (take n ps ++ (p ∷ [])) ≡ take n ps ++ (p ∷ [])) long (take-append-add (take n ps) (p ∷ []) 1)
 
-module _ (c : Costs) (n : ℕ) (ps : List Piece) (p : Piece) (few : n < runMost) (room : n ≤ length ps) where
+module _ (c : Costs) (n : ℕ) (ps : List Piece) (p : Piece) (few : n < run_most) (room : n ≤ length ps) where
   -- where costs are within their sizes, the record behind is looked at last
-  check-behind : sizedCosts c ≡ true → checkRun c (n + 1) (take n ps ++ (p ∷ [])) ≡ badRecord (firstBad 1 (take n ps ++ (p ∷ [])))
+  check-behind : sized_costs c ≡ true → check_run c (n + 1) (take n ps ++ (p ∷ [])) ≡ bad_record (first_bad 1 (take n ps ++ (p ∷ [])))
   check-behind good = check-records c (n + 1) (take n ps ++ (p ∷ [])) (omega arith) good ∙ rw (take_more n ps p room)
 
-  behind-last : checkRun c n ps ≡ Fine → checkRun c (n + 1) (take n ps ++ (p ∷ [])) ≡ badRecord (cond (sized p) 0 (n + 1))
+  behind-last : check_run c n ps ≡ Fine → check_run c (n + 1) (take n ps ++ (p ∷ [])) ≡ bad_record (cond (sized p) 0 (n + 1))
   behind-last fine =
       let ok = check-taken c n ps fine in
       let long : 1 + length (take n ps) ≡ n + 1 = omega (arith, length-take-le n ps room) in
       check-behind ((costs-exact c).1 ok.costs) ∙ rw (first-bad-behind 1 (take n ps) p ok.each, long)
 
-  pub behind-fine : checkRun c n ps ≡ Fine → sized p ≡ true → checkRun c (n + 1) (take n ps ++ (p ∷ [])) ≡ Fine
+  pub behind-fine : check_run c n ps ≡ Fine → sized p ≡ true → check_run c (n + 1) (take n ps ++ (p ∷ [])) ≡ Fine
   behind-fine fine good = behind-last fine ∙ rw good
 
-  pub behind-bad : checkRun c n ps ≡ Fine → sized p ≡ false → checkRun c (n + 1) (take n ps ++ (p ∷ [])) ≡ Bad (BadRecord (n + 1))
+  pub behind-bad : check_run c n ps ≡ Fine → sized p ≡ false → check_run c (n + 1) (take n ps ++ (p ∷ [])) ≡ Bad (BadRecord (n + 1))
   behind-bad fine bad = behind-last fine ∙ (rw bad (bad-record-some (n + 1) (λ none. omega arith)))
 
-  pub behind-refused : (r : Refusal) → checkRun c n ps ≡ Bad r → checkRun c (n + 1) (take n ps ++ (p ∷ [])) ≡ Bad r
-  behind-refused r e = look (sizedCosts c) refl
+  pub behind-refused : (r : Refusal) → check_run c n ps ≡ Bad r → check_run c (n + 1) (take n ps ++ (p ∷ [])) ≡ Bad r
+  behind-refused r e = look (sized_costs c) refl
     where
-      place : (k : ℕ) → firstBad 1 (take n ps) ≡ k → badRecord k ≡ Bad r → sizedCosts c ≡ true → checkRun c (n + 1) (take n ps ++ (p ∷ [])) ≡ Bad r
+      place : (k : ℕ) → first_bad 1 (take n ps) ≡ k → bad_record k ≡ Bad r → sized_costs c ≡ true → check_run c (n + 1) (take n ps ++ (p ∷ [])) ≡ Bad r
       place zero none bad good = let z : ◌≡◌ {A = ℕ} 0 1 = cc in absurd (omega arith)
-      place (suc j) there bad good = check-behind good ∙ (ap badRecord (first-bad-front 0 j (take n ps) (p ∷ []) there) ∙ bad)
+      place (suc j) there bad good = check-behind good ∙ (ap bad_record (first-bad-front 0 j (take n ps) (p ∷ []) there) ∙ bad)
 
-      look : (b : Bool) → sizedCosts c ≡ b → checkRun c (n + 1) (take n ps ++ (p ∷ [])) ≡ Bad r
-      look true good = place (firstBad 1 (take n ps)) refl (sym (check-records c n ps (omega arith) good) ∙ e) good
+      look : (b : Bool) → sized_costs c ≡ b → check_run c (n + 1) (take n ps ++ (p ∷ [])) ≡ Bad r
+      look true good = place (first_bad 1 (take n ps)) refl (sym (check-records c n ps (omega arith) good) ∙ e) good
       look false bad = check-costs c (n + 1) (take n ps ++ (p ∷ [])) (omega arith) bad ∙ (sym (check-costs c n ps (omega arith) bad) ∙ e)
 
 -- what is known of a run and a task that are not refused
 pub record Fit (c : Costs) (n : ℕ) (ps : List Piece) (p : Piece) : Type 0 where
-  pub few : n < runMost
+  pub few : n < run_most
   pub costs : SizedCosts c
   pub each : Each Sized (take n ps)
   pub own : Sized p
 
-pub check-task : (c : Costs) (n : ℕ) (ps : List Piece) (p : Piece) → length ps ≡ runMost → checkRun c (n + 1) (take n ps ++ (p ∷ [])) ≡ Fine → Fit c n ps p
+pub check-task : (c : Costs) (n : ℕ) (ps : List Piece) (p : Piece) → length ps ≡ run_most → check_run c (n + 1) (take n ps ++ (p ∷ [])) ≡ Fine → Fit c n ps p
 check-task c n ps p long fine =
     let ok = check-taken c (n + 1) (take n ps ++ (p ∷ [])) fine in
     let all : Each Sized (take n ps ++ (p ∷ [])) = rw (take_more n ps p (omega (arith, ok.few))) at ok.each in
@@ -179,20 +179,20 @@ figure-fine k f e = rw e
 pub figure-bad : (k : Check) (f : Found) (r : Refusal) → k ≡ Bad r → Barred r ≡ figured k f
 figure-bad k f r e = rw e
 
-pub answer-fine : (c : Costs) (n : ℕ) (ps : List Piece) → checkRun c n ps ≡ Fine → answer_of c n ps ≡ Judged (verdictOf c (take n ps))
+pub answer-fine : (c : Costs) (n : ℕ) (ps : List Piece) → check_run c n ps ≡ Fine → answer_of c n ps ≡ Judged (verdict_of c (take n ps))
 unfolding answer_of
 answer-fine c n ps e = rw e
 
-pub answer-bad : (c : Costs) (n : ℕ) (ps : List Piece) (r : Refusal) → checkRun c n ps ≡ Bad r → answer_of c n ps ≡ Refused r
+pub answer-bad : (c : Costs) (n : ℕ) (ps : List Piece) (r : Refusal) → check_run c n ps ≡ Bad r → answer_of c n ps ≡ Refused r
 unfolding answer_of
 answer-bad c n ps r e = rw e
 
-pub showing-fine : (c : Costs) (n : ℕ) (ps : List Piece) → checkRun c n ps ≡ Fine → showingOf c n ps ≡ Shows (shownOf c (take n ps))
-unfolding showingOf
+pub showing-fine : (c : Costs) (n : ℕ) (ps : List Piece) → check_run c n ps ≡ Fine → showing_of c n ps ≡ Shows (shown_of c (take n ps))
+unfolding showing_of
 showing-fine c n ps e = rw e
 
-pub showing-bad : (c : Costs) (n : ℕ) (ps : List Piece) (r : Refusal) → checkRun c n ps ≡ Bad r → showingOf c n ps ≡ Unshown r
-unfolding showingOf
+pub showing-bad : (c : Costs) (n : ℕ) (ps : List Piece) (r : Refusal) → check_run c n ps ≡ Bad r → showing_of c n ps ≡ Unshown r
+unfolding showing_of
 showing-bad c n ps r e = rw e
 
 pub split-fine : (k : Check) (s : Split) → k ≡ Fine → Best s ≡ splitted k s
@@ -203,12 +203,12 @@ split-bad k s r e = rw e
 
 -- ---- a run within the sizes is taken
 
-first-bad-all : (k : ℕ) (ps : List Piece) → Each Sized ps → firstBad k ps ≡ 0
+first-bad-all : (k : ℕ) (ps : List Piece) → Each Sized ps → first_bad k ps ≡ 0
 first-bad-all k [] ok = refl
 first-bad-all k (p ∷ ps) ok = rw ((sized-exact p).1 ok.0) (first-bad-all (k + 1) ps ok.1)
 
-pub taken-check : (c : Costs) (n : ℕ) (ps : List Piece) → Taken c n ps → checkRun c n ps ≡ Fine
-taken-check c n ps ok = check-records c n ps ok.few ((costs-exact c).1 ok.costs) ∙ ap badRecord (first-bad-all 1 (take n ps) ok.each)
+pub taken-check : (c : Costs) (n : ℕ) (ps : List Piece) → Taken c n ps → check_run c n ps ≡ Fine
+taken-check c n ps ok = check-records c n ps ok.few ((costs-exact c).1 ok.costs) ∙ ap bad_record (first-bad-all 1 (take n ps) ok.each)
 
-pub taken-answer : (c : Costs) (n : ℕ) (ps : List Piece) → Taken c n ps → answer_of c n ps ≡ Judged (verdictOf c (take n ps))
+pub taken-answer : (c : Costs) (n : ℕ) (ps : List Piece) → Taken c n ps → answer_of c n ps ≡ Judged (verdict_of c (take n ps))
 taken-answer c n ps ok = answer-fine c n ps (taken-check c n ps ok)

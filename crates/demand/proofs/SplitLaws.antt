@@ -27,12 +27,12 @@ use Rattle.demand.specs.declared.Split.{Split}
 use Rattle.demand.specs.declared.Split.TheVariants.{Cut, Nowhere}
 use Rattle.demand.specs.Sizes.{SizedCosts, Sized, Each, Tells}
 use Rattle.demand.specs.Kinds.{arrives}
-use Rattle.demand.specs.Charge.{charge, charged, ipiCost, core_of, stall}
-use Rattle.demand.specs.Demand.{ceil, total, interrupts, jobsDue, load, demand, Live}
-use Rattle.demand.specs.Busy.{Least, Holds, tightSum}
-use Rattle.demand.specs.Verdict.{Means, verdict, verdictOf}
-use Rattle.demand.specs.Split.{piece_of, firstPiece, lastPiece, tightOn, Splits, passes, tightFirst, bothPass, splitting, greatestSplit}
-use Rattle.demand.specs.ways.ChargedSplit.{lastAlone, Tight, Fits, NoneAbove, Chosen, TightIn}
+use Rattle.demand.specs.Charge.{charge, charged, ipi_cost, core_of, stall}
+use Rattle.demand.specs.Demand.{ceil, total, interrupts, jobs_due, load, demand, Live}
+use Rattle.demand.specs.Busy.{Least, Holds, tight_sum}
+use Rattle.demand.specs.Verdict.{Means, verdict, verdict_of}
+use Rattle.demand.specs.Split.{piece_of, first_piece, last_piece, tight_on, Splits, passes, tight_first, both_pass, splitting, greatest_split}
+use Rattle.demand.specs.Ways.ChargedSplit.{last_alone, Tight, Fits, NoneAbove, Chosen, TightIn}
 use Rattle.demand.proofs.DemandLaws.{Recurs, jobs-due-some, demand-above}
 use Rattle.demand.proofs.ChargeLaws.{when-le, late-jitter-le}
 use Rattle.demand.proofs.SizeLaws.{tells-exact, tells_both}
@@ -54,15 +54,15 @@ passes-exact v = tells-exact (v ≡ Passes) (passes v) (passes-tells v)
 
 module _ (c : Costs) (ps : List Piece) (p : Piece) where
   both-tells : (x w : ℕ)
-      → Tells ((verdictOf c (ps ++ (firstPiece p x w ∷ [])) ≡ Passes) × (verdictOf c (lastPiece c p x w ∷ []) ≡ Passes)) (bothPass c ps p x w)
-  unfolding bothPass
+      → Tells ((verdict_of c (ps ++ (first_piece p x w ∷ [])) ≡ Passes) × (verdict_of c (last_piece c p x w ∷ []) ≡ Passes)) (both_pass c ps p x w)
+  unfolding both_pass
   both-tells x w =
-      tells_both (verdictOf c (ps ++ (firstPiece p x w ∷ [])) ≡ Passes) (verdictOf c (lastPiece c p x w ∷ []) ≡ Passes)
-      (passes (verdictOf c (ps ++ (firstPiece p x w ∷ [])))) (passes (verdictOf c (lastPiece c p x w ∷ [])))
-      (passes-tells (verdictOf c (ps ++ (firstPiece p x w ∷ [])))) (passes-tells (verdictOf c (lastPiece c p x w ∷ [])))
+      tells_both (verdict_of c (ps ++ (first_piece p x w ∷ [])) ≡ Passes) (verdict_of c (last_piece c p x w ∷ []) ≡ Passes)
+      (passes (verdict_of c (ps ++ (first_piece p x w ∷ [])))) (passes (verdict_of c (last_piece c p x w ∷ [])))
+      (passes-tells (verdict_of c (ps ++ (first_piece p x w ∷ [])))) (passes-tells (verdict_of c (last_piece c p x w ∷ [])))
 
-  first-in : (x : ℕ) → TightIn c (core_of c ps) p x (tightFirst c ps p x)
-  unfolding tightFirst
+  first-in : (x : ℕ) → TightIn c (core_of c ps) p x (tight_first c ps p x)
+  unfolding tight_first
   first-in x = rw (with-core c ps p x 0) (window-in c (core_of c ps) p x 0)
 
 module _ (c : Costs) (g : ℕ) (ps : List Piece) (p : Piece) (pos : 1 ≤ g) where
@@ -76,10 +76,10 @@ module _ (c : Costs) (g : ℕ) (ps : List Piece) (p : Piece) (pos : 1 ≤ g) whe
   chosen : (k : ℕ) → (1 ≤ k → k * g < p.budget) → NoneAbove c g (core_of c ps) p (k * g) → Chosen c g (core_of c ps) p (splitting c g ps p k)
   chosen zero less above = subst (λ (x : ℕ). NoneAbove c g (core_of c ps) p x) (zero-mul g) above
   chosen (suc k) less above =
-      look (tightFirst c ps p (suc k * g)) (first-in c ps p (suc k * g)) (λ none. chosen k (λ some. omega (arith, less (omega arith))) (none-step k above none))
+      look (tight_first c ps p (suc k * g)) (first-in c ps p (suc k * g)) (λ none. chosen k (λ some. omega (arith, less (omega arith))) (none-step k above none))
     where
       both : (t w : ℕ) → Tight c (core_of c ps) p (suc k * g) t → p.jitter + t + 1 ≤ p.window → w ≡ p.jitter + t → (b : Bool)
-          → Tells ((verdictOf c (ps ++ (firstPiece p (suc k * g) w ∷ [])) ≡ Passes) × (verdictOf c (lastPiece c p (suc k * g) w ∷ []) ≡ Passes)) b
+          → Tells ((verdict_of c (ps ++ (first_piece p (suc k * g) w ∷ [])) ≡ Passes) × (verdict_of c (last_piece c p (suc k * g) w ∷ []) ≡ Passes)) b
           → (((u : ℕ) → Fits c (core_of c ps) p (suc k * g) u → ⊥) → Chosen c g (core_of c ps) p (splitting c g ps p k))
           → Chosen c g (core_of c ps) p (elim b [ true ↦ Cut (suc k * g) w | false ↦ splitting c g ps p k ])
       both t w tight room at true pass more = (
@@ -102,27 +102,27 @@ module _ (c : Costs) (g : ℕ) (ps : List Piece) (p : Piece) (pos : 1 ≤ g) whe
           → (((u : ℕ) → Fits c (core_of c ps) p (suc k * g) u → ⊥) → Chosen c g (core_of c ps) p (splitting c g ps p k))
           → Chosen c g (core_of c ps) p (elim f [
             | At w ↦
-                elim (bothPass c ps p (suc k * g) w) [ true ↦ Cut (suc k * g) w | false ↦ splitting c g ps p k ]
+                elim (both_pass c ps p (suc k * g) w) [ true ↦ Cut (suc k * g) w | false ↦ splitting c g ps p k ]
             | Nothing ↦ splitting c g ps p k
           ])
-      look (At w) found more = both found.0 w found.1 found.2 found.3 (bothPass c ps p (suc k * g) w) (both-tells c ps p (suc k * g) w) more
+      look (At w) found more = both found.0 w found.1 found.2 found.3 (both_pass c ps p (suc k * g) w) (both-tells c ps p (suc k * g) w) more
       look Nothing none more = more (untight c (core_of c ps) p (suc k * g) none)
 
-  some-means : Splits c g ps p (greatestSplit c g ps p)
-  unfolding greatestSplit
+  some-means : Splits c g ps p (greatest_split c g ps p)
+  unfolding greatest_split
   some-means =
       splits_of c ps p g (splitting c g ps p ((p.budget - 1) / g))
       (chosen ((p.budget - 1) / g) (first_below g p pos) (none_first g p pos c (core_of c ps)))
 
 -- a grain of 0 has no multiples that count
-pub split-none : (c : Costs) (ps : List Piece) (p : Piece) → greatestSplit c 0 ps p ≡ Nowhere
-unfolding greatestSplit
+pub split-none : (c : Costs) (ps : List Piece) (p : Piece) → greatest_split c 0 ps p ≡ Nowhere
+unfolding greatest_split
 split-none c ps p = rw (div-zero (p.budget - 1))
 
-none-means : (c : Costs) (ps : List Piece) (p : Piece) → Splits c 0 ps p (greatestSplit c 0 ps p)
+none-means : (c : Costs) (ps : List Piece) (p : Piece) → Splits c 0 ps p (greatest_split c 0 ps p)
 none-means c ps p = rw (split-none c ps p) (λ x t k allowed. omega (arith, k.some, k.multiple, mul-zero k.times))
 
-split-means : (c : Costs) (g : ℕ) (ps : List Piece) (p : Piece) → Splits c g ps p (greatestSplit c g ps p)
+split-means : (c : Costs) (g : ℕ) (ps : List Piece) (p : Piece) → Splits c g ps p (greatest_split c g ps p)
 split-means c zero ps p = none-means c ps p
 split-means c (suc g) ps p = some-means c (suc g) ps p (omega arith)
 
@@ -135,7 +135,7 @@ same-cut c g ps p x w y v a b = elim (dec_lt x y) [
     | yes k ↦ absurd (b.1.none_above x a.0 k a.1.candidate a.1.allowed)
     | no k ↦
         let e : x ≡ y = omega arith in
-        let f : a.0 ≡ b.0 = least-unique (subst (λ (z : ℕ). Least (Holds (tightOn c ps p z)) a.0) e a.1.allowed.tight) b.1.allowed.tight in
+        let f : a.0 ≡ b.0 = least-unique (subst (λ (z : ℕ). Least (Holds (tight_on c ps p z)) a.0) e a.1.allowed.tight) b.1.allowed.tight in
         let h : w ≡ v = omega (arith, a.2, b.2) in
         cc
   ]
@@ -147,10 +147,10 @@ split-unique c g ps p (Cut x w) Nowhere a b = absurd (b x a.0 a.1.candidate a.1.
 split-unique c g ps p Nowhere (Cut y v) a b = absurd (a y b.0 b.1.candidate b.1.allowed)
 split-unique c g ps p Nowhere Nowhere a b = refl
 
-pub split-exact : (c : Costs) (g : ℕ) (ps : List Piece) (p : Piece) (s : Split) → (greatestSplit c g ps p ≡ s) ↔ Splits c g ps p s
+pub split-exact : (c : Costs) (g : ℕ) (ps : List Piece) (p : Piece) (s : Split) → (greatest_split c g ps p ≡ s) ↔ Splits c g ps p s
 split-exact c g ps p s = (
   (λ e. subst (Splits c g ps p) e (split-means c g ps p)),
-  λ h. split-unique c g ps p (greatestSplit c g ps p) s (split-means c g ps p) h,
+  λ h. split-unique c g ps p (greatest_split c g ps p) s (split-means c g ps p) h,
 )
 
 -- ---- what a split leaves
@@ -160,10 +160,10 @@ pub record Parts (c : Costs) (ps : List Piece) (p : Piece) (x w : ℕ) : Type 0 
   pub some : 1 ≤ x
   pub less : x < p.budget
   pub inside : w < p.window
-  pub first-sized : Sized (firstPiece p x w)
-  pub last-sized : Sized (lastPiece c p x w)
-  pub first_passes : verdictOf c (ps ++ (firstPiece p x w ∷ [])) ≡ Passes
-  pub last-passes : verdictOf c (lastPiece c p x w ∷ []) ≡ Passes
+  pub first-sized : Sized (first_piece p x w)
+  pub last-sized : Sized (last_piece c p x w)
+  pub first_passes : verdict_of c (ps ++ (first_piece p x w ∷ [])) ≡ Passes
+  pub last-passes : verdict_of c (last_piece c p x w ∷ []) ≡ Passes
 
 -- the budget is within the tight window: it is part of what has to fit there
 tight-holds : (c : Costs) (ps : List Piece) (p : Piece) (x t : ℕ) → Fits c (core_of c ps) p x t → x ≤ t
@@ -178,23 +178,23 @@ alone-demand : (b : ℕ) (q : Charged) → q.charge ≤ demand b (q ∷ []) q.wi
 unfolding load
 alone-demand b q = omega (arith, demand-above b (q ∷ []) q.window (omega arith), mul-le-mul_right q.charge (due q))
   where
-    due : (q : Charged) → 1 ≤ jobsDue q q.window
+    due : (q : Charged) → 1 ≤ jobs_due q q.window
     due q = omega (arith, jobs-due-some q q.window (omega arith))
 
-last-window : (c : Costs) (p : Piece) (x w : ℕ) → (charged c (lastPiece c p x w)).window ≡ p.window - w
-unfolding charged lastPiece piece_of
+last-window : (c : Costs) (p : Piece) (x w : ℕ) → (charged c (last_piece c p x w)).window ≡ p.window - w
+unfolding charged last_piece piece_of
 last-window c p x w = refl
 
-last-inside : (c : Costs) (p : Piece) (x w : ℕ) → Sized p → verdict (stall c) (lastAlone c p x w) ≡ Passes → p.budget - x ≤ p.window - w
-unfolding lastAlone
+last-inside : (c : Costs) (p : Piece) (x w : ℕ) → Sized p → verdict (stall c) (last_alone c p x w) ≡ Passes → p.budget - x ≤ p.window - w
+unfolding last_alone
 last-inside c p x w ok pass =
-    let q = charged c (lastPiece c p x w) in
+    let q = charged c (last_piece c p x w) in
     let recurs : Each Recurs (q ∷ []) = last-recurs c p x w ok in
     let means : Means (stall c) (q ∷ []) Passes = subst (λ (v : Verdict). Means (stall c) (q ∷ []) v) pass (verdict-means (stall c) (q ∷ [])) in
     omega (arith, passes-forever (stall c) (q ∷ []) recurs means q.window (alone-live q), alone-demand (stall c) q, last-window c p x w, last-charge c p x w)
 
-first-size : (p : Piece) (x w : ℕ) → Sized p → 1 ≤ x → x ≤ w → w < p.window → Sized (firstPiece p x w)
-unfolding firstPiece piece_of
+first-size : (p : Piece) (x w : ℕ) → Sized p → 1 ≤ x → x ≤ w → w < p.window → Sized (first_piece p x w)
+unfolding first_piece piece_of
 first-size p x w ok some fits inside = record {
   budget-some = some;
   budget-fits = fits;
@@ -205,8 +205,8 @@ first-size p x w ok some fits inside = record {
   migrate-fits = ok.migrate-fits;
 }
 
-last-size : (c : Costs) (p : Piece) (x w : ℕ) → SizedCosts c → Sized p → x < p.budget → p.budget - x ≤ p.window - w → Sized (lastPiece c p x w)
-unfolding lastPiece piece_of
+last-size : (c : Costs) (p : Piece) (x w : ℕ) → SizedCosts c → Sized p → x < p.budget → p.budget - x ≤ p.window - w → Sized (last_piece c p x w)
+unfolding last_piece piece_of
 last-size c p x w costs ok less fits = record {
   budget-some = omega arith;
   budget-fits = fits;
@@ -222,7 +222,7 @@ cut_parts c g ps p costs ok x w splits =
     let t = splits.0 in
     let k = splits.1.candidate in
     let fits = allowed-fits c ps p x t splits.1.allowed in
-    let there : verdict (stall c) (lastAlone c p x w) ≡ Passes = rw splits.2 fits.there in
+    let there : verdict (stall c) (last_alone c p x w) ≡ Passes = rw splits.2 fits.there in
     record {
       some = k.some;
       less = k.less;
@@ -233,7 +233,7 @@ cut_parts c g ps p costs ok x w splits =
       last-passes = last-verdict c ps p x w ∙ there;
     }
 
-pub split_parts : (c : Costs) (g : ℕ) (ps : List Piece) (p : Piece) → SizedCosts c → Sized p → (x w : ℕ) → greatestSplit c g ps p ≡ Cut x w → Parts c ps p x w
+pub split_parts : (c : Costs) (g : ℕ) (ps : List Piece) (p : Piece) → SizedCosts c → Sized p → (x w : ℕ) → greatest_split c g ps p ≡ Cut x w → Parts c ps p x w
 split_parts c g ps p costs ok x w e = cut_parts c g ps p costs ok x w ((split-exact c g ps p (Cut x w)).0 e)
 
 -- ---- C=D
@@ -251,7 +251,7 @@ pub record Free (c : Costs) (p : Piece) : Type 0 where
   pub preempt-none : p.preempt ≡ 0
 
 no-interrupts : (c : Costs) (q : Piece) (t : ℕ) → c.relo ≡ 0 → c.tseto ≡ 0 → c.ipio ≡ 0 → interrupts (charged c q) t ≡ 0
-unfolding interrupts charged ipiCost
+unfolding interrupts charged ipi_cost
 no-interrupts c q t relo tseto ipio =
     let n = ceil (t + q.jitter) q.period in
     let m = ceil (t + c.ipij) q.period in
@@ -264,19 +264,19 @@ unfolding core_of
 none-in-all c [] t relo tseto ipio = refl
 none-in-all c (p ∷ ps) t relo tseto ipio = omega (arith, no-interrupts c p t relo tseto ipio, none-in-all c ps t relo tseto ipio)
 
-free-sum : (c : Costs) (ps : List Piece) (p : Piece) → Free c p → (x t : ℕ) → tightOn c ps p x t ≡ x
-unfolding tightOn tightSum stall charged charge firstPiece piece_of
-free-sum c ps p free x t = omega (arith, none-in-all c (ps ++ (firstPiece p x 0 ∷ [])) t free.relo-none free.tseto-none free.ipio-none)
+free-sum : (c : Costs) (ps : List Piece) (p : Piece) → Free c p → (x t : ℕ) → tight_on c ps p x t ≡ x
+unfolding tight_on tight_sum stall charged charge first_piece piece_of
+free-sum c ps p free x t = omega (arith, none-in-all c (ps ++ (first_piece p x 0 ∷ [])) t free.relo-none free.tseto-none free.ipio-none)
 
-pub tight-is-budget : (c : Costs) (ps : List Piece) (p : Piece) → Free c p → (x : ℕ) → 1 ≤ x → Least (Holds (tightOn c ps p x)) x
+pub tight-is-budget : (c : Costs) (ps : List Piece) (p : Piece) → Free c p → (x : ℕ) → 1 ≤ x → Least (Holds (tight_on c ps p x)) x
 tight-is-budget c ps p free x some = record {
   here = record { some = some; fits = omega (arith, free-sum c ps p free x x) };
   none_below = λ k below holds. omega (arith, holds.fits, free-sum c ps p free x k);
 }
 
-pub tight-first-budget : (c : Costs) (ps : List Piece) (p : Piece) → Free c p → (x : ℕ) → 1 ≤ x → x + 1 ≤ p.window → tightFirst c ps p x ≡ At x
+pub tight-first-budget : (c : Costs) (ps : List Piece) (p : Piece) → Free c p → (x : ℕ) → 1 ≤ x → x + 1 ≤ p.window → tight_first c ps p x ≡ At x
 tight-first-budget c ps p free x some room =
-    look (tightFirst c ps p x) (first-in c ps p x)
+    look (tight_first c ps p x) (first-in c ps p x)
     (subst (λ (f : ℕ → ℕ). Least (Holds f) x) (sum-core c ps p x) (tight-is-budget c ps p free x some))
   where
     look : (f : Found) → TightIn c (core_of c ps) p x f → Tight c (core_of c ps) p x x → f ≡ At x

@@ -21,10 +21,10 @@ use Rattle.demand.specs.declared.Found.{Found}
 use Rattle.demand.specs.declared.Found.TheVariants.{At, Nothing}
 use Rattle.demand.specs.declared.Verdict.{Verdict}
 use Rattle.demand.specs.declared.Verdict.TheVariants.{Passes, Overloaded, Undecided}
-use Rattle.demand.specs.Sizes.{Each, busyMost}
-use Rattle.demand.specs.Demand.{demand, Live, leastLive}
-use Rattle.demand.specs.Busy.{Least, Holds, Finds, busySum, busyLength}
-use Rattle.demand.specs.Verdict.{Judged, Calm, Says, Means, scan, overSpan, verdict}
+use Rattle.demand.specs.Sizes.{Each, busy_most}
+use Rattle.demand.specs.Demand.{demand, Live, least_live}
+use Rattle.demand.specs.Busy.{Least, Holds, Finds, busy_sum, busy_length}
+use Rattle.demand.specs.Verdict.{Judged, Calm, Says, Means, scan, over_span, verdict}
 use Rattle.demand.proofs.DemandLaws.{Recurs, demand-add, least-live-least}
 use Rattle.demand.proofs.BusyLaws.{least-le, least-unique, busy-length-finds}
 
@@ -79,17 +79,17 @@ says-means b qs a l span Passes says = ◌⊎◌.inr (a, l, span, says)
 says-means b qs a l span (Overloaded t) says = (a, l, span, says)
 says-means b qs a l span Undecided says = absurd says
 
-span-means : (b : ℕ) (qs : List Charged) (a : ℕ) → Least (Live qs) a → (r : Found) → Finds (busySum qs) busyMost r → Means b qs (overSpan b qs a r)
+span-means : (b : ℕ) (qs : List Charged) (a : ℕ) → Least (Live qs) a → (r : Found) → Finds (busy_sum qs) busy_most r → Means b qs (over_span b qs a r)
 span-means b qs a start (At l) found = says-means b qs a l (record { start = start; busy = found.0; within = found.1 }) (scan b qs a l) (scan-says b qs a l)
 span-means b qs a start Nothing none = none
 
 pub verdict-means : (b : ℕ) (qs : List Charged) → Means b qs (verdict b qs)
 unfolding verdict
 verdict-means b [] = ◌⊎◌.inl refl
-verdict-means b (q ∷ qs) = span-means b (q ∷ qs) (leastLive (q ∷ qs)) (least-live-least q qs) (busyLength (q ∷ qs)) (busy-length-finds (q ∷ qs))
+verdict-means b (q ∷ qs) = span-means b (q ∷ qs) (least_live (q ∷ qs)) (least-live-least q qs) (busy_length (q ∷ qs)) (busy-length-finds (q ∷ qs))
 
 -- where there is a piece the span decides
-pub verdict-span : (b : ℕ) (qs : List Charged) → 1 ≤ length qs → verdict b qs ≡ overSpan b qs (leastLive qs) (busyLength qs)
+pub verdict-span : (b : ℕ) (qs : List Charged) → 1 ≤ length qs → verdict b qs ≡ over_span b qs (least_live qs) (busy_length qs)
 unfolding verdict
 verdict-span b [] some = absurd (not-suc-le-zero some)
 verdict-span b (q ∷ qs) some = refl
@@ -104,15 +104,15 @@ empty-dead : (t : ℕ) → Live [] t → ⊥
 unfolding Live
 empty-dead t live = live
 
-empty-idle : Holds (busySum []) 1
-unfolding busySum
+empty-idle : Holds (busy_sum []) 1
+unfolding busy_sum
 empty-idle = record { some = omega arith; fits = omega arith }
 
 none-live : (qs : List Charged) (t : ℕ) → qs ≡ [] → Live qs t → ⊥
 none-live qs t e live = empty-dead t (subst (λ (xs : List Charged). Live xs t) e live)
 
-none-busy : (qs : List Charged) → qs ≡ [] → Holds (busySum qs) 1
-none-busy qs e = subst (λ (xs : List Charged). Holds (busySum xs) 1) (sym e) empty-idle
+none-busy : (qs : List Charged) → qs ≡ [] → Holds (busy_sum qs) 1
+none-busy qs e = subst (λ (xs : List Charged). Holds (busy_sum xs) 1) (sym e) empty-idle
 
 judged-undecided : (b : ℕ) (qs : List Charged) {a l : ℕ} → Judged qs a l → Means b qs Undecided → ⊥
 judged-undecided b qs {a} {l} span none = none l span.within span.busy.here
@@ -138,7 +138,7 @@ verdict-unique b qs Undecided Undecided p q = refl
 
 -- ---- "passes" covers every live length without end
 
-module _ (b : ℕ) (qs : List Charged) (recurs : Each Recurs qs) (a l : ℕ) (busy : Holds (busySum qs) l) (calm : Calm b qs a (a + l)) where
+module _ (b : ℕ) (qs : List Charged) (recurs : Each Recurs qs) (a l : ℕ) (busy : Holds (busy_sum qs) l) (calm : Calm b qs a (a + l)) where
   -- by steps of l, n of them at the most
   calm-after : (n t : ℕ) → a ≤ t → t ≤ a + n → demand b qs t ≤ t
   calm-after zero t from near = calm t from (omega arith)

@@ -1,12 +1,12 @@
 -- What is answered for a run of piece records, and the refusals before it: document 01, "Verdict on a core" and "Refusal numbers".
 -- A run is the first n of the records ps; a lent run is `answer_of c (length ps) ps`.
 --
---   firstBad k ps         the place of the first record outside the sizes, counted from k, or 0
---   checkRun c n ps       6, then 2, then 3 with the record's place
+--   first_bad k ps         the place of the first record outside the sizes, counted from k, or 0
+--   check_run c n ps       6, then 2, then 3 with the record's place
 --   answer_of c n ps       the refusal, else the verdict
 --   Taken c n ps          the run breaks no rule: `proofs/AnswerLaws.antt` has that it is judged exactly then
---   chargedTime c p       C', or 0 where the costs or the piece are outside the sizes
---   showingOf c n ps      what is shown of the run, refused as its verdict is
+--   charged_time c p       C', or 0 where the costs or the piece are outside the sizes
+--   showing_of c n ps      what is shown of the run, refused as its verdict is
 --   told a                document 01's number for each case, with what it carries
 use Rattle.std.specs.Prelude.{cond, ◌&&◌, List, [], ◌∷◌, ◌++◌, ℕ, zero, suc, ◌+◌, ◌≤◌, leb, take}
 use Rattle.demand.specs.declared.Piece.{Piece}
@@ -29,41 +29,41 @@ use Rattle.demand.specs.declared.Showing.TheVariants.{Shows, Unshown}
 use Rattle.demand.specs.declared.Split.{Split}
 use Rattle.demand.specs.declared.Splitting.{Splitting}
 use Rattle.demand.specs.declared.Splitting.TheVariants.{Best, Denied}
-use Rattle.demand.specs.Sizes.{runMost, lengthMost, SizedCosts, Sized, sizedCosts, sized, Each}
+use Rattle.demand.specs.Sizes.{run_most, length_most, SizedCosts, Sized, sized_costs, sized, Each}
 use Rattle.demand.specs.Charge.{charge, core_of, stall}
 use Rattle.demand.specs.Demand.{demand}
-use Rattle.demand.specs.Busy.{busyLength, tightWindow}
-use Rattle.demand.specs.Verdict.{verdictOf}
-use Rattle.demand.specs.Why.{shownOf}
-use Rattle.demand.specs.Split.{greatestSplit}
+use Rattle.demand.specs.Busy.{busy_length, tight_window}
+use Rattle.demand.specs.Verdict.{verdict_of}
+use Rattle.demand.specs.Why.{shown_of}
+use Rattle.demand.specs.Split.{greatest_split}
 
-abbrev pub firstBad : ℕ → List Piece → ℕ
-firstBad k [] = 0
-firstBad k (p ∷ ps) = cond (sized p) (firstBad (k + 1) ps) k
+abbrev pub first_bad : ℕ → List Piece → ℕ
+first_bad k [] = 0
+first_bad k (p ∷ ps) = cond (sized p) (first_bad (k + 1) ps) k
 
-abbrev pub badRecord : ℕ → Check
-badRecord zero = Fine
-badRecord (suc k) = Bad (BadRecord (suc k))
+abbrev pub bad_record : ℕ → Check
+bad_record zero = Fine
+bad_record (suc k) = Bad (BadRecord (suc k))
 
-unfoldable pub checkRun : Costs → ℕ → List Piece → Check
-checkRun c n ps = cond (leb n runMost) (cond (sizedCosts c) (badRecord (firstBad 1 (take n ps))) (Bad BadCosts)) (Bad TooMany)
+unfoldable pub check_run : Costs → ℕ → List Piece → Check
+check_run c n ps = cond (leb n run_most) (cond (sized_costs c) (bad_record (first_bad 1 (take n ps))) (Bad BadCosts)) (Bad TooMany)
 
 abbrev pub answered : Check → Verdict → Answer
 answered Fine v = Judged v
 answered (Bad r) v = Refused r
 
 unfoldable pub answer_of : Costs → ℕ → List Piece → Answer
-answer_of c n ps = answered (checkRun c n ps) (verdictOf c (take n ps))
+answer_of c n ps = answered (check_run c n ps) (verdict_of c (take n ps))
 
 pub record Taken (c : Costs) (n : ℕ) (ps : List Piece) : Type 0 where
-  pub few : n ≤ runMost
+  pub few : n ≤ run_most
   pub costs : SizedCosts c
   pub each : Each Sized (take n ps)
 
 -- ---- the charged time of a piece
 
-unfoldable pub chargedTime : Costs → Piece → ℕ
-chargedTime c p = cond (sizedCosts c && sized p) (charge c p) 0
+unfoldable pub charged_time : Costs → Piece → ℕ
+charged_time c p = cond (sized_costs c && sized p) (charge c p) 0
 
 -- ---- figures of a run, refused as its verdict is
 
@@ -72,29 +72,29 @@ figured Fine f = Of f
 figured (Bad r) f = Barred r
 
 -- the busy length L
-unfoldable pub busyFigure : Costs → ℕ → List Piece → Figure
-busyFigure c n ps = figured (checkRun c n ps) (busyLength (core_of c (take n ps)))
+unfoldable pub busy_figure : Costs → ℕ → List Piece → Figure
+busy_figure c n ps = figured (check_run c n ps) (busy_length (core_of c (take n ps)))
 
 -- what is shown of the verdict
 abbrev pub showing : Check → Shown → Showing
 showing Fine s = Shows s
 showing (Bad r) s = Unshown r
 
-unfoldable pub showingOf : Costs → ℕ → List Piece → Showing
-showingOf c n ps = showing (checkRun c n ps) (shownOf c (take n ps))
+unfoldable pub showing_of : Costs → ℕ → List Piece → Showing
+showing_of c n ps = showing (check_run c n ps) (shown_of c (take n ps))
 
 -- the demand g(t), for t up to what a judged length can be
-unfoldable pub demandFigure : Costs → ℕ → List Piece → ℕ → Figure
-demandFigure c n ps t = figured (checkRun c n ps) (cond (leb t lengthMost) (At (demand (stall c) (core_of c (take n ps)) t)) Nothing)
+unfoldable pub demand_figure : Costs → ℕ → List Piece → ℕ → Figure
+demand_figure c n ps t = figured (check_run c n ps) (cond (leb t length_most) (At (demand (stall c) (core_of c (take n ps)) t)) Nothing)
 
 -- the tight window of the last of the pieces, beside all of them, where that is at most its own window
-abbrev pub tightOfLast : ℕ → List Charged → List Charged → Found
-tightOfLast b all [] = Nothing
-tightOfLast b all (q ∷ []) = tightWindow b all q q.window
-tightOfLast b all (q ∷ p ∷ qs) = tightOfLast b all (p ∷ qs)
+abbrev pub tight_of_last : ℕ → List Charged → List Charged → Found
+tight_of_last b all [] = Nothing
+tight_of_last b all (q ∷ []) = tight_window b all q q.window
+tight_of_last b all (q ∷ p ∷ qs) = tight_of_last b all (p ∷ qs)
 
-unfoldable pub tightFigure : Costs → ℕ → List Piece → Figure
-tightFigure c n ps = figured (checkRun c n ps) (tightOfLast (stall c) (core_of c (take n ps)) (core_of c (take n ps)))
+unfoldable pub tight_figure : Costs → ℕ → List Piece → Figure
+tight_figure c n ps = figured (check_run c n ps) (tight_of_last (stall c) (core_of c (take n ps)) (core_of c (take n ps)))
 
 -- ---- the split of a task beside a run: the task is checked as the record behind the run's, so the run has at most 78
 
@@ -102,8 +102,8 @@ abbrev pub splitted : Check → Split → Splitting
 splitted Fine s = Best s
 splitted (Bad r) s = Denied r
 
-unfoldable pub splitOf : Costs → ℕ → List Piece → Piece → ℕ → Splitting
-splitOf c n ps p g = splitted (checkRun c (n + 1) (take n ps ++ (p ∷ []))) (greatestSplit c g (take n ps) p)
+unfoldable pub split_of : Costs → ℕ → List Piece → Piece → ℕ → Splitting
+split_of c n ps p g = splitted (check_run c (n + 1) (take n ps ++ (p ∷ []))) (greatest_split c g (take n ps) p)
 
 -- ---- the numbers
 

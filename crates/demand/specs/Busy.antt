@@ -4,17 +4,17 @@
 --   Holds f n            n ≥ 1 and f n ≤ n
 --   Clear f n            nothing below n holds f
 --   Finds f top r        r is the least n with `Holds f n`, or says that there is none up to top
---   leastHolding f top   that r, by climbing from 1 to f 1 and so on
---   busyLoad l q         what q asks of a busy length l
---   busySum qs l         what the core asks of it
---   busyLength qs        L, or nothing up to the limit
---   tightSum b qs q t    what the first piece q has to wait for within t, beside all pieces qs of its core, itself among them
---   tightWindow b qs q top   J + t for the least t that holds it, where that is at most top
+--   least_holding f top   that r, by climbing from 1 to f 1 and so on
+--   busy_load l q         what q asks of a busy length l
+--   busy_sum qs l         what the core asks of it
+--   busy_length qs        L, or nothing up to the limit
+--   tight_sum b qs q t    what the first piece q has to wait for within t, beside all pieces qs of its core, itself among them
+--   tight_window b qs q top   J + t for the least t that holds it, where that is at most top
 use Rattle.std.specs.Prelude.{true, false, List, ℕ, zero, suc, ◌+◌, ◌*◌, ◌-◌, ◌≤◌, ◌<◌, leb}
 use Rattle.demand.specs.declared.Charged.{Charged}
 use Rattle.demand.specs.declared.Found.{Found}
 use Rattle.demand.specs.declared.Found.TheVariants.{At, Nothing}
-use Rattle.demand.specs.Sizes.{busyMost}
+use Rattle.demand.specs.Sizes.{busy_most}
 use Rattle.demand.specs.Demand.{ceil, total, interrupts}
 
 pub record Least (P : ℕ → Type 0) (n : ℕ) : Type 0 where
@@ -37,24 +37,24 @@ abbrev pub climbing : (ℕ → ℕ) → ℕ → ℕ → ℕ → Found
 climbing f top zero n = Nothing
 climbing f top (suc steps) n = elim (leb n top) [ true ↦ (elim (leb (f n) n) [ true ↦ At n | false ↦ climbing f top steps (f n) ]) | false ↦ Nothing ]
 
-unfoldable pub leastHolding : (ℕ → ℕ) → ℕ → Found
-leastHolding f top = climbing f top (suc top) 1
+unfoldable pub least_holding : (ℕ → ℕ) → ℕ → Found
+least_holding f top = climbing f top (suc top) 1
 
-unfoldable pub busyLoad : ℕ → Charged → ℕ
-busyLoad l q = ceil l q.period * (q.charge + q.release + q.ipi)
+unfoldable pub busy_load : ℕ → Charged → ℕ
+busy_load l q = ceil l q.period * (q.charge + q.release + q.ipi)
 
-unfoldable pub busySum : List Charged → ℕ → ℕ
-busySum qs l = total (busyLoad l) qs
+unfoldable pub busy_sum : List Charged → ℕ → ℕ
+busy_sum qs l = total (busy_load l) qs
 
-unfoldable pub busyLength : List Charged → Found
-busyLength qs = leastHolding (busySum qs) busyMost
+unfoldable pub busy_length : List Charged → Found
+busy_length qs = least_holding (busy_sum qs) busy_most
 
-unfoldable pub tightSum : ℕ → List Charged → Charged → ℕ → ℕ
-tightSum b qs q t = b + q.charge + total (λ p. interrupts p t) qs
+unfoldable pub tight_sum : ℕ → List Charged → Charged → ℕ → ℕ
+tight_sum b qs q t = b + q.charge + total (λ p. interrupts p t) qs
 
 abbrev pub later : ℕ → Found → Found
 later j (At t) = At (j + t)
 later j Nothing = Nothing
 
-unfoldable pub tightWindow : ℕ → List Charged → Charged → ℕ → Found
-tightWindow b qs q top = later q.jitter (leastHolding (tightSum b qs q) (top - q.jitter))
+unfoldable pub tight_window : ℕ → List Charged → Charged → ℕ → Found
+tight_window b qs q top = later q.jitter (least_holding (tight_sum b qs q) (top - q.jitter))

@@ -12,14 +12,14 @@ use Rattle.demand.specs.declared.Split.{Split}
 use Rattle.demand.specs.declared.Split.TheVariants.{Cut, Nowhere}
 use Rattle.demand.specs.declared.Verdict.{Verdict}
 use Rattle.demand.specs.declared.Verdict.TheVariants.{Passes, Overloaded, Undecided}
-use Rattle.demand.specs.Charge.{noCosts, charge, charged, core_of, stall}
+use Rattle.demand.specs.Charge.{no_costs, charge, charged, core_of, stall}
 use Rattle.demand.specs.Demand.{demand}
-use Rattle.demand.specs.Busy.{busyLength, tightWindow}
+use Rattle.demand.specs.Busy.{busy_length, tight_window}
 use Rattle.demand.specs.declared.Answer.{Answer}
 use Rattle.demand.specs.declared.Answer.TheVariants.{Judged}
-use Rattle.demand.specs.Verdict.{verdictOf}
-use Rattle.demand.specs.Split.{greatestSplit}
-use Rattle.demand.specs.Answer.{told, checkRun, answered}
+use Rattle.demand.specs.Verdict.{verdict_of}
+use Rattle.demand.specs.Split.{greatest_split}
+use Rattle.demand.specs.Answer.{told, check_run, answered}
 
 unfoldable pub piece : Kind → ℕ → ℕ → ℕ → ℕ → Piece
 piece k x d t j = record { kind = k; budget = x; window = d; period = t; jitter = j; preempt = 0; migrate = 0 }
@@ -52,49 +52,49 @@ abbrev pub found : Found → ℕ → Bool
 found (At n) m = eqb n m
 found Nothing m = false
 
-abbrev pub sameSplit : Split → Split → Bool
-sameSplit (Cut x w) (Cut y v) = eqb x y && eqb w v
-sameSplit (Cut x w) Nowhere = false
-sameSplit Nowhere (Cut y v) = false
-sameSplit Nowhere Nowhere = true
+abbrev pub same_split : Split → Split → Bool
+same_split (Cut x w) (Cut y v) = eqb x y && eqb w v
+same_split (Cut x w) Nowhere = false
+same_split Nowhere (Cut y v) = false
+same_split Nowhere Nowhere = true
 
 -- of a run that is taken the verdict is not asked
 unfoldable pub right : Row → Bool
-right (says k c ps v) = same (verdictOf c ps) v
-right (busy k c ps l) = found (busyLength (core_of c ps)) l
+right (says k c ps v) = same (verdict_of c ps) v
+right (busy k c ps l) = found (busy_length (core_of c ps)) l
 right (asks k c ps t g) = eqb (demand (stall c) (core_of c ps) t) g
-right (tight k c ps p w) = found (tightWindow (stall c) (core_of c (ps ++ (p ∷ []))) (charged c p) p.window) w
+right (tight k c ps p w) = found (tight_window (stall c) (core_of c (ps ++ (p ∷ []))) (charged c p) p.window) w
 right (charges k c p n) = eqb (charge c p) n
-right (splits k c grain ps p s) = sameSplit (greatestSplit c grain ps p) s
-right (takes k c ps which carries) = answers (answered (checkRun c (length ps) ps) Passes) which carries
+right (splits k c grain ps p s) = same_split (greatest_split c grain ps p) s
+right (takes k c ps which carries) = answers (answered (check_run c (length ps) ps) Passes) which carries
 
-abbrev pub rowNumber : Row → ℕ
-rowNumber (says k c ps v) = k
-rowNumber (busy k c ps l) = k
-rowNumber (asks k c ps t g) = k
-rowNumber (tight k c ps p w) = k
-rowNumber (charges k c p n) = k
-rowNumber (splits k c grain ps p s) = k
-rowNumber (takes k c ps which carries) = k
+abbrev pub row_number : Row → ℕ
+row_number (says k c ps v) = k
+row_number (busy k c ps l) = k
+row_number (asks k c ps t g) = k
+row_number (tight k c ps p w) = k
+row_number (charges k c p n) = k
+row_number (splits k c grain ps p s) = k
+row_number (takes k c ps which carries) = k
 
 -- the numbers of the rows that do not hold
 unfoldable pub wrong : List Row → List ℕ
 wrong [] = []
-wrong (r ∷ rs) = cond (right r) (wrong rs) (rowNumber r ∷ wrong rs)
+wrong (r ∷ rs) = cond (right r) (wrong rs) (row_number r ∷ wrong rs)
 
 unfoldable pub rows : List Row
 rows =
-    says 1 noCosts [] Passes
-    ∷ says 2 noCosts (whole 1 1 1 ∷ []) Passes
-    ∷ says 3 noCosts (whole 5 5 10 ∷ whole 5 5 10 ∷ []) (Overloaded 9)
-    ∷ says 4 noCosts (whole 6 10 10 ∷ whole 6 10 10 ∷ []) Undecided
-    ∷ says 5 noCosts (whole 2 10 10 ∷ whole 2 10 10 ∷ whole 2 10 10 ∷ whole 2 10 10 ∷ whole 2 2 10 ∷ []) Passes
-    ∷ says 6 noCosts (whole 2 10 10 ∷ whole 2 10 10 ∷ whole 2 10 10 ∷ whole 2 10 10 ∷ whole 3 3 10 ∷ []) Undecided
+    says 1 no_costs [] Passes
+    ∷ says 2 no_costs (whole 1 1 1 ∷ []) Passes
+    ∷ says 3 no_costs (whole 5 5 10 ∷ whole 5 5 10 ∷ []) (Overloaded 9)
+    ∷ says 4 no_costs (whole 6 10 10 ∷ whole 6 10 10 ∷ []) Undecided
+    ∷ says 5 no_costs (whole 2 10 10 ∷ whole 2 10 10 ∷ whole 2 10 10 ∷ whole 2 10 10 ∷ whole 2 2 10 ∷ []) Passes
+    ∷ says 6 no_costs (whole 2 10 10 ∷ whole 2 10 10 ∷ whole 2 10 10 ∷ whole 2 10 10 ∷ whole 3 3 10 ∷ []) Undecided
     ∷ says 7 (costs 0 0 0 4 0 0) (whole 8 10 50 ∷ whole 1 12 50 ∷ []) (Overloaded 11)
     ∷ busy 8 (costs 2 3 1 4 0 0) (whole 5 100 100 ∷ []) 15
     ∷ asks 8 (costs 2 3 1 4 0 0) (whole 5 100 100 ∷ []) 100 15
     ∷ says 8 (costs 2 3 1 4 0 0) (whole 5 100 100 ∷ []) Passes
     ∷ tight 9 (costs 2 3 1 4 2 1) [] (piece First 5 100 100 0) 26
     ∷ tight 10 (costs 2 3 1 4 2 1) [] (piece First 5 100 100 5) 31
-    ∷ says 11 noCosts (piece Whole 1 5 10 5 ∷ []) (Overloaded 0)
+    ∷ says 11 no_costs (piece Whole 1 5 10 5 ∷ []) (Overloaded 0)
     ∷ []

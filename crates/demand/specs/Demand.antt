@@ -3,14 +3,14 @@
 --
 --   ceil a b             ⌈a / b⌉
 --   total f qs           f summed over the pieces
---   jobsDue q t          n(t), the jobs of q due within t
+--   jobs_due q t          n(t), the jobs of q due within t
 --   interrupts q t       the interrupts that q brings within t            000, equation 8, and the IPIs of a last piece
---   largestWindow qs     the largest window on the core
+--   largest_window qs     the largest window on the core
 --   blocking b qs t      b(t)                                             000, equation 6
 --   load t q             what q alone asks for within t
 --   demand b qs t        g(t)
 --   Live qs t            some piece has a job due
---   leastLive qs         t0, where there is a piece
+--   least_live qs         t0, where there is a piece
 use Rattle.std.specs.Prelude.{cond, List, [], ◌∷◌, ℕ, ◌+◌, ◌*◌, ◌-◌, ◌/◌, ◌≤◌, min, max, ltb}
 use Rattle.demand.specs.declared.Charged.{Charged}
 use Rattle.demand.specs.Sizes.{Some}
@@ -24,34 +24,34 @@ total f [] = 0
 total f (q ∷ qs) = f q + total f qs
 
 -- None while t + J is short of the window, then floor plus one: the first job is due where the window ends.
-unfoldable pub jobsDue : Charged → ℕ → ℕ
-jobsDue q t = cond (ltb (t + q.jitter) q.window) 0 (1 + (t + q.jitter - q.window) / q.period)
+unfoldable pub jobs_due : Charged → ℕ → ℕ
+jobs_due q t = cond (ltb (t + q.jitter) q.window) 0 (1 + (t + q.jitter - q.window) / q.period)
 
 unfoldable pub interrupts : Charged → ℕ → ℕ
 interrupts q t = ceil (t + q.jitter) q.period * q.release + ceil (t + q.ipij) q.period * q.ipi
 
-abbrev pub largestWindow : List Charged → ℕ
-largestWindow [] = 0
-largestWindow (q ∷ qs) = max q.window (largestWindow qs)
+abbrev pub largest_window : List Charged → ℕ
+largest_window [] = 0
+largest_window (q ∷ qs) = max q.window (largest_window qs)
 
 -- It ends at the largest window, so the demand can fall there (K7).
 unfoldable pub blocking : ℕ → List Charged → ℕ → ℕ
-blocking b qs t = cond (ltb t (largestWindow qs)) b 0
+blocking b qs t = cond (ltb t (largest_window qs)) b 0
 
 unfoldable pub load : ℕ → Charged → ℕ
-load t q = jobsDue q t * q.charge + interrupts q t
+load t q = jobs_due q t * q.charge + interrupts q t
 
 unfoldable pub demand : ℕ → List Charged → ℕ → ℕ
 demand b qs t = blocking b qs t + total (load t) qs
 
 unfoldable pub Live : List Charged → ℕ → Type 0
-Live qs t = Some (λ q. 1 ≤ jobsDue q t) qs
+Live qs t = Some (λ q. 1 ≤ jobs_due q t) qs
 
 -- the least of w and the lengths at which the pieces have their first job due
 abbrev pub earliest : ℕ → List Charged → ℕ
 earliest w [] = w
 earliest w (q ∷ qs) = min (q.window - q.jitter) (earliest w qs)
 
-unfoldable pub leastLive : List Charged → ℕ
-leastLive [] = 0
-leastLive (q ∷ qs) = earliest (q.window - q.jitter) (q ∷ qs)
+unfoldable pub least_live : List Charged → ℕ
+least_live [] = 0
+least_live (q ∷ qs) = earliest (q.window - q.jitter) (q ∷ qs)

@@ -3,8 +3,8 @@
 --
 --   departs k            its task goes on elsewhere
 --   arrives k            it came from elsewhere
---   kindNumber k         the number of a kind
---   kindMost             the greatest number of a kind: another kind is outside the sizes
+--   kind_number k         the number of a kind
+--   kind_most             the greatest number of a kind: another kind is outside the sizes
 --   kind_of n             the kind of a number; a greater one is taken for a last piece, and who reads numbers from outside turns it away before
 use Rattle.std.specs.Prelude.{Bool, true, false, cond, ℕ, eqb}
 use Rattle.demand.specs.declared.Kind.{Kind}
@@ -20,13 +20,13 @@ arrives Whole = false
 arrives First = false
 arrives Last = true
 
-abbrev pub kindNumber : Kind → ℕ
-kindNumber Whole = 0
-kindNumber First = 1
-kindNumber Last = 2
+abbrev pub kind_number : Kind → ℕ
+kind_number Whole = 0
+kind_number First = 1
+kind_number Last = 2
 
-abbrev pub kindMost : ℕ
-kindMost = 2
+abbrev pub kind_most : ℕ
+kind_most = 2
 
 abbrev pub kind_of : ℕ → Kind
 kind_of n = cond (eqb n 0) Whole (cond (eqb n 1) First Last)

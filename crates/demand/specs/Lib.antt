@@ -14,4 +14,4 @@ pub mod Refusals
 pub mod Records
 pub mod Cases
 pub mod Worked
-pub mod ways
+pub mod Ways

@@ -6,9 +6,9 @@
 --   Not P                          P does not hold
 --   Gives rules n c                the refusal n with c is given: a rule with n and c is broken, and none before it
 --   Kept rules                     no rule is broken
---   downEach rules after s k xs    the rules of each element in turn, by what stands above it and by its place, counted from k
+--   down_each rules after s k xs    the rules of each element in turn, by what stands above it and by its place, counted from k
 --   below after s xs               what then stands below all of them
---   atEach rules k xs              the rules of each element in turn, where what stands above does not count
+--   at_each rules k xs              the rules of each element in turn, where what stands above does not count
 use Rattle.std.specs.Prelude.{◌≡◌, ◌⊎◌, List, [], ◌∷◌, ◌++◌, ℕ, ◌+◌}
 
 infix 68 ◌if◌carrying◌
@@ -33,14 +33,14 @@ Kept [] = Unit {0}
 Kept (r ∷ rules) = Not r.Broken × Kept rules
 
 -- a task's name may not stand above it, and a line's form depends on the lines above
-abbrev pub downEach : {S A : Type 0} → (S → ℕ → A → List Rule) → (S → A → S) → S → ℕ → List A → List Rule
-downEach rules after s k [] = []
-downEach rules after s k (x ∷ xs) = rules s k x ++ downEach rules after (after s x) (k + 1) xs
+abbrev pub down_each : {S A : Type 0} → (S → ℕ → A → List Rule) → (S → A → S) → S → ℕ → List A → List Rule
+down_each rules after s k [] = []
+down_each rules after s k (x ∷ xs) = rules s k x ++ down_each rules after (after s x) (k + 1) xs
 
 abbrev pub below : {S A : Type 0} → (S → A → S) → S → List A → S
 below after s [] = s
 below after s (x ∷ xs) = below after (after s x) xs
 
-abbrev pub atEach : {A : Type 0} → (ℕ → A → List Rule) → ℕ → List A → List Rule
-atEach rules k [] = []
-atEach rules k (x ∷ xs) = rules k x ++ atEach rules (k + 1) xs
+abbrev pub at_each : {A : Type 0} → (ℕ → A → List Rule) → ℕ → List A → List Rule
+at_each rules k [] = []
+at_each rules k (x ∷ xs) = rules k x ++ at_each rules (k + 1) xs

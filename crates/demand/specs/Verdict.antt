@@ -8,7 +8,7 @@
 --   Bounded qs            there is no piece, or a busy length within the limit
 --   KeepsUp b qs          no length at which a job is due, however long, asks for more than itself
 --   verdict b qs          the right verdict
---   verdictOf c ps        the verdict on the pieces ps at the costs c
+--   verdict_of c ps        the verdict on the pieces ps at the costs c
 use Rattle.std.specs.Prelude.{true, false, ◌≡◌, List, [], ◌∷◌, ◌⊎◌, ℕ, zero, suc, ◌+◌, ◌≤◌, ◌<◌, ltb}
 use Rattle.demand.specs.declared.Piece.{Piece}
 use Rattle.demand.specs.declared.Costs.{Costs}
@@ -17,15 +17,15 @@ use Rattle.demand.specs.declared.Found.{Found}
 use Rattle.demand.specs.declared.Found.TheVariants.{At, Nothing}
 use Rattle.demand.specs.declared.Verdict.{Verdict}
 use Rattle.demand.specs.declared.Verdict.TheVariants.{Passes, Overloaded, Undecided}
-use Rattle.demand.specs.Sizes.{busyMost}
+use Rattle.demand.specs.Sizes.{busy_most}
 use Rattle.demand.specs.Charge.{core_of, stall}
-use Rattle.demand.specs.Demand.{demand, Live, leastLive}
-use Rattle.demand.specs.Busy.{Least, Holds, busySum, busyLength}
+use Rattle.demand.specs.Demand.{demand, Live, least_live}
+use Rattle.demand.specs.Busy.{Least, Holds, busy_sum, busy_length}
 
 pub record Judged (qs : List Charged) (t₀ l : ℕ) : Type 0 where
   pub start : Least (Live qs) t₀
-  pub busy : Least (Holds (busySum qs)) l
-  pub within : l ≤ busyMost
+  pub busy : Least (Holds (busy_sum qs)) l
+  pub within : l ≤ busy_most
 
 abbrev pub Calm : ℕ → List Charged → ℕ → ℕ → Type 0
 Calm b qs a e = (u : ℕ) → a ≤ u → u < e → demand b qs u ≤ u
@@ -45,11 +45,11 @@ Says b qs t₀ l Undecided = ⊥
 abbrev pub Means : ℕ → List Charged → Verdict → Type 0
 Means b qs Passes = (qs ≡ []) ⊎ ((t₀ : ℕ) × (l : ℕ) × Judged qs t₀ l × Calm b qs t₀ (t₀ + l))
 Means b qs (Overloaded t) = (t₀ : ℕ) × (l : ℕ) × Judged qs t₀ l × Worst b qs t₀ l t
-Means b qs Undecided = (l : ℕ) → l ≤ busyMost → Holds (busySum qs) l → ⊥
+Means b qs Undecided = (l : ℕ) → l ≤ busy_most → Holds (busy_sum qs) l → ⊥
 
 -- "passes" in full: `proofs/Judgement.antt` has that these two say the same as its meaning over the judged span
 abbrev pub Bounded : List Charged → Type 0
-Bounded qs = (qs ≡ []) ⊎ ((l : ℕ) × Least (Holds (busySum qs)) l × (l ≤ busyMost))
+Bounded qs = (qs ≡ []) ⊎ ((l : ℕ) × Least (Holds (busy_sum qs)) l × (l ≤ busy_most))
 
 abbrev pub KeepsUp : ℕ → List Charged → Type 0
 KeepsUp b qs = (t : ℕ) → Live qs t → demand b qs t ≤ t
@@ -59,13 +59,13 @@ abbrev pub scan : ℕ → List Charged → ℕ → ℕ → Verdict
 scan b qs a zero = Passes
 scan b qs a (suc k) = elim (ltb (a + k) (demand b qs (a + k))) [ true ↦ Overloaded (a + k) | false ↦ scan b qs a k ]
 
-abbrev pub overSpan : ℕ → List Charged → ℕ → Found → Verdict
-overSpan b qs t₀ Nothing = Undecided
-overSpan b qs t₀ (At l) = scan b qs t₀ l
+abbrev pub over_span : ℕ → List Charged → ℕ → Found → Verdict
+over_span b qs t₀ Nothing = Undecided
+over_span b qs t₀ (At l) = scan b qs t₀ l
 
 unfoldable pub verdict : ℕ → List Charged → Verdict
 verdict b [] = Passes
-verdict b (q ∷ qs) = overSpan b (q ∷ qs) (leastLive (q ∷ qs)) (busyLength (q ∷ qs))
+verdict b (q ∷ qs) = over_span b (q ∷ qs) (least_live (q ∷ qs)) (busy_length (q ∷ qs))
 
-unfoldable pub verdictOf : Costs → List Piece → Verdict
-verdictOf c ps = verdict (stall c) (core_of c ps)
+unfoldable pub verdict_of : Costs → List Piece → Verdict
+verdict_of c ps = verdict (stall c) (core_of c ps)

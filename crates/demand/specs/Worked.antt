@@ -4,8 +4,8 @@
 --   paid p             RelO 2, SchedO 3, TsetO 1, IpB 3, BetO 2, MigrO 1, IpiO 5, IpiJ 7, and π = p; so b = max(3, 3 + 1) = 4, RelO + TsetO = 3
 --   distinct p         nine constants of which no two are equal: RelO 2, SchedO 5, TsetO 1, IpB 8, BetO 3, MigrO 4, IpiO 6, IpiJ 7, and π = p; so b = 8
 --   cached k x d t j p m   a piece with all its numbers
---   onlyCost i v       the i-th cost v, the others 0
---   chargeRows, blockingRows, splitRows, sizeRows   the table, in four parts
+--   only_cost i v       the i-th cost v, the others 0
+--   charge_rows, blocking_rows, split_rows, size_rows   the table, in four parts
 use Rattle.std.specs.Prelude.{cond, List, [], ◌∷◌, ℕ, eqb, replicate}
 use Rattle.demand.specs.declared.Kind.{Kind}
 use Rattle.demand.specs.declared.Kind.TheVariants.{Whole, First, Last}
@@ -13,7 +13,7 @@ use Rattle.demand.specs.declared.Piece.{Piece}
 use Rattle.demand.specs.declared.Costs.{Costs}
 use Rattle.demand.specs.declared.Split.TheVariants.{Cut, Nowhere}
 use Rattle.demand.specs.declared.Verdict.TheVariants.{Passes, Overloaded}
-use Rattle.demand.specs.Charge.{noCosts}
+use Rattle.demand.specs.Charge.{no_costs}
 use Rattle.demand.specs.Cases.{Row, says, busy, asks, tight, charges, splits, takes, whole}
 
 unfoldable pub paid : ℕ → Costs
@@ -25,8 +25,8 @@ distinct p = record { relo = 2; schedo = 5; tseto = 1; ipb = 8; beto = 3; migro 
 unfoldable pub cached : Kind → ℕ → ℕ → ℕ → ℕ → ℕ → ℕ → Piece
 cached k x d t j p m = record { kind = k; budget = x; window = d; period = t; jitter = j; preempt = p; migrate = m }
 
-unfoldable pub onlyCost : ℕ → ℕ → Costs
-onlyCost i v = record {
+unfoldable pub only_cost : ℕ → ℕ → Costs
+only_cost i v = record {
   relo = cond (eqb i 1) v 0;
   schedo = cond (eqb i 2) v 0;
   tseto = cond (eqb i 3) v 0;
@@ -38,8 +38,8 @@ onlyCost i v = record {
   precision = cond (eqb i 9) v 0;
 }
 
-unfoldable pub everyCost : ℕ → Costs
-everyCost v = record { relo = v; schedo = v; tseto = v; ipb = v; beto = v; migro = v; ipio = v; ipij = v; precision = v }
+unfoldable pub every_cost : ℕ → Costs
+every_cost v = record { relo = v; schedo = v; tseto = v; ipb = v; beto = v; migro = v; ipio = v; ipij = v; precision = v }
 
 -- ---- charge, demand, busy length, verdict
 
@@ -51,8 +51,8 @@ unfoldable pub often : Piece
 often = cached Whole 4 20 20 0 1 3
 
 -- C' of 5 with P 2, M 3: whole 5 + 2·3 + 1 + 2 = 14; first 14 + IpB 3 + BetO 2 + MigrO 1 = 20; last 14 + M 3 = 17
-unfoldable pub chargeRows : List Row
-chargeRows =
+unfoldable pub charge_rows : List Row
+charge_rows =
     charges 1 (paid 6) (cached Whole 5 60 100 6 2 3) 14
     ∷ charges 1 (paid 6) (cached First 5 60 100 6 2 3) 20
     ∷ charges 1 (paid 6) late 17
@@ -74,7 +74,7 @@ chargeRows =
     ∷ busy 3 (paid 6) (late ∷ []) 25
     ∷ says 3 (paid 6) (late ∷ []) Passes
     -- t0 is the least of each D − J: behind another piece, K11's is still judged from 0
-    ∷ says 3 noCosts (whole 1 50 50 ∷ cached Whole 1 5 10 5 0 0 ∷ []) (Overloaded 0)
+    ∷ says 3 no_costs (whole 1 50 50 ∷ cached Whole 1 5 10 5 0 0 ∷ []) (Overloaded 0)
     -- ⌈100/20⌉·(12 + 3) + 17 + 3 + 5 = 100; at 85 it is 100 too
     ∷ busy 4 (paid 6) (often ∷ late ∷ []) 100
     ∷ []
@@ -83,8 +83,8 @@ chargeRows =
 unfoldable pub blocked : List Piece
 blocked = cached Last 5 47 80 6 3 3 ∷ cached Whole 5 46 70 0 2 0 ∷ []
 
-unfoldable pub blockingRows : List Row
-blockingRows =
+unfoldable pub blocking_rows : List Row
+blocking_rows =
     asks 5 (paid 6) blocked 46 47
     ∷ asks 5 (paid 6) blocked 47 43
     ∷ says 5 (paid 6) blocked (Overloaded 46)
@@ -97,41 +97,41 @@ blockingRows =
 -- The last piece has 41 in 73, C' 41 + 7 + 1 + 3 = 52: with J = π + 3 + 2 + 1 its first job is due at 67 − π, and asks for 4 + 52 + 3 + 5 = 64. π 3 leaves 64.
 -- 5 left of 30: C' of 25 is 25 + 10 + 1 + 2 + 15 = 53, t = 64 = 8 + 53 + 3; the last piece has 5 in 56, C' 5 + 10 + 1 + 2 + 1 = 19, and with J = π + 8 + 2 + 1
 -- it is due at 45 − π, where it asks for 8 + 19 + 3 + 6 = 36. π 9 leaves 36; with π 10 each other x lacks 1 too, since 5 less of it are 5 more there.
-unfoldable pub splitRows : List Row
-splitRows =
+unfoldable pub split_rows : List Row
+split_rows =
     tight 6 (paid 6) (often ∷ cached Last 3 40 48 6 2 3 ∷ []) (cached First 5 100 100 5 2 3) 57
     ∷ splits 7 (paid 3) 5 (cached Whole 19 60 60 0 2 0 ∷ []) (cached Whole 51 117 130 10 1 3) (Cut 10 44)
     ∷ splits 7 (paid 4) 5 (cached Whole 19 60 60 0 2 0 ∷ []) (cached Whole 51 117 130 10 1 3) Nowhere
     ∷ splits 7 (distinct 9) 5 [] (cached Whole 30 120 140 0 2 1) (Cut 25 64)
     ∷ splits 7 (distinct 10) 5 [] (cached Whole 30 120 140 0 2 1) Nowhere
     -- x is below C: 3 in 3 would pass too, with nothing left
-    ∷ splits 7 noCosts 1 [] (whole 3 5 10) (Cut 2 2)
+    ∷ splits 7 no_costs 1 [] (whole 3 5 10) (Cut 2 2)
     ∷ []
 
 -- ---- sizes: at each bound taken, past it refused: a run by 106, costs by 102, a record by 103 with its place
 
-unfoldable pub sizeRows : List Row
-sizeRows =
-    takes 8 (everyCost 100000) [] 0 0
-    ∷ takes 8 (onlyCost 1 100001) [] 102 0
-    ∷ takes 8 (onlyCost 2 100001) [] 102 0
-    ∷ takes 8 (onlyCost 3 100001) [] 102 0
-    ∷ takes 8 (onlyCost 4 100001) [] 102 0
-    ∷ takes 8 (onlyCost 5 100001) [] 102 0
-    ∷ takes 8 (onlyCost 6 100001) [] 102 0
-    ∷ takes 8 (onlyCost 7 100001) [] 102 0
-    ∷ takes 8 (onlyCost 8 100001) [] 102 0
-    ∷ takes 8 (onlyCost 9 100001) [] 102 0
-    ∷ takes 9 noCosts (cached Whole 1000000 1000000 1000000 1000000 100000 100000 ∷ whole 1 1 1 ∷ []) 0 0
-    ∷ takes 9 noCosts (whole 0 1 1 ∷ []) 103 1
-    ∷ takes 9 noCosts (whole 1 1 1 ∷ whole 3 2 9 ∷ []) 103 2
-    ∷ takes 9 noCosts (whole 1 9 8 ∷ whole 3 2 9 ∷ []) 103 1
-    ∷ takes 9 noCosts (whole 1 1 1000001 ∷ []) 103 1
-    ∷ takes 9 noCosts (cached Whole 1 1 1 1000001 0 0 ∷ []) 103 1
-    ∷ takes 9 noCosts (cached Whole 1 1 1 0 100001 0 ∷ []) 103 1
-    ∷ takes 9 noCosts (cached Whole 1 1 1 0 0 100001 ∷ []) 103 1
+unfoldable pub size_rows : List Row
+size_rows =
+    takes 8 (every_cost 100000) [] 0 0
+    ∷ takes 8 (only_cost 1 100001) [] 102 0
+    ∷ takes 8 (only_cost 2 100001) [] 102 0
+    ∷ takes 8 (only_cost 3 100001) [] 102 0
+    ∷ takes 8 (only_cost 4 100001) [] 102 0
+    ∷ takes 8 (only_cost 5 100001) [] 102 0
+    ∷ takes 8 (only_cost 6 100001) [] 102 0
+    ∷ takes 8 (only_cost 7 100001) [] 102 0
+    ∷ takes 8 (only_cost 8 100001) [] 102 0
+    ∷ takes 8 (only_cost 9 100001) [] 102 0
+    ∷ takes 9 no_costs (cached Whole 1000000 1000000 1000000 1000000 100000 100000 ∷ whole 1 1 1 ∷ []) 0 0
+    ∷ takes 9 no_costs (whole 0 1 1 ∷ []) 103 1
+    ∷ takes 9 no_costs (whole 1 1 1 ∷ whole 3 2 9 ∷ []) 103 2
+    ∷ takes 9 no_costs (whole 1 9 8 ∷ whole 3 2 9 ∷ []) 103 1
+    ∷ takes 9 no_costs (whole 1 1 1000001 ∷ []) 103 1
+    ∷ takes 9 no_costs (cached Whole 1 1 1 1000001 0 0 ∷ []) 103 1
+    ∷ takes 9 no_costs (cached Whole 1 1 1 0 100001 0 ∷ []) 103 1
+    ∷ takes 9 no_costs (cached Whole 1 1 1 0 0 100001 ∷ []) 103 1
     -- a run, then the costs, then the records
-    ∷ takes 10 noCosts (replicate 79 (whole 1 1 1)) 0 0
-    ∷ takes 10 (everyCost 100001) (replicate 80 (whole 0 1 1)) 106 0
-    ∷ takes 10 (everyCost 100001) (replicate 79 (whole 0 1 1)) 102 0
+    ∷ takes 10 no_costs (replicate 79 (whole 1 1 1)) 0 0
+    ∷ takes 10 (every_cost 100001) (replicate 80 (whole 0 1 1)) 106 0
+    ∷ takes 10 (every_cost 100001) (replicate 79 (whole 0 1 1)) 102 0
     ∷ []

@@ -1,9 +1,9 @@
 // A piece becomes a charged piece, once; after this nothing asks for its kind.
 ghost use Rattle.std.specs.Prelude.{◌≡◌, ◌≤◌};
-ghost use Rattle.demand.specs.Answer.{chargedTime};
-ghost use Rattle.demand.specs.Charge.{noCosts, charge, charged, stall};
+ghost use Rattle.demand.specs.Answer.{charged_time};
+ghost use Rattle.demand.specs.Charge.{no_costs, charge, charged, stall};
 ghost use Rattle.demand.specs.Sizes.{SizedCosts};
-ghost use Rattle.demand.specs.ways.Ranges.{Countable, chargedWithin, noCharge, stallWithin, chargeMost};
+ghost use Rattle.demand.specs.Ways.Ranges.{Countable, charged_within, no_charge, stall_within, charge_most};
 
 use crate::kinds::{if_arrives, if_departs};
 use crate::sizes::{countable_piece, sized_costs, sized_piece};
@@ -13,7 +13,7 @@ use crate::{Charged, Costs, Piece};
 fn charge_of(costs: Costs, piece: Piece) -> u64
     requires sized_costs { SizedCosts costs }
     requires countable { Countable piece }
-    ensures { (result ≡ charge costs piece) × (result ≤ chargeMost) }
+    ensures { (result ≡ charge costs piece) × (result ≤ charge_most) }
 {
     let kind = piece.kind;
     let leaving = if_departs(kind, costs.ipb + costs.beto + costs.migro);
@@ -40,7 +40,7 @@ fn charged_of(costs: Costs, piece: Piece) -> Charged
 }
 
 fn no_charge() -> Charged
-    ensures { result ≡ noCharge }
+    ensures { result ≡ no_charge }
 {
     Charged {
         charge: 0,
@@ -55,7 +55,7 @@ fn no_charge() -> Charged
 
 /// The piece with its charge, or nothing but zeros where its sums could wrap: the costs are outside their sizes, or the piece cannot be charged.
 pub fn charged_piece(costs: Costs, piece: Piece) -> Charged
-    ensures exact { result ≡ chargedWithin costs piece }
+    ensures exact { result ≡ charged_within costs piece }
 {
     if !sized_costs(costs) {
         return no_charge();
@@ -68,7 +68,7 @@ pub fn charged_piece(costs: Costs, piece: Piece) -> Charged
 
 /// The charged time C' of a piece, or 0 where the costs or the piece are outside the sizes.
 pub fn charged_time(costs: Costs, piece: Piece) -> u64
-    ensures exact { result ≡ chargedTime costs piece }
+    ensures exact { result ≡ charged_time costs piece }
 {
     if !sized_costs(costs) {
         return 0;
@@ -94,7 +94,7 @@ fn stall_within(costs: Costs) -> u64
 
 /// Costs of which all nine are 0.
 pub fn no_costs() -> Costs
-    ensures exact { result ≡ noCosts }
+    ensures exact { result ≡ no_costs }
 {
     Costs {
         relo: 0,
@@ -111,7 +111,7 @@ pub fn no_costs() -> Costs
 
 /// How long the core can be held up, or 0 where the costs are outside their sizes.
 pub fn stall_of(costs: Costs) -> u64
-    ensures exact { result ≡ stallWithin costs }
+    ensures exact { result ≡ stall_within costs }
 {
     if !sized_costs(costs) {
         return 0;

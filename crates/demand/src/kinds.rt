@@ -1,12 +1,12 @@
 // Kinds: their numbers, and the two questions that charge, interrupts and jitter go by.
 ghost use Rattle.std.specs.Prelude.{◌≡◌, cond, ◌≤◌};
-ghost use Rattle.demand.specs.Kinds.{kindNumber, kind_of, departs, arrives};
+ghost use Rattle.demand.specs.Kinds.{kind_number, kind_of, departs, arrives};
 
 use crate::Kind;
 
 /// The number of a kind: 0 whole, 1 first, 2 last.
 pub fn kind_number(kind: Kind) -> u64
-    ensures exact { result ≡ kindNumber kind }
+    ensures exact { result ≡ kind_number kind }
 {
     match kind {
         Kind::Whole => 0,

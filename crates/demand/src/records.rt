@@ -1,8 +1,8 @@
 // A run of piece records that is lent as numbers, seven to a record, and what is refused of it.
 ghost use Rattle.std.specs.Prelude.{◌≡◌, [], ◌∷◌, ◌++◌, ◌+◌, ◌<◌, ◌≤◌, take};
-ghost use Rattle.demand.specs.Answer.{firstBad, checkRun};
-ghost use Rattle.demand.specs.Records.{outside, recordAt, recordWithin, recordsOf, putRecord, lent_of};
-ghost use Rattle.demand.specs.Sizes.{runMost};
+ghost use Rattle.demand.specs.Answer.{first_bad, check_run};
+ghost use Rattle.demand.specs.Records.{outside, record_at, record_within, records_of, put_record, lent_of};
+ghost use Rattle.demand.specs.Sizes.{run_most};
 
 use crate::kinds::{kind_number, kind_of};
 use crate::sizes::{sized_costs, sized_piece};
@@ -25,8 +25,8 @@ pub fn outside() -> Piece
 
 // The record at place i; one of another kind is outside the sizes.
 fn read_record(records: &[u64; RUN_NUMBERS], i: usize) -> Piece
-    requires { i < runMost }
-    ensures { result ≡ recordAt records.now i }
+    requires { i < run_most }
+    ensures { result ≡ record_at records.now i }
 {
     let at = 7 * i;
     let kind = records[at];
@@ -46,7 +46,7 @@ fn read_record(records: &[u64; RUN_NUMBERS], i: usize) -> Piece
 
 /// The record at a place from 0 of a run that is lent as numbers; zeros past its last place, and where the kind is none.
 pub fn record_at(records: &[u64; RUN_NUMBERS], i: usize) -> Piece
-    ensures exact { result ≡ recordWithin records.now i }
+    ensures exact { result ≡ record_within records.now i }
 {
     if i < RUN_MOST {
         return read_record(records, i);
@@ -56,7 +56,7 @@ pub fn record_at(records: &[u64; RUN_NUMBERS], i: usize) -> Piece
 
 /// Writes a record, as its seven numbers, at a place from 0 of a run that is lent as numbers; past its last place nothing changes.
 pub fn put_record(records: &mut [u64; RUN_NUMBERS], i: usize, piece: Piece)
-    ensures exact { records.new ≡ putRecord records.old i piece }
+    ensures exact { records.new ≡ put_record records.old i piece }
 {
     if RUN_MOST <= i {
         return;
@@ -88,8 +88,8 @@ pub fn records_of(run: Run) -> [u64; RUN_NUMBERS]
 
 // The place, from 1, of the first of the n records outside the sizes, or 0.
 fn first_bad(records: &[u64; RUN_NUMBERS], n: usize) -> u64
-    requires { n ≤ runMost }
-    ensures { result ≡ firstBad 1 (take n (recordsOf records.now)) }
+    requires { n ≤ run_most }
+    ensures { result ≡ first_bad 1 (take n (records_of records.now)) }
 {
     let mut i: usize = 0;
     let mut place: u64 = 1;
@@ -105,7 +105,7 @@ fn first_bad(records: &[u64; RUN_NUMBERS], n: usize) -> u64
 
 /// Whether the first n records of a run are taken: 6, then 2, then 3 with the record's place.
 pub fn check_records(costs: Costs, records: &[u64; RUN_NUMBERS], n: usize) -> Check
-    ensures exact { result ≡ checkRun costs n (recordsOf records.now) }
+    ensures exact { result ≡ check_run costs n (records_of records.now) }
 {
     if RUN_MOST < n {
         return Check::Bad(Refusal::TooMany);
@@ -122,7 +122,7 @@ pub fn check_records(costs: Costs, records: &[u64; RUN_NUMBERS], n: usize) -> Ch
 
 /// The same of a run with one record more, the task's.
 pub fn check_task(costs: Costs, records: &[u64; RUN_NUMBERS], n: usize, task: Piece) -> Check
-    ensures exact { result ≡ checkRun costs (n + 1) (take n (recordsOf records.now) ++ (task ∷ [])) }
+    ensures exact { result ≡ check_run costs (n + 1) (take n (records_of records.now) ++ (task ∷ [])) }
 {
     if RUN_MOST <= n {
         return Check::Bad(Refusal::TooMany);

@@ -1,7 +1,7 @@
 // Whether costs and pieces are within the sizes.
 ghost use Rattle.std.specs.Prelude.{◌≡◌};
-ghost use Rattle.demand.specs.Sizes.{Sized, SizedCosts, Tells, sized, sizedCosts};
-ghost use Rattle.demand.specs.ways.Ranges.{Countable};
+ghost use Rattle.demand.specs.Sizes.{Sized, SizedCosts, Tells, sized, sized_costs};
+ghost use Rattle.demand.specs.Ways.Ranges.{Countable};
 
 use crate::{COST_MOST, Costs, Piece, TIME_MOST};
 
@@ -102,7 +102,7 @@ pub fn within_sizes(piece: Piece) -> bool
 
 /// Whether the nine constants are within their sizes.
 pub fn costs_within(costs: Costs) -> bool
-    ensures exact { result ≡ sizedCosts costs }
+    ensures exact { result ≡ sized_costs costs }
 {
     sized_costs(costs)
 }

@@ -1,7 +1,7 @@
 -- Laws of a script's lines and bytes.
 -- Assumes nothing.
 --
---   after_line                                   the plan after a line, by the answers of those who read it and did it
+--   after-line                                   the plan after a line, by the answers of those who read it and did it
 --   played-newline, played-other, played-end     the desk after the bytes from a place on
 use mathlib.Core.Path.{◌≡◌, ap, ◌∙◌}
 use mathlib.Core.List.{List}
@@ -16,39 +16,39 @@ use Rattle.lines.specs.declared.Order.{Order}
 use Rattle.lines.specs.Lines.{newline}
 use Rattle.desk.specs.declared.Pending.{Pending}
 use Rattle.desk.specs.declared.Desk.{Desk}
-use Rattle.desk.specs.Desk.{fresh, withByte, order_in, replyTo, afterLine, afterByte, playedBytes}
+use Rattle.desk.specs.Desk.{fresh, with_byte, order_in, reply_to, after_line, after_byte, played_bytes}
 
-pub after_line : (l : Pending) (s : Plan) (o : Order) (r : Reply) → o ≡ order_in l → r ≡ replyTo o s → r.plan ≡ afterLine l s
-unfolding afterLine
-after_line l s o r order reply = ap (λ (x : Reply). x.plan) reply ∙ ap (λ (x : Order). (replyTo x s).plan) order
+pub after-line : (l : Pending) (s : Plan) (o : Order) (r : Reply) → o ≡ order_in l → r ≡ reply_to o s → r.plan ≡ after_line l s
+unfolding after_line
+after-line l s o r order reply = ap (λ (x : Reply). x.plan) reply ∙ ap (λ (x : Order). (reply_to x s).plan) order
 
 abbrev pub desk : Plan → Plan → Pending → Desk
 desk s p l = record { start = s; plan = p; line = l }
 
 module _ (s p q : Plan) (l m : Pending) (b : ℕ) where
-  pub after-newline : b ≡ newline → q ≡ afterLine l p → m ≡ fresh → afterByte (desk s p l) b ≡ desk s q m
-  unfolding afterByte
+  pub after-newline : b ≡ newline → q ≡ after_line l p → m ≡ fresh → after_byte (desk s p l) b ≡ desk s q m
+  unfolding after_byte
   after-newline ends after none = rw (eq-eqb b newline ends, after, none)
 
-  pub after-other : (b ≡ newline → ⊥) → q ≡ p → m ≡ withByte l b → afterByte (desk s p l) b ≡ desk s q m
-  unfolding afterByte
+  pub after-other : (b ≡ newline → ⊥) → q ≡ p → m ≡ with_byte l b → after_byte (desk s p l) b ≡ desk s q m
+  unfolding after_byte
   after-other other same more = rw (ne_eqb b newline other, same, more)
 
 module _ (s p : Plan) (l : Pending) (bs : List ℕ) (i : ℕ) where
-  pub played-end : length bs ≤ i → playedBytes (desk s p l) (drop i bs) ≡ desk s p l
-  unfolding playedBytes
+  pub played-end : length bs ≤ i → played_bytes (desk s p l) (drop i bs) ≡ desk s p l
+  unfolding played_bytes
   played-end short = rw (drop_of_length-le bs {i = i} short)
 
   module _ (low : i < length bs) where
-    played-more : playedBytes (desk s p l) (drop i bs) ≡ playedBytes (afterByte (desk s p l) (get_or bs i 0)) (drop (i + 1) bs)
-    unfolding playedBytes
+    played-more : played_bytes (desk s p l) (drop i bs) ≡ played_bytes (after_byte (desk s p l) (get_or bs i 0)) (drop (i + 1) bs)
+    unfolding played_bytes
     played-more = rw (add-one, drop-cons bs i 0 low)
 
     module _ (q : Plan) (m : Pending) where
-      pub played-newline : get_or bs i 0 ≡ newline → q ≡ afterLine l p → m ≡ fresh
-          → playedBytes (desk s p l) (drop i bs) ≡ playedBytes (desk s q m) (drop (i + 1) bs)
-      played-newline ends after none = played-more ∙ ap (λ (d : Desk). playedBytes d (drop (i + 1) bs)) (after-newline s p q l m (get_or bs i 0) ends after none)
+      pub played-newline : get_or bs i 0 ≡ newline → q ≡ after_line l p → m ≡ fresh
+          → played_bytes (desk s p l) (drop i bs) ≡ played_bytes (desk s q m) (drop (i + 1) bs)
+      played-newline ends after none = played-more ∙ ap (λ (d : Desk). played_bytes d (drop (i + 1) bs)) (after-newline s p q l m (get_or bs i 0) ends after none)
 
-      pub played-other : (get_or bs i 0 ≡ newline → ⊥) → q ≡ p → m ≡ withByte l (get_or bs i 0)
-          → playedBytes (desk s p l) (drop i bs) ≡ playedBytes (desk s q m) (drop (i + 1) bs)
-      played-other other same more = played-more ∙ ap (λ (d : Desk). playedBytes d (drop (i + 1) bs)) (after-other s p q l m (get_or bs i 0) other same more)
+      pub played-other : (get_or bs i 0 ≡ newline → ⊥) → q ≡ p → m ≡ with_byte l (get_or bs i 0)
+          → played_bytes (desk s p l) (drop i bs) ≡ played_bytes (desk s q m) (drop (i + 1) bs)
+      played-other other same more = played-more ∙ ap (λ (d : Desk). played_bytes d (drop (i + 1) bs)) (after-other s p q l m (get_or bs i 0) other same more)

@@ -20,15 +20,15 @@ use Rattle.lines.specs.Lines.{newline}
 use Rattle.lines.specs.Orders.{order_of}
 use Rattle.desk.specs.declared.Pending.{Pending}
 use Rattle.desk.specs.declared.Desk.{Desk}
-use Rattle.desk.specs.Desk.{lineRoom, fresh, withByte, replyBy, replyTo, afterLine, afterByte, playedBytes}
-use Rattle.desk.specs.Script.{Unbroken, AllUnbroken, written, editsBy, asked}
+use Rattle.desk.specs.Desk.{line_room, fresh, with_byte, reply_by, reply_to, after_line, after_byte, played_bytes}
+use Rattle.desk.specs.Script.{Unbroken, AllUnbroken, written, edits_by, asked}
 use Rattle.desk.proofs.DeskLaws.{desk, after-newline, after-other}
 use Rattle.desk.proofs.LineLaws.{Holds, holds-none, holds_more, holds-order}
 
-pub chunks-join : (d : Desk) (bs cs : List ℕ) → playedBytes d (bs ++ cs) ≡ playedBytes (playedBytes d bs) cs
-unfolding playedBytes
+pub chunks-join : (d : Desk) (bs cs : List ℕ) → played_bytes d (bs ++ cs) ≡ played_bytes (played_bytes d bs) cs
+unfolding played_bytes
 chunks-join d [] cs = refl
-chunks-join d (b ∷ bs) cs = chunks-join (afterByte d b) bs cs
+chunks-join d (b ∷ bs) cs = chunks-join (after_byte d b) bs cs
 
 -- ---- one line
 
@@ -39,45 +39,45 @@ record Going (s p : Plan) (l : List ℕ) (d : Desk) : Type 0 where
   pub line : Holds l d.line
 
 played-on : (s p : Plan) (q : Pending) (b : ℕ) (bs : List ℕ) → (b ≡ newline → ⊥)
-    → playedBytes (desk s p q) (b ∷ bs) ≡ playedBytes (desk s p (withByte q b)) bs
-unfolding playedBytes
-played-on s p q b bs other = ap (λ (d : Desk). playedBytes d bs) (after-other s p p q (withByte q b) b other refl refl)
+    → played_bytes (desk s p q) (b ∷ bs) ≡ played_bytes (desk s p (with_byte q b)) bs
+unfolding played_bytes
+played-on s p q b bs other = ap (λ (d : Desk). played_bytes d bs) (after-other s p p q (with_byte q b) b other refl refl)
 
-go_on : (s p : Plan) (m l : List ℕ) (q : Pending) → Holds m q → Unbroken l → Going s p (m ++ l) (playedBytes (desk s p q) l)
-unfolding playedBytes
-go_on s p m [] q h u = record { start = refl; plan = refl; line = rw (append-nil m) h }
-go_on s p m (b ∷ l) q h u =
-    rw (played-on s p q b l u.0, ← append_assoc m (b ∷ []) l) (go_on s p (m ++ (b ∷ [])) l (withByte q b) (holds_more m q h b) u.1)
+go-on : (s p : Plan) (m l : List ℕ) (q : Pending) → Holds m q → Unbroken l → Going s p (m ++ l) (played_bytes (desk s p q) l)
+unfolding played_bytes
+go-on s p m [] q h u = record { start = refl; plan = refl; line = rw (append-nil m) h }
+go-on s p m (b ∷ l) q h u =
+    rw (played-on s p q b l u.0, ← append_assoc m (b ∷ []) l) (go-on s p (m ++ (b ∷ [])) l (with_byte q b) (holds_more m q h b) u.1)
 
 module _ (s p : Plan) (l : List ℕ) (u : Unbroken l) where
-  come : Going s p l (playedBytes (desk s p fresh) l)
-  come = go_on s p [] l fresh holds-none u
+  come : Going s p l (played_bytes (desk s p fresh) l)
+  come = go-on s p [] l fresh holds-none u
 
-  ended : (d : Desk) → Going s p l d → afterByte d newline ≡ desk s (replyTo (order_of l) p).plan fresh
-  unfolding afterLine
+  ended : (d : Desk) → Going s p l d → after_byte d newline ≡ desk s (reply_to (order_of l) p).plan fresh
+  unfolding after_line
   ended d g =
-      after-newline d.start d.plan (afterLine d.line d.plan) d.line fresh newline refl refl refl
-      ∙ ap (λ (o : Order). desk d.start (replyTo o d.plan).plan fresh) (holds-order l d.line g.line)
-      ∙ ap (λ (r : Plan). desk d.start (replyTo (order_of l) r).plan fresh) g.plan
-      ∙ ap (λ (r : Plan). desk r (replyTo (order_of l) p).plan fresh) g.start
+      after-newline d.start d.plan (after_line d.line d.plan) d.line fresh newline refl refl refl
+      ∙ ap (λ (o : Order). desk d.start (reply_to o d.plan).plan fresh) (holds-order l d.line g.line)
+      ∙ ap (λ (r : Plan). desk d.start (reply_to (order_of l) r).plan fresh) g.plan
+      ∙ ap (λ (r : Plan). desk r (reply_to (order_of l) p).plan fresh) g.start
 
-  line-plays : (rest : List ℕ) → playedBytes (desk s p fresh) (l ++ (newline ∷ rest)) ≡ playedBytes (desk s (replyTo (order_of l) p).plan fresh) rest
-  unfolding playedBytes
-  line-plays rest = chunks-join (desk s p fresh) l (newline ∷ rest) ∙ ap (λ (d : Desk). playedBytes d rest) (ended (playedBytes (desk s p fresh) l) come)
+  line-plays : (rest : List ℕ) → played_bytes (desk s p fresh) (l ++ (newline ∷ rest)) ≡ played_bytes (desk s (reply_to (order_of l) p).plan fresh) rest
+  unfolding played_bytes
+  line-plays rest = chunks-join (desk s p fresh) l (newline ∷ rest) ∙ ap (λ (d : Desk). played_bytes d rest) (ended (played_bytes (desk s p fresh) l) come)
 
-  pub cut-plan : (playedBytes (desk s p fresh) l).plan ≡ p
+  pub cut-plan : (played_bytes (desk s p fresh) l).plan ≡ p
   cut-plan = come.plan
 
-  pub cut-told : (playedBytes (desk s p fresh) l).line.len ≡ 0 → length l ≡ 0
+  pub cut-told : (played_bytes (desk s p fresh) l).line.len ≡ 0 → length l ≡ 0
   cut-told none =
-      elim (dec_le (length l) lineRoom) [
+      elim (dec_le (length l) line_room) [
         | yes few ↦ omega (arith, come.line.short few)
         | no many ↦ absurd (omega (arith, come.line.long (omega arith)))
       ]
 
 -- ---- a script
 
-reply-asked : (d : Deed) (t : Task) (p : Plan) → (replyBy d t p).plan ≡ played (editsBy d t) p
+reply-asked : (d : Deed) (t : Task) (p : Plan) → (reply_by d t p).plan ≡ played (edits_by d t) p
 reply-asked Deed.Add t p = refl
 reply-asked Deed.Withdraw t p = refl
 reply-asked Deed.Retime t p = refl
@@ -89,12 +89,12 @@ played-append : (es fs : List TaskEdit) (p : Plan) → played (es ++ fs) p ≡ p
 played-append [] fs p = refl
 played-append (e ∷ es) fs p = played-append es fs _
 
-pub script-plays : (ls : List (List ℕ)) (s p : Plan) → AllUnbroken ls → playedBytes (desk s p fresh) (written ls) ≡ desk s (played (asked ls) p) fresh
-unfolding playedBytes
+pub script-plays : (ls : List (List ℕ)) (s p : Plan) → AllUnbroken ls → played_bytes (desk s p fresh) (written ls) ≡ desk s (played (asked ls) p) fresh
+unfolding played_bytes
 script-plays [] s p u = refl
 script-plays (l ∷ ls) s p u =
-    let es = editsBy (order_of l).deed (order_of l).task in
+    let es = edits_by (order_of l).deed (order_of l).task in
     line-plays s p l u.0 (written ls)
-    ∙ ap (λ (r : Plan). playedBytes (desk s r fresh) (written ls)) (reply-asked (order_of l).deed (order_of l).task p)
+    ∙ ap (λ (r : Plan). played_bytes (desk s r fresh) (written ls)) (reply-asked (order_of l).deed (order_of l).task p)
     ∙ script-plays ls s (played es p) u.1
     ∙ ap (λ (r : Plan). desk s r fresh) (sym (played-append es (asked ls) p))

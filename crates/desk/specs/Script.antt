@@ -24,14 +24,14 @@ abbrev pub written : List (List ℕ) → List ℕ
 written [] = []
 written (l ∷ ls) = l ++ (newline ∷ written ls)
 
-abbrev pub editsBy : Deed → Task → List TaskEdit
-editsBy Deed.Add t = Edit.add t ∷ []
-editsBy Deed.Withdraw t = Edit.withdraw t.name ∷ []
-editsBy Deed.Retime t = Edit.retime t ∷ []
-editsBy Deed.List t = []
-editsBy Deed.Diff t = []
-editsBy Deed.Other t = []
+abbrev pub edits_by : Deed → Task → List TaskEdit
+edits_by Deed.Add t = Edit.add t ∷ []
+edits_by Deed.Withdraw t = Edit.withdraw t.name ∷ []
+edits_by Deed.Retime t = Edit.retime t ∷ []
+edits_by Deed.List t = []
+edits_by Deed.Diff t = []
+edits_by Deed.Other t = []
 
 abbrev pub asked : List (List ℕ) → List TaskEdit
 asked [] = []
-asked (l ∷ ls) = editsBy (order_of l).deed (order_of l).task ++ asked ls
+asked (l ∷ ls) = edits_by (order_of l).deed (order_of l).task ++ asked ls

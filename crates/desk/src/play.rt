@@ -1,7 +1,7 @@
 // What the lines of a script do to a held plan.
 ghost use Rattle.std.specs.Prelude.{◌≡◌};
-ghost use Rattle.edits.specs.Edits.{givenBack};
-ghost use Rattle.desk.specs.Desk.{replyTo, afterLine, playedBytes};
+ghost use Rattle.edits.specs.Edits.{given_back};
+ghost use Rattle.desk.specs.Desk.{reply_to, after_line, played_bytes};
 
 use crate::answers::tell;
 use crate::script::{fresh, order_in, with_byte};
@@ -12,7 +12,7 @@ use plan::{Plan, Reply};
 
 // The plan as it is, with an answer.
 fn keep(state: Plan, number: u64) -> Reply
-    ensures { result ≡ givenBack state number 0 }
+    ensures { result ≡ given_back state number 0 }
 {
     Reply {
         number,
@@ -23,7 +23,7 @@ fn keep(state: Plan, number: u64) -> Reply
 
 // What comes of an order on a held plan.
 fn reply_to(order: Order, state: Plan) -> Reply
-    ensures { result ≡ replyTo order state }
+    ensures { result ≡ reply_to order state }
 {
     let deed = order.deed;
     let task = order.task;
@@ -41,7 +41,7 @@ fn reply_to(order: Order, state: Plan) -> Reply
 
 // Answers a line, and hands back the plan that is held then. The plan at the start is for the answer alone.
 fn answer(start: Plan, state: Plan, line: Pending) -> Plan
-    ensures { result ≡ afterLine line state }
+    ensures { result ≡ after_line line state }
 {
     let order = order_in(line);
     let deed = order.deed;
@@ -52,7 +52,7 @@ fn answer(start: Plan, state: Plan, line: Pending) -> Plan
 
 // Takes the bytes of a script, and answers each line that ends among them.
 pub fn play_bytes(desk: Desk, bytes: &[u8]) -> Desk
-    ensures { result ≡ playedBytes desk bytes.now }
+    ensures { result ≡ played_bytes desk bytes.now }
 {
     let start = desk.start;
     let mut plan = desk.plan;

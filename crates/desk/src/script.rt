@@ -1,6 +1,6 @@
 // A script's line, taken byte by byte.
 ghost use Rattle.std.specs.Prelude.{◌≡◌};
-ghost use Rattle.desk.specs.Desk.{fresh, withByte, order_in};
+ghost use Rattle.desk.specs.Desk.{fresh, with_byte, order_in};
 
 use crate::Pending;
 use lines::{Order, no_order, order_of};
@@ -17,7 +17,7 @@ pub fn fresh() -> Pending
 
 // The line with one byte more.
 pub fn with_byte(line: Pending, b: u8) -> Pending
-    ensures { result ≡ withByte line b }
+    ensures { result ≡ with_byte line b }
 {
     let len = line.len;
     if 201 <= len {

@@ -22,10 +22,10 @@ use lib.Dec.{eqb, leb}
 use lib.ListN.{length, take}
 use lib.Seq.{take-length}
 use Rattle.demand.specs.declared.Costs.{Costs}
-use Rattle.demand.specs.Sizes.{sizedCosts}
+use Rattle.demand.specs.Sizes.{sized_costs}
 use Rattle.task.specs.declared.Task.{Task}
 use Rattle.task.specs.declared.Machine.{Machine}
-use Rattle.task.specs.Tasks.{tasksMost, rule, firstFault, stateFault, sizedMachine, tasksOf}
+use Rattle.task.specs.Tasks.{tasks_most, rule, first_fault, state_fault, sized_machine, tasks_of}
 use Rattle.plan.specs.declared.Plan.{Plan}
 use Rattle.plan.specs.declared.Reply.{Reply}
 use Rattle.walks.specs.Way.{Placed, fine, stuck}
@@ -33,38 +33,38 @@ use Rattle.walks.specs.Edits.{edited}
 use Rattle.walks.specs.Halves.{Stand}
 use Rattle.plan.specs.Walk.{walked}
 use Rattle.task.proofs.TaskLaws.{state-sane, tasks-listed}
-use Rattle.plan.specs.Plan.{refused, finished, unlessFault, plan_of}
+use Rattle.plan.specs.Plan.{refused, finished, unless_fault, plan_of}
 use Rattle.plan.proofs.Theorems.{plan-faultless, plan-or-stuck}
 use Rattle.edits.proofs.FaultLaws.{rightful-known, rightful-faultless}
-use Rattle.edits.specs.Edits.{byName, TaskEdit, tasksHeld, editFault, givenBack, backAt, settled, replanned, editOf, accepted, Afresh}
+use Rattle.edits.specs.Edits.{by_name, TaskEdit, tasks_held, edit_fault, given_back, back_at, settled, replanned, edit_of, accepted, Afresh}
 
 pub plan-same : (m : Machine) (c : Costs) (n : ℕ) (xs ys : List Task) → take n xs ≡ take n ys → plan_of m c n xs ≡ plan_of m c n ys
-unfolding plan_of stateFault
+unfolding plan_of state_fault
 plan-same m c n xs ys e =
-    ap (λ (z : List Task). unlessFault (rule (sizedMachine m) 1 (rule (sizedCosts c) 2 (rule (leb n tasksMost) 6 (firstFault [] z))))
+    ap (λ (z : List Task). unless_fault (rule (sized_machine m) 1 (rule (sized_costs c) 2 (rule (leb n tasks_most) 6 (first_fault [] z))))
     (finished m c z (walked m c z))) e
 
 pub record Made (m : Machine) (c : Costs) (ts : List Task) (s : Plan) : Type 0 where
   pub machine-is : s.machine ≡ m
   pub costs-is : s.costs ≡ c
-  pub tasks-are : tasksHeld s ≡ ts
+  pub tasks-are : tasks_held s ≡ ts
   pub held : Afresh s
 
 module _ (m : Machine) (c : Costs) (ts : List Task) where
-  made_of : length ts ≤ tasksMost → (st : Stand) (l : List (Placed ℕ)) → plan_of m c (length ts) ts ≡ finished m c ts (fine st l)
+  made_of : length ts ≤ tasks_most → (st : Stand) (l : List (Placed ℕ)) → plan_of m c (length ts) ts ≡ finished m c ts (fine st l)
       → Made m c ts (finished m c ts (fine st l)).plan
   unfolding Afresh
   made_of few st l e = record {
     machine-is = refl;
     costs-is = refl;
     tasks-are = tasks-listed ts few;
-    held = plan-same m c (length ts) (tasksOf ts).list ts (tasks-listed ts few ∙ sym (take-length ts)) ∙ e;
+    held = plan-same m c (length ts) (tasks_of ts).list ts (tasks-listed ts few ∙ sym (take-length ts)) ∙ e;
   }
 
   pub plan-made : (plan_of m c (length ts) ts).number ≡ 0 → (s : Plan) × (plan_of m c (length ts) ts ≡ accepted s) × Made m c ts s
   plan-made number = by (plan-or-stuck m c (length ts) ts faultless)
     where
-      faultless : stateFault m c (length ts) ts ≡ 0
+      faultless : state_fault m c (length ts) ts ≡ 0
       faultless = plan-faultless m c (length ts) ts number
 
       us : List Task
@@ -80,7 +80,7 @@ module _ (m : Machine) (c : Costs) (ts : List Task) where
       by (inr r) = absurd (omega (arith, sym number ∙ ap (λ (z : Reply). z.number) r.2))
 
 -- the plan of the first n of a list is the plan of those
-plan-cut : (m : Machine) (c : Costs) (n : ℕ) (ts : List Task) → stateFault m c n ts ≡ 0 → plan_of m c (length (take n ts)) (take n ts) ≡ plan_of m c n ts
+plan-cut : (m : Machine) (c : Costs) (n : ℕ) (ts : List Task) → state_fault m c n ts ≡ 0 → plan_of m c (length (take n ts)) (take n ts) ≡ plan_of m c n ts
 unfolding plan_of
 plan-cut m c n ts faultless = rw (rightful-faultless m c (take n ts) (rightful-known m c n ts faultless), faultless, take-length (take n ts))
 
@@ -106,78 +106,78 @@ module _ (s : Plan) (ts : List Task) where
       planned : Reply
       planned = plan_of s.machine s.costs (length ts) ts
 
-      by : (t : Bool) → eqb planned.number 0 ≡ t → Answered s ts (cond t planned (givenBack s planned.number planned.carries))
+      by : (t : Bool) → eqb planned.number 0 ≡ t → Answered s ts (cond t planned (given_back s planned.number planned.carries))
       by true e =
           (let r = plan-made s.machine s.costs ts (eqb-true planned.number 0 e) in
           inl (eqb-true planned.number 0 e, subst (λ (z : Reply). Made s.machine s.costs ts z.plan) (sym r.1) r.2))
       by false e = inr (eqb-false planned.number 0 e, refl)
 
-  back-answered : (k : ℕ) (r : Reply) → Answered s ts r → Answered s ts (backAt k s r)
+  back-answered : (k : ℕ) (r : Reply) → Answered s ts r → Answered s ts (back_at k s r)
   back-answered zero r a = a
   back-answered (suc k) r a = inr ((λ z. omega arith), refl)
 
-pub edit-answered : (e : TaskEdit) (s : Plan) → Answered s (edited byName e (tasksHeld s)) (editOf e s)
-unfolding editOf
+pub edit-answered : (e : TaskEdit) (s : Plan) → Answered s (edited by_name e (tasks_held s)) (edit_of e s)
+unfolding edit_of
 edit-answered e s =
-    let ts = edited byName e (tasksHeld s) in
-    back-answered s ts (stateFault s.machine s.costs s.tasks.count s.tasks.list) (backAt (editFault e (tasksHeld s)) s (replanned s ts))
-    (back-answered s ts (editFault e (tasksHeld s)) (replanned s ts) (settled-answered s ts))
+    let ts = edited by_name e (tasks_held s) in
+    back-answered s ts (state_fault s.machine s.costs s.tasks.count s.tasks.list) (back_at (edit_fault e (tasks_held s)) s (replanned s ts))
+    (back-answered s ts (edit_fault e (tasks_held s)) (replanned s ts) (settled-answered s ts))
 
-pub edit-made : (e : TaskEdit) (s : Plan) → (editOf e s).number ≡ 0 → Made s.machine s.costs (edited byName e (tasksHeld s)) (editOf e s).plan
+pub edit-made : (e : TaskEdit) (s : Plan) → (edit_of e s).number ≡ 0 → Made s.machine s.costs (edited by_name e (tasks_held s)) (edit_of e s).plan
 edit-made e s number = by (edit-answered e s)
   where
-    by : Answered s (edited byName e (tasksHeld s)) (editOf e s) → Made s.machine s.costs (edited byName e (tasksHeld s)) (editOf e s).plan
+    by : Answered s (edited by_name e (tasks_held s)) (edit_of e s) → Made s.machine s.costs (edited by_name e (tasks_held s)) (edit_of e s).plan
     by (inl r) = r.1
     by (inr r) = absurd (r.0 number)
 
 -- an answer that is accepted is the one that was looked at last
-back-accepted : (k : ℕ) (s : Plan) (r : Reply) → (backAt k s r).number ≡ 0 → backAt k s r ≡ r
+back-accepted : (k : ℕ) (s : Plan) (r : Reply) → (back_at k s r).number ≡ 0 → back_at k s r ≡ r
 back-accepted zero s r number = refl
 back-accepted (suc k) s r number = absurd (omega arith)
 
 settled-accepted : (s : Plan) (r : Reply) → (settled s r).number ≡ 0 → settled s r ≡ r
 settled-accepted s r = by (eqb r.number 0) refl
   where
-    by : (t : Bool) → eqb r.number 0 ≡ t → (cond t r (givenBack s r.number r.carries)).number ≡ 0 → cond t r (givenBack s r.number r.carries) ≡ r
+    by : (t : Bool) → eqb r.number 0 ≡ t → (cond t r (given_back s r.number r.carries)).number ≡ 0 → cond t r (given_back s r.number r.carries) ≡ r
     by true e number = refl
     by false e number = absurd (eqb-false r.number 0 e number)
 
-pub edit-planned : (e : TaskEdit) (s : Plan) → (editOf e s).number ≡ 0
-    → editOf e s ≡ plan_of s.machine s.costs (length (edited byName e (tasksHeld s))) (edited byName e (tasksHeld s))
-unfolding editOf
+pub edit-planned : (e : TaskEdit) (s : Plan) → (edit_of e s).number ≡ 0
+    → edit_of e s ≡ plan_of s.machine s.costs (length (edited by_name e (tasks_held s))) (edited by_name e (tasks_held s))
+unfolding edit_of
 edit-planned e s number =
-    let ts = edited byName e (tasksHeld s) in
-    let state = stateFault s.machine s.costs s.tasks.count s.tasks.list in
-    let own = backAt (editFault e (tasksHeld s)) s (replanned s ts) in
+    let ts = edited by_name e (tasks_held s) in
+    let state = state_fault s.machine s.costs s.tasks.count s.tasks.list in
+    let own = back_at (edit_fault e (tasks_held s)) s (replanned s ts) in
     let planned = plan_of s.machine s.costs (length ts) ts in
-    let one : editOf e s ≡ own = back-accepted state s own number in
+    let one : edit_of e s ≡ own = back-accepted state s own number in
     let two : own ≡ replanned s ts =
-    back-accepted (editFault e (tasksHeld s)) s (replanned s ts) (ap (λ (r : Reply). r.number) (sym one) ∙ number) in
+    back-accepted (edit_fault e (tasks_held s)) s (replanned s ts) (ap (λ (r : Reply). r.number) (sym one) ∙ number) in
     one ∙ (two ∙ settled-accepted s planned (ap (λ (r : Reply). r.number) (sym (one ∙ two)) ∙ number))
 
-pub edit-back : (e : TaskEdit) (s : Plan) → ((editOf e s).number ≡ 0 → ⊥) → (editOf e s).plan ≡ s
+pub edit-back : (e : TaskEdit) (s : Plan) → ((edit_of e s).number ≡ 0 → ⊥) → (edit_of e s).plan ≡ s
 edit-back e s some = by (edit-answered e s)
   where
-    by : Answered s (edited byName e (tasksHeld s)) (editOf e s) → (editOf e s).plan ≡ s
+    by : Answered s (edited by_name e (tasks_held s)) (edit_of e s) → (edit_of e s).plan ≡ s
     by (inl r) = absurd (some r.0)
     by (inr r) = r.1
 
 -- whatever it answers
 pub edit-keeps : (e : TaskEdit) (s : Plan)
-    → ((editOf e s).plan.machine ≡ s.machine) × ((editOf e s).plan.costs ≡ s.costs) × (Afresh s → Afresh (editOf e s).plan)
+    → ((edit_of e s).plan.machine ≡ s.machine) × ((edit_of e s).plan.costs ≡ s.costs) × (Afresh s → Afresh (edit_of e s).plan)
 edit-keeps e s = by (edit-answered e s)
   where
-    by : Answered s (edited byName e (tasksHeld s)) (editOf e s)
-        → ((editOf e s).plan.machine ≡ s.machine) × ((editOf e s).plan.costs ≡ s.costs) × (Afresh s → Afresh (editOf e s).plan)
+    by : Answered s (edited by_name e (tasks_held s)) (edit_of e s)
+        → ((edit_of e s).plan.machine ≡ s.machine) × ((edit_of e s).plan.costs ≡ s.costs) × (Afresh s → Afresh (edit_of e s).plan)
     by (inl r) = (r.1.machine-is, r.1.costs-is, λ h. r.1.held)
     by (inr r) = (ap (λ (z : Plan). z.machine) r.1, ap (λ (z : Plan). z.costs) r.1, λ h. subst Afresh (sym r.1) h)
 
 -- ---- only 7 comes of the walk
 
 abbrev pub Ends : Plan → List Task → Reply → Type 0
-Ends s ts r = (r.number ≡ 0) ⊎ ((k : ℕ) × (walked s.machine s.costs ts ≡ stuck k 7) × (r ≡ givenBack s 7 (suc k)))
+Ends s ts r = (r.number ≡ 0) ⊎ ((k : ℕ) × (walked s.machine s.costs ts ≡ stuck k 7) × (r ≡ given_back s 7 (suc k)))
 
-pub replanned-ends : (s : Plan) (ts : List Task) → stateFault s.machine s.costs (length ts) ts ≡ 0 → Ends s ts (replanned s ts)
+pub replanned-ends : (s : Plan) (ts : List Task) → state_fault s.machine s.costs (length ts) ts ≡ 0 → Ends s ts (replanned s ts)
 replanned-ends s ts faultless = by (plan-or-stuck m c (length ts) ts faultless)
   where
     m : Machine
@@ -195,7 +195,7 @@ replanned-ends s ts faultless = by (plan-or-stuck m c (length ts) ts faultless)
     by (inl r) = inl (ap (λ (z : Reply). (settled s z).number) r.3)
     by (inr r) = inr (r.0, subst (λ (z : List Task). walked m c z ≡ stuck r.0 7) (take-length ts) r.1, ap (settled s) r.2)
 
-pub edit-goes : (e : TaskEdit) (s : Plan) → stateFault s.machine s.costs s.tasks.count s.tasks.list ≡ 0
-    → editFault e (tasksHeld s) ≡ 0 → editOf e s ≡ replanned s (edited byName e (tasksHeld s))
-unfolding editOf
+pub edit-goes : (e : TaskEdit) (s : Plan) → state_fault s.machine s.costs s.tasks.count s.tasks.list ≡ 0
+    → edit_fault e (tasks_held s) ≡ 0 → edit_of e s ≡ replanned s (edited by_name e (tasks_held s))
+unfolding edit_of
 edit-goes e s faultless right = rw (faultless, right)

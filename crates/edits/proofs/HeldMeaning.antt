@@ -7,11 +7,11 @@ use mathlib.Core.Path.{◌≡◌, sym, ◌∙◌, subst}
 use mathlib.Core.Logic.{◌↔◌}
 use Prim.Native.Nat.{ℕ, ◌≤◌, ◌<◌}
 use lib.ListN.{length, get_or}
-use Rattle.task.specs.Tasks.{coresMost, stateFault}
+use Rattle.task.specs.Tasks.{cores_most, state_fault}
 use Rattle.task.proofs.RefusalLaws.{state-kept}
-use Rattle.walks.specs.Way.{onCore}
+use Rattle.walks.specs.Way.{on_core}
 use Rattle.plan.specs.declared.Plan.{Plan}
-use Rattle.plan.specs.Places.{ofTask}
+use Rattle.plan.specs.Places.{of_task}
 use Rattle.plan.specs.Shows.{bit_of}
 use Rattle.plan.proofs.WordLaws.{words-alike}
 use Rattle.plan.proofs.Theorems.{plan-faultless, plan-comes, plan-shows, words-show}
@@ -19,11 +19,11 @@ use Rattle.edits.specs.Edits.{afresh, row_in, Held}
 
 pub record LikeAfresh (s : Plan) : Type 0 where
   pub comes : (afresh s).number ≡ 0
-  pub rows : (q : ℕ) → q < coresMost → row_in s q ≡ row_in (afresh s).plan q
-  pub words : (q : ℕ) → q < coresMost → get_or s.layout.words q 0 ≡ get_or (afresh s).plan.layout.words q 0
+  pub rows : (q : ℕ) → q < cores_most → row_in s q ≡ row_in (afresh s).plan q
+  pub words : (q : ℕ) → q < cores_most → get_or s.layout.words q 0 ≡ get_or (afresh s).plan.layout.words q 0
 
 module _ (s : Plan) where
-  faultless : Held s → stateFault s.machine s.costs s.tasks.count s.tasks.list ≡ 0
+  faultless : Held s → state_fault s.machine s.costs s.tasks.count s.tasks.list ≡ 0
   faultless held = (state-kept s.machine s.costs s.tasks.count s.tasks.list).1 held.sane
 
   held-like : Held s → LikeAfresh s
@@ -61,7 +61,7 @@ module _ (s : Plan) where
         log = l;
         walks = walks;
         rows = λ q low. like.rows q low ∙ (plan-shows m c n ts good t l walks).numbers q low;
-        words = λ q k low. subst (λ (w : ℕ). (bit_of w k ≡ 1) ↔ (1 ≤ length (ofTask k (onCore q l)))) (sym (like.words q low))
+        words = λ q k low. subst (λ (w : ℕ). (bit_of w k ≡ 1) ↔ (1 ≤ length (of_task k (on_core q l)))) (sym (like.words q low))
             ((words-show m c n ts good t l walks q low).set k);
       }
 

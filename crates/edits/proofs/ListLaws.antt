@@ -22,26 +22,26 @@ use Rattle.task.specs.declared.Name.{Name}
 use Rattle.task.specs.declared.Task.{Task}
 use Rattle.task.specs.declared.Tasks.{Tasks}
 use Rattle.task.specs.Names.{same_name}
-use Rattle.task.specs.Tasks.{tasksMost, place_of, list_of}
+use Rattle.task.specs.Tasks.{tasks_most, place_of, list_of}
 use Rattle.walks.specs.Edits.{without, replaced}
-use Rattle.edits.specs.Edits.{byName}
-use Rattle.edits.specs.ways.ListInArray.{Lists, removed}
+use Rattle.edits.specs.Edits.{by_name}
+use Rattle.edits.specs.Ways.ListInArray.{Lists, removed}
 
 -- ---- room, by the count of an array that is full at 64
 
-module _ (q : Tasks) (long : length q.list ≡ tasksMost) where
-  pub room-none : tasksMost ≤ q.count → ltb (length (list_of q)) tasksMost ≡ false
-  room-none full = le-ltb (length (list_of q)) tasksMost (omega (arith, length-take q.count q.list))
+module _ (q : Tasks) (long : length q.list ≡ tasks_most) where
+  pub room-none : tasks_most ≤ q.count → ltb (length (list_of q)) tasks_most ≡ false
+  room-none full = le-ltb (length (list_of q)) tasks_most (omega (arith, length-take q.count q.list))
 
-  pub room-some : q.count < tasksMost → ltb (length (list_of q)) tasksMost ≡ true
-  room-some less = lt-ltb (length (list_of q)) tasksMost (omega (arith, length-take q.count q.list))
+  pub room-some : q.count < tasks_most → ltb (length (list_of q)) tasks_most ≡ true
+  room-some less = lt-ltb (length (list_of q)) tasks_most (omega (arith, length-take q.count q.list))
 
 -- ---- the place of a name, from 0, in a list that has it
 
 record Found (n : Name) (ts : List Task) (i : ℕ) : Type 0 where
   inside : i < length ts
-  less : without byName n ts ≡ removed i ts
-  put : (a : Task) → a.name ≡ n → replaced byName a ts ≡ set ts i a
+  less : without by_name n ts ≡ removed i ts
+  put : (a : Task) → a.name ≡ n → replaced by_name a ts ≡ set ts i a
 
 -- counted from k
 record From (k : ℕ) (n : Name) (ts : List Task) (p : ℕ) : Type 0 where
@@ -74,11 +74,11 @@ place-from k n (t ∷ ts) pos some = by-test (same_name n t.name) refl (λ h. pl
 
 -- ---- one more, and one in the place of another
 
-module _ (q : Tasks) (long : length q.list ≡ tasksMost) (few : q.count ≤ tasksMost) where
+module _ (q : Tasks) (long : length q.list ≡ tasks_most) (few : q.count ≤ tasks_most) where
   whole : length (list_of q) ≡ q.count
   whole = length-take-le q.count q.list (omega arith)
 
-  pub lists-more : (t : Task) → q.count < tasksMost → Lists (record { count = q.count + 1; list = set q.list q.count t }) (list_of q ++ (t ∷ []))
+  pub lists-more : (t : Task) → q.count < tasks_most → Lists (record { count = q.count + 1; list = set q.list q.count t }) (list_of q ++ (t ∷ []))
   lists-more t less = record {
     count = omega (arith, whole, length-append (list_of q) (t ∷ []));
     items = rw (add-one, take-suc-set q.list q.count t (omega arith));
@@ -97,13 +97,13 @@ module _ (q : Tasks) (long : length q.list ≡ tasksMost) (few : q.count ≤ tas
     pub place-low : k - 1 < q.count
     place-low = omega (arith, found.inside, whole)
 
-    pub lists-put : (t : Task) → t.name ≡ n → Lists (record { count = q.count; list = set q.list (k - 1) t }) (replaced byName t (list_of q))
+    pub lists-put : (t : Task) → t.name ≡ n → Lists (record { count = q.count; list = set q.list (k - 1) t }) (replaced by_name t (list_of q))
     lists-put t name = record {
       count = sym (ap length (found.put t name) ∙ length-set (list_of q) (k - 1) t ∙ whole);
       items = take-set-lt q.count q.list (k - 1) t place-low ∙ sym (found.put t name);
     }
 
-    pub lists-less : (r : Tasks) → Lists r (removed (k - 1) (list_of q)) → Lists r (without byName n (list_of q))
+    pub lists-less : (r : Tasks) → Lists r (removed (k - 1) (list_of q)) → Lists r (without by_name n (list_of q))
     lists-less r ok = rw found.less ok
 
 -- ---- one less: what stands behind place i moves up, j of them so far
@@ -130,7 +130,7 @@ module _ (l : List Task) (i : ℕ) where
       ap (λ (m : ℕ). take m (set next j a)) (add-one j) ∙ take-suc-set next j a space ∙ ap (λ (x : List Task). x ++ (a ∷ [])) so
       ∙ sym (removed-snoc i front a (omega arith)) ∙ ap (removed i) (sym one)
 
-pub lists-removed : (q : Tasks) (i j last : ℕ) (next : List Task) → length q.list ≡ tasksMost → q.count ≤ tasksMost → i < q.count
+pub lists-removed : (q : Tasks) (i j last : ℕ) (next : List Task) → length q.list ≡ tasks_most → q.count ≤ tasks_most → i < q.count
     → j ≡ last → last + 1 ≡ q.count
     → take j next ≡ removed i (take (j + 1) q.list) → Lists (record { count = last; list = next }) (removed i (list_of q))
 lists-removed q i j last next long few low there end so =

@@ -19,19 +19,19 @@ use Rattle.demand.proofs.Sums.{each-imp, each_snoc, each-front, each_last}
 use Rattle.task.specs.declared.Name.{Name}
 use Rattle.task.specs.declared.Task.{Task}
 use Rattle.task.specs.Names.{formed, same_name}
-use Rattle.task.specs.Tasks.{wholePiece, place_of, rule, faultOf, firstFault}
+use Rattle.task.specs.Tasks.{whole_piece, place_of, rule, fault_of, first_fault}
 use Rattle.task.proofs.NameLaws.{same-name-exact}
 use Rattle.task.proofs.TaskLaws.{fault-free, rule-fine, or-else-fine}
 use Rattle.walks.specs.Lists.{Lacks, Apart}
 use Rattle.walks.proofs.KeyLaws.{Exact, same-other}
-use Rattle.edits.specs.Edits.{byName}
+use Rattle.edits.specs.Edits.{by_name}
 
 abbrev pub Unnamed : Name → List Task → Type 0
 Unnamed n ts = Lacks (λ t. t.name) n ts
 
 -- ---- two names
 
-pub name-exact : Exact byName
+pub name-exact : Exact by_name
 name-exact = record { told = λ a b. (same-name-exact a b).0; untold = differ }
   where
     differ : (a b : Name) → same_name a b ≡ false → a ≡ b → ⊥
@@ -41,7 +41,7 @@ name-exact = record { told = λ a b. (same-name-exact a b).0; untold = differ }
         omega arith
 
 differ-name : (a b : Name) → (a ≡ b → ⊥) → same_name a b ≡ false
-differ-name = same-other byName name-exact
+differ-name = same-other by_name name-exact
 
 -- ---- no fault down a list
 
@@ -55,7 +55,7 @@ across-none (t ∷ items) = (tt, across-none items)
 
 pub record Clean (t : Task) : Type 0 where
   pub named : formed t.name ≡ true
-  pub timed : sized (wholePiece t.times) ≡ true
+  pub timed : sized (whole_piece t.times) ≡ true
 
 -- the place of a name that no task has, and of one that a task has
 pub place_none : (k : ℕ) (n : Name) (ts : List Task) → 1 ≤ k → place_of k n ts ≡ 0 → Unnamed n ts
@@ -70,19 +70,19 @@ pub place-unnamed : (k : ℕ) (n : Name) (ts : List Task) → Unnamed n ts → p
 place-unnamed k n [] never = refl
 place-unnamed k n (t ∷ ts) never = rw (differ-name n t.name (λ same. never.0 (sym same))) (place-unnamed (k + 1) n ts never.1)
 
-fault-clean : (above : List Task) (t : Task) → faultOf above t ≡ 0 → Clean t × Unnamed t.name above
-unfolding faultOf
+fault-clean : (above : List Task) (t : Task) → fault_of above t ≡ 0 → Clean t × Unnamed t.name above
+unfolding fault_of
 fault-clean above t e =
     let alone : Bool = eqb (place_of 1 t.name above) 0 in
-    let a = rule-fine (formed t.name) 7 (rule (sized (wholePiece t.times)) 3 (rule alone 4 0)) e in
-    let b = rule-fine (sized (wholePiece t.times)) 2 (rule alone 4 0) a.1 in
+    let a = rule-fine (formed t.name) 7 (rule (sized (whole_piece t.times)) 3 (rule alone 4 0)) e in
+    let b = rule-fine (sized (whole_piece t.times)) 2 (rule alone 4 0) a.1 in
     let d = rule-fine alone 3 0 b.1 in
     (record { named = a.0; timed = b.0 }, place_none 1 t.name above (omega arith) (eqb-true (place_of 1 t.name above) 0 d.0))
 
-pub faults-known : (above ts : List Task) → firstFault above ts ≡ 0 → Each Clean ts × Across above ts × Apart (λ t. t.name) ts
+pub faults-known : (above ts : List Task) → first_fault above ts ≡ 0 → Each Clean ts × Across above ts × Apart (λ t. t.name) ts
 faults-known above [] e = (tt, tt, tt)
 faults-known above (t ∷ ts) e =
-    let both = or-else-fine (faultOf above t) (firstFault (above ++ (t ∷ [])) ts) e in
+    let both = or-else-fine (fault_of above t) (first_fault (above ++ (t ∷ [])) ts) e in
     let one = fault-clean above t both.0 in
     let rest = faults-known (above ++ (t ∷ [])) ts both.1 in (
       (one.0, rest.0),
@@ -98,7 +98,7 @@ faults-known above (t ∷ ts) e =
       ),
     )
 
-pub faults-none : (above ts : List Task) → Each Clean ts → Across above ts → Apart (λ t. t.name) ts → firstFault above ts ≡ 0
+pub faults-none : (above ts : List Task) → Each Clean ts → Across above ts → Apart (λ t. t.name) ts → first_fault above ts ≡ 0
 faults-none above [] clean across apart = refl
 faults-none above (t ∷ ts) clean across apart =
     rw (fault-free above t clean.0.named clean.0.timed (place-unnamed 1 t.name above across.0))

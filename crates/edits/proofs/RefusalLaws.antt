@@ -20,17 +20,17 @@ use Rattle.demand.proofs.TableLaws.{Breaks, breaks-negated, breaks-twice, breaks
 use Rattle.task.specs.declared.Name.{Name}
 use Rattle.task.specs.declared.Task.{Task}
 use Rattle.task.specs.Names.{formed}
-use Rattle.task.specs.Tasks.{tasksMost, wholePiece, place_of, stateFault}
+use Rattle.task.specs.Tasks.{tasks_most, whole_piece, place_of, state_fault}
 use Rattle.task.specs.Refusals.{TaskNamed}
 use Rattle.task.proofs.RefusalLaws.{comes-rule, form-breaks, place-breaks, state-comes}
 use Rattle.walks.specs.Edits.{add, withdraw, retime, edited}
 use Rattle.plan.specs.declared.Plan.{Plan}
 use Rattle.plan.specs.declared.Reply.{Reply}
 use Rattle.plan.specs.Plan.{plan_of}
-use Rattle.plan.specs.Refusals.{walkTable}
+use Rattle.plan.specs.Refusals.{walk_table}
 use Rattle.plan.proofs.RefusalLaws.{walk-comes}
-use Rattle.edits.specs.Edits.{byName, TaskEdit, tasksHeld, named, editFault, givenBack, backAt, settled, replanned, editOf}
-use Rattle.edits.specs.Refusals.{ownTable, editTable}
+use Rattle.edits.specs.Edits.{by_name, TaskEdit, tasks_held, named, edit_fault, given_back, back_at, settled, replanned, edit_of}
+use Rattle.edits.specs.Refusals.{own_table, edit_table}
 use Rattle.edits.proofs.Theorems.{edit-faultless}
 
 -- ---- the edit's own rules
@@ -41,13 +41,13 @@ free-breaks n ts = breaks-twice (eqb (place_of 1 n ts) 0) (place-breaks (λ (t :
 known-breaks : (n : Name) (ts : List Task) → Breaks (Not (TaskNamed n ts)) (named n ts)
 known-breaks n ts = breaks-negated (eqb (place_of 1 n ts) 0) (place-breaks (λ (t : Task). t.name) n ts)
 
-pub own-comes : (e : TaskEdit) (ts : List Task) → Comes (ownTable e ts) (editFault e ts) 0
-unfolding ownTable editFault
+pub own-comes : (e : TaskEdit) (ts : List Task) → Comes (own_table e ts) (edit_fault e ts) 0
+unfolding own_table edit_fault
 own-comes (add t) ts =
     comes-rule (formed t.name) (form-breaks t.name) 7
-    (comes-rule (sized (wholePiece t.times)) (sized-breaks (wholePiece t.times)) 2
+    (comes-rule (sized (whole_piece t.times)) (sized-breaks (whole_piece t.times)) 2
     (comes-rule (not (named t.name ts)) (free-breaks t.name ts) 3
-    (comes-rule (ltb (length ts) tasksMost) (breaks-ltb (length ts) tasksMost) 5
+    (comes-rule (ltb (length ts) tasks_most) (breaks-ltb (length ts) tasks_most) 5
     none)))
 own-comes (withdraw n) ts =
     comes-rule (formed n) (form-breaks n) 7
@@ -55,7 +55,7 @@ own-comes (withdraw n) ts =
     none)
 own-comes (retime t) ts =
     comes-rule (formed t.name) (form-breaks t.name) 7
-    (comes-rule (sized (wholePiece t.times)) (sized-breaks (wholePiece t.times)) 2
+    (comes-rule (sized (whole_piece t.times)) (sized-breaks (whole_piece t.times)) 2
     (comes-rule (named t.name ts) (known-breaks t.name ts) 4
     none))
 
@@ -63,37 +63,37 @@ own-comes (retime t) ts =
 
 -- a fault gives the state back; else the rest is looked at
 back-comes : {rules more : List Rule} (s : Plan) (r : Reply) (n : ℕ) → Comes rules n 0 → (n ≡ 0 → Comes more r.number r.carries)
-    → Comes (rules ++ more) (backAt n s r).number (backAt n s r).carries
+    → Comes (rules ++ more) (back_at n s r).number (back_at n s r).carries
 back-comes {rules} {more} s r zero comes rest = comes-behind rules ((comes-kept comes).0 refl) (rest refl)
 back-comes {rules} {more} s r (suc n) comes rest = comes-front comes more
 
 settled-comes : (rules : List Rule) (s : Plan) (r : Reply) → Comes rules r.number r.carries → Comes rules (settled s r).number (settled s r).carries
 settled-comes rules s r comes = by (eqb r.number 0)
   where
-    by : (b : Bool) → Comes rules (cond b r (givenBack s r.number r.carries)).number (cond b r (givenBack s r.number r.carries)).carries
+    by : (b : Bool) → Comes rules (cond b r (given_back s r.number r.carries)).number (cond b r (given_back s r.number r.carries)).carries
     by true = comes
     by false = comes
 
-replanned-comes : (s : Plan) (ts : List Task) → stateFault s.machine s.costs (length ts) ts ≡ 0
-    → Comes (walkTable s.machine s.costs ts) (replanned s ts).number (replanned s ts).carries
+replanned-comes : (s : Plan) (ts : List Task) → state_fault s.machine s.costs (length ts) ts ≡ 0
+    → Comes (walk_table s.machine s.costs ts) (replanned s ts).number (replanned s ts).carries
 replanned-comes s ts faultless =
     let r = plan_of s.machine s.costs (length ts) ts in
-    settled-comes (walkTable s.machine s.costs ts) s r
-    (subst (λ (z : List Task). Comes (walkTable s.machine s.costs z) r.number r.carries) (take-length ts)
+    settled-comes (walk_table s.machine s.costs ts) s r
+    (subst (λ (z : List Task). Comes (walk_table s.machine s.costs z) r.number r.carries) (take-length ts)
     (walk-comes s.machine s.costs (length ts) ts faultless))
 
 module _ (e : TaskEdit) (s : Plan) where
-  pub edit-comes : Comes (editTable e s) (editOf e s).number (editOf e s).carries
-  unfolding editTable editOf
+  pub edit-comes : Comes (edit_table e s) (edit_of e s).number (edit_of e s).carries
+  unfolding edit_table edit_of
   edit-comes =
-      let held = tasksHeld s in
-      let after = edited byName e held in
-      let state = stateFault s.machine s.costs s.tasks.count s.tasks.list in
-      back-comes s (backAt (editFault e held) s (replanned s after)) state (state-comes s.machine s.costs s.tasks.count s.tasks.list)
-      (λ sound. back-comes s (replanned s after) (editFault e held) (own-comes e held) (λ right. replanned-comes s after (edit-faultless e s sound right)))
+      let held = tasks_held s in
+      let after = edited by_name e held in
+      let state = state_fault s.machine s.costs s.tasks.count s.tasks.list in
+      back-comes s (back_at (edit_fault e held) s (replanned s after)) state (state-comes s.machine s.costs s.tasks.count s.tasks.list)
+      (λ sound. back-comes s (replanned s after) (edit_fault e held) (own-comes e held) (λ right. replanned-comes s after (edit-faultless e s sound right)))
 
-  pub edit-refused-exactly : (n k : ℕ) → (((editOf e s).number ≡ suc n) × ((editOf e s).carries ≡ k)) ↔ Gives (editTable e s) (suc n) k
+  pub edit-refused-exactly : (n k : ℕ) → (((edit_of e s).number ≡ suc n) × ((edit_of e s).carries ≡ k)) ↔ Gives (edit_table e s) (suc n) k
   edit-refused-exactly = comes-refused edit-comes
 
-  pub edit-accepted : ((editOf e s).number ≡ 0) ↔ Kept (editTable e s)
+  pub edit-accepted : ((edit_of e s).number ≡ 0) ↔ Kept (edit_table e s)
   edit-accepted = comes-kept edit-comes

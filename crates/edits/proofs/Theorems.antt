@@ -23,9 +23,9 @@ use Rattle.demand.specs.declared.Costs.{Costs}
 use Rattle.task.specs.declared.Name.{Name}
 use Rattle.task.specs.declared.Task.{Task}
 use Rattle.task.specs.declared.Machine.{Machine}
-use Rattle.task.specs.Tasks.{stateFault}
+use Rattle.task.specs.Tasks.{state_fault}
 use Rattle.plan.specs.declared.Plan.{Plan}
-use Rattle.walks.specs.Way.{Placed, fine, stuck, walkOver, walk_of}
+use Rattle.walks.specs.Way.{Placed, fine, stuck, walk_over, walk_of}
 use Rattle.walks.specs.Edits.{edited}
 use Rattle.walks.specs.Kept.{Among, Before, Behind, Meet}
 use Rattle.walks.specs.Halves.{Stand}
@@ -33,12 +33,12 @@ use Rattle.walks.proofs.DenserLaws.{denser-lawful}
 use Rattle.walks.proofs.KeptLaws.{Around, kept-before, kept-after}
 use Rattle.walks.proofs.EditLaws.{edit-around}
 use Rattle.walks.proofs.HalvesLaws.{stands-meet}
-use Rattle.plan.specs.Walk.{whole_of, taskWay, walked}
+use Rattle.plan.specs.Walk.{whole_of, task_way, walked}
 use Rattle.plan.specs.Plan.{plan_of}
-use Rattle.edits.specs.Edits.{byName, TaskEdit, tasksHeld, editFault, givenBack, editOf, accepted, Afresh, played}
-use Rattle.edits.specs.Kept.{inOrder, Keeps, editedName, Ahead}
+use Rattle.edits.specs.Edits.{by_name, TaskEdit, tasks_held, edit_fault, given_back, edit_of, accepted, Afresh, played}
+use Rattle.edits.specs.Kept.{in_order, Keeps, edited_name, Ahead}
 use Rattle.edits.proofs.NameSets.{name-exact}
-use Rattle.edits.proofs.HeldLaws.{in_order, Timed, Told, held-told}
+use Rattle.edits.proofs.HeldLaws.{in-order, Timed, Told, held-told}
 use Rattle.edits.proofs.AnswerLaws.{plan-holds, edit-made, edit-back, edit-keeps, Ends, replanned-ends, edit-goes}
 use Rattle.edits.proofs.FaultLaws.{rightful-known, rightful-faultless, edited-rightful}
 
@@ -47,40 +47,40 @@ plan-afresh m c n ts made = plan-holds m c n ts made
 
 -- ---- one edit
 
-pub edit-refused : (e : TaskEdit) (s : Plan) → ((editOf e s).number ≡ 0 → ⊥) → (editOf e s).plan ≡ s
+pub edit-refused : (e : TaskEdit) (s : Plan) → ((edit_of e s).number ≡ 0 → ⊥) → (edit_of e s).plan ≡ s
 edit-refused e s refusal = edit-back e s refusal
 
-pub edit-does : (e : TaskEdit) (s : Plan) → (editOf e s).number ≡ 0 → tasksHeld (editOf e s).plan ≡ edited byName e (tasksHeld s)
+pub edit-does : (e : TaskEdit) (s : Plan) → (edit_of e s).number ≡ 0 → tasks_held (edit_of e s).plan ≡ edited by_name e (tasks_held s)
 edit-does e s taken = (edit-made e s taken).tasks-are
 
-pub edit-same : (e : TaskEdit) (s : Plan) → ((editOf e s).plan.machine ≡ s.machine) × ((editOf e s).plan.costs ≡ s.costs)
+pub edit-same : (e : TaskEdit) (s : Plan) → ((edit_of e s).plan.machine ≡ s.machine) × ((edit_of e s).plan.costs ≡ s.costs)
 edit-same e s = ((edit-keeps e s).0, (edit-keeps e s).1)
 
-pub edit-afresh : (e : TaskEdit) (s : Plan) → (editOf e s).number ≡ 0 → Afresh (editOf e s).plan
+pub edit-afresh : (e : TaskEdit) (s : Plan) → (edit_of e s).number ≡ 0 → Afresh (edit_of e s).plan
 edit-afresh e s taken = (edit-made e s taken).held
 
 -- ---- where no rule is broken
 
-pub edit-faultless : (e : TaskEdit) (s : Plan) → stateFault s.machine s.costs s.tasks.count s.tasks.list ≡ 0
-    → editFault e (tasksHeld s) ≡ 0
-    → stateFault s.machine s.costs (length (edited byName e (tasksHeld s))) (edited byName e (tasksHeld s)) ≡ 0
+pub edit-faultless : (e : TaskEdit) (s : Plan) → state_fault s.machine s.costs s.tasks.count s.tasks.list ≡ 0
+    → edit_fault e (tasks_held s) ≡ 0
+    → state_fault s.machine s.costs (length (edited by_name e (tasks_held s))) (edited by_name e (tasks_held s)) ≡ 0
 edit-faultless e s faultless right =
-    rightful-faultless s.machine s.costs (edited byName e (tasksHeld s)) (edited-rightful s.machine s.costs e (tasksHeld s)
+    rightful-faultless s.machine s.costs (edited by_name e (tasks_held s)) (edited-rightful s.machine s.costs e (tasks_held s)
     (rightful-known s.machine s.costs s.tasks.count s.tasks.list faultless) right)
 
-pub edit-or-stuck : (e : TaskEdit) (s : Plan) → stateFault s.machine s.costs s.tasks.count s.tasks.list ≡ 0
-    → editFault e (tasksHeld s) ≡ 0 → ((editOf e s).number ≡ 0)
-    ⊎ ((k : ℕ) × (walked s.machine s.costs (edited byName e (tasksHeld s)) ≡ stuck k 7) × (editOf e s ≡ givenBack s 7 (suc k)))
+pub edit-or-stuck : (e : TaskEdit) (s : Plan) → state_fault s.machine s.costs s.tasks.count s.tasks.list ≡ 0
+    → edit_fault e (tasks_held s) ≡ 0 → ((edit_of e s).number ≡ 0)
+    ⊎ ((k : ℕ) × (walked s.machine s.costs (edited by_name e (tasks_held s)) ≡ stuck k 7) × (edit_of e s ≡ given_back s 7 (suc k)))
 edit-or-stuck e s faultless right =
-    subst (Ends s (edited byName e (tasksHeld s))) (sym (edit-goes e s faultless right))
-    (replanned-ends s (edited byName e (tasksHeld s)) (edit-faultless e s faultless right))
+    subst (Ends s (edited by_name e (tasks_held s))) (sym (edit-goes e s faultless right))
+    (replanned-ends s (edited by_name e (tasks_held s)) (edit-faultless e s faultless right))
 
 -- ---- any sequence of edits
 
 pub after-edits : (es : List TaskEdit) (s : Plan) → Afresh s → Afresh (played es s) × ((played es s).machine ≡ s.machine) × ((played es s).costs ≡ s.costs)
 after-edits [] s held = (held, refl, refl)
 after-edits (e ∷ es) s held =
-    let next = after-edits es (editOf e s).plan ((edit-keeps e s).2 held) in
+    let next = after-edits es (edit_of e s).plan ((edit-keeps e s).2 held) in
     (next.0, next.1 ∙ (edit-same e s).0, next.2 ∙ (edit-same e s).1)
 
 pub after-edits-afresh : (es : List TaskEdit) (s : Plan) → Afresh s
@@ -94,45 +94,45 @@ after-edits-afresh es s held =
 
 -- ---- what an accepted edit keeps
 
-pub same-stand : (m : Machine) (c : Costs) (p p' : List Task) (s s' : Stand) (l l' : List (Placed Task)) → walkOver (taskWay m c) p
-    ≡ fine s l → walkOver (taskWay m c) p' ≡ fine s' l' → s.core ≡ s'.core → s.row ≡ s'.row → Meet (taskWay m c) p p'
+pub same-stand : (m : Machine) (c : Costs) (p p' : List Task) (s s' : Stand) (l l' : List (Placed Task)) → walk_over (task_way m c) p
+    ≡ fine s l → walk_over (task_way m c) p' ≡ fine s' l' → s.core ≡ s'.core → s.row ≡ s'.row → Meet (task_way m c) p p'
 same-stand m c = stands-meet c m.grain m.cores whole_of
 
-module _ (e : TaskEdit) (s : Plan) (held : Afresh s) (taken : (editOf e s).number ≡ 0) where
+module _ (e : TaskEdit) (s : Plan) (held : Afresh s) (taken : (edit_of e s).number ≡ 0) where
   was : Told s
   was = held-told s held
 
-  is : Told (editOf e s).plan
-  is = held-told (editOf e s).plan (edit-afresh e s taken)
+  is : Told (edit_of e s).plan
+  is = held-told (edit_of e s).plan (edit-afresh e s taken)
 
-  around : Around byName (editedName e) (tasksHeld s) (tasksHeld (editOf e s).plan)
-  around = subst (Around byName (editedName e) (tasksHeld s)) (sym (edit-does e s taken)) (edit-around byName name-exact e (tasksHeld s))
+  around : Around by_name (edited_name e) (tasks_held s) (tasks_held (edit_of e s).plan)
+  around = subst (Around by_name (edited_name e) (tasks_held s)) (sym (edit-does e s taken)) (edit-around by_name name-exact e (tasks_held s))
 
   -- the walk after the edit, on the machine and at the costs of before
-  walks : walk_of (taskWay s.machine s.costs) (tasksHeld (editOf e s).plan) ≡ fine is.stand is.log
+  walks : walk_of (task_way s.machine s.costs) (tasks_held (edit_of e s).plan) ≡ fine is.stand is.log
   walks =
-      let tasks = tasksHeld (editOf e s).plan in
-      ap (λ (m : Machine). walk_of (taskWay m s.costs) tasks) (sym (edit-same e s).0)
-      ∙ (ap (λ (c : Costs). walk_of (taskWay (editOf e s).plan.machine c) tasks) (sym (edit-same e s).1) ∙ is.walks)
+      let tasks = tasks_held (edit_of e s).plan in
+      ap (λ (m : Machine). walk_of (task_way m s.costs) tasks) (sym (edit-same e s).0)
+      ∙ (ap (λ (c : Costs). walk_of (task_way (edit_of e s).plan.machine c) tasks) (sym (edit-same e s).1) ∙ is.walks)
 
-  pub edit-before : (b : Name) → Ahead (editedName e) b (tasksHeld s) → Ahead (editedName e) b (tasksHeld (editOf e s).plan) → Keeps s (editOf e s).plan b
+  pub edit-before : (b : Name) → Ahead (edited_name e) b (tasks_held s) → Ahead (edited_name e) b (tasks_held (edit_of e s).plan) → Keeps s (edit_of e s).plan b
   unfolding Keeps
   edit-before b old new q low =
       was.shows b q low
-      ∙ (kept-before (taskWay s.machine s.costs) Timed (denser-lawful whole_of) byName name-exact around was.sorts is.sorts
-      was.walks walks b (subst (Before byName (editedName e) b) (in_order (tasksHeld s)) old.ahead)
-      (subst (Before byName (editedName e) b) (in_order (tasksHeld (editOf e s).plan)) new.ahead) q
+      ∙ (kept-before (task_way s.machine s.costs) Timed (denser-lawful whole_of) by_name name-exact around was.sorts is.sorts
+      was.walks walks b (subst (Before by_name (edited_name e) b) (in-order (tasks_held s)) old.ahead)
+      (subst (Before by_name (edited_name e) b) (in-order (tasks_held (edit_of e s).plan)) new.ahead) q
       ∙ sym (is.shows b q low))
 
-  pub edit-after : {p r p' r' : List Task} {b b' : Task} → Behind byName (editedName e) (inOrder (tasksHeld s)) p b r
-      → Behind byName (editedName e) (inOrder (tasksHeld (editOf e s).plan)) p' b' r' → b.name ≡ b'.name
-      → Meet (taskWay s.machine s.costs) p p' →
-      (d : Name) → Among byName d (b ∷ r) → Keeps s (editOf e s).plan d
+  pub edit-after : {p r p' r' : List Task} {b b' : Task} → Behind by_name (edited_name e) (in_order (tasks_held s)) p b r
+      → Behind by_name (edited_name e) (in_order (tasks_held (edit_of e s).plan)) p' b' r' → b.name ≡ b'.name
+      → Meet (task_way s.machine s.costs) p p' →
+      (d : Name) → Among by_name d (b ∷ r) → Keeps s (edit_of e s).plan d
   unfolding Keeps
   edit-after {p} {r} {p'} {r'} {b} {b'} old new same meet d among q low =
-      let before = subst (λ (l : List Task). Behind byName (editedName e) l p b r) (in_order (tasksHeld s)) old in
-      let after = subst (λ (l : List Task). Behind byName (editedName e) l p' b' r') (in_order (tasksHeld (editOf e s).plan)) new in
+      let before = subst (λ (l : List Task). Behind by_name (edited_name e) l p b r) (in-order (tasks_held s)) old in
+      let after = subst (λ (l : List Task). Behind by_name (edited_name e) l p' b' r') (in-order (tasks_held (edit_of e s).plan)) new in
       was.shows d q low
-      ∙ (kept-after (taskWay s.machine s.costs) Timed (denser-lawful whole_of) byName name-exact around was.sorts is.sorts
+      ∙ (kept-after (task_way s.machine s.costs) Timed (denser-lawful whole_of) by_name name-exact around was.sorts is.sorts
       was.walks walks before after same meet d among q
       ∙ sym (is.shows d q low))

@@ -3,4 +3,4 @@ pub mod Edits
 pub mod Refusals
 pub mod Kept
 pub mod Worked
-pub mod ways
+pub mod Ways

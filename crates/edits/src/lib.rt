@@ -4,7 +4,7 @@ mod lists;
 ghost use Rattle.std.specs.Prelude.{◌≡◌};
 ghost use Rattle.plan.specs.Plan.{plan_of};
 ghost use Rattle.walks.specs.Edits.{Edit};
-ghost use Rattle.edits.specs.Edits.{givenBack, settled, editOf};
+ghost use Rattle.edits.specs.Edits.{given_back, settled, edit_of};
 
 use lists::{add_fault, append, remove, replace, retime_fault, withdraw_fault};
 use plan::{Plan, Reply, plan_tasks};
@@ -12,7 +12,7 @@ use task::{Name, Task, Tasks, Times, state_fault};
 
 // A refusal gives the state back.
 fn give_back(state: Plan, number: u64, carries: usize) -> Reply
-    ensures { result ≡ givenBack state number carries }
+    ensures { result ≡ given_back state number carries }
 {
     Reply {
         number: number,
@@ -39,7 +39,7 @@ fn replan(state: Plan, tasks: Tasks) -> Reply
 /// The plan with one task more, behind the others: the state's own fault, then 8, 3, 4 or 6, all carrying 0, then 7 with the place, from 1, of the
 /// task that the walk over the new list sticks at. A refusal gives the state back.
 pub fn add(state: Plan, name: Name, times: Times) -> Reply
-    ensures exact { result ≡ editOf (Edit.add (record { name = name; times = times })) state }
+    ensures exact { result ≡ edit_of (Edit.add (record { name = name; times = times })) state }
 {
     let machine = state.machine;
     let costs = state.costs;
@@ -59,7 +59,7 @@ pub fn add(state: Plan, name: Name, times: Times) -> Reply
 
 /// The plan without the task of that name, those behind it one place up: the state's own fault, then 8 or 5, then 7, as in `add`.
 pub fn withdraw(state: Plan, name: Name) -> Reply
-    ensures exact { result ≡ editOf (Edit.withdraw name) state }
+    ensures exact { result ≡ edit_of (Edit.withdraw name) state }
 {
     let machine = state.machine;
     let costs = state.costs;
@@ -78,7 +78,7 @@ pub fn withdraw(state: Plan, name: Name) -> Reply
 
 /// The plan with other times for the task of that name, in its place: the state's own fault, then 8, 3 or 5, then 7, as in `add`.
 pub fn retime(state: Plan, name: Name, times: Times) -> Reply
-    ensures exact { result ≡ editOf (Edit.retime (record { name = name; times = times })) state }
+    ensures exact { result ≡ edit_of (Edit.retime (record { name = name; times = times })) state }
 {
     let machine = state.machine;
     let costs = state.costs;

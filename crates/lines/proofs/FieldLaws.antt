@@ -19,10 +19,10 @@ use lib.Dec.{leb, eqb, lit<}
 use lib.ListN.{length, take, drop, get_or, set, drop_of_length-le}
 use lib.Seq.{drop-cons, take-suc, take_all, length-take-le}
 use Rattle.lines.specs.declared.Number.{Number}
-use Rattle.lines.specs.Lines.{isDigit, every, unled, is_number, valueFrom, value_of, name_of}
+use Rattle.lines.specs.Lines.{is_digit, every, unled, is_number, value_from, value_of, name_of}
 use Rattle.demand.specs.Lists.{padded}
-use Rattle.task.specs.Names.{nameMost}
-use Rattle.lines.specs.ways.NumbersRead.{noNumber, number_of}
+use Rattle.task.specs.Names.{name_most}
+use Rattle.lines.specs.Ways.NumbersRead.{no_number, number_of}
 use Rattle.demand.proofs.Tests.{both_left, both_right}
 use Rattle.demand.proofs.PaddedLaws.{padded-put, padded-cut}
 
@@ -34,16 +34,16 @@ every-at ok f i low = rw (add-one, drop-cons f i 0)
 pub every-end : (ok : ℕ → Bool) (f : List ℕ) (i : ℕ) → length f ≤ i → every ok (drop i f) ≡ true
 every-end ok f i short = rw (drop_of_length-le f {i = i} short)
 
-pub value-at : (v : ℕ) (f : List ℕ) (i : ℕ) → i < length f → valueFrom v (drop i f) ≡ valueFrom (v * 10 + (get_or f i 0 - 48)) (drop (i + 1) f)
+pub value-at : (v : ℕ) (f : List ℕ) (i : ℕ) → i < length f → value_from v (drop i f) ≡ value_from (v * 10 + (get_or f i 0 - 48)) (drop (i + 1) f)
 value-at v f i low = rw (add-one, drop-cons f i 0)
 
-pub value-end : (v : ℕ) (f : List ℕ) (i : ℕ) → length f ≤ i → valueFrom v (drop i f) ≡ v
+pub value-end : (v : ℕ) (f : List ℕ) (i : ℕ) → length f ≤ i → value_from v (drop i f) ≡ v
 value-end v f i short = rw (drop_of_length-le f {i = i} short)
 
-pub digit_low : (b : ℕ) → isDigit b ≡ true → 48 ≤ b
+pub digit_low : (b : ℕ) → is_digit b ≡ true → 48 ≤ b
 digit_low b h = leb-true 48 b (both_left (leb 48 b) (leb b 57) h)
 
-pub digit-high : (b : ℕ) → isDigit b ≡ true → b ≤ 57
+pub digit-high : (b : ℕ) → is_digit b ≡ true → b ≤ 57
 digit-high b h = leb-true b 57 (both_right (leb 48 b) (leb b 57) h)
 
 pub digits-small : (v i : ℕ) → v < 10 ^ i → i < 7 → v < 1000000
@@ -65,23 +65,23 @@ unled-long (d ∷ e ∷ f) long = refl
 -- ---- the answer on a number
 
 module _ (f : List ℕ) where
-  pub number_short : length f < 1 → noNumber ≡ number_of f
+  pub number_short : length f < 1 → no_number ≡ number_of f
   unfolding number_of is_number
   number_short short = simp (lt-leb 1 (length f) short)
 
-  pub number-long : 7 < length f → noNumber ≡ number_of f
+  pub number-long : 7 < length f → no_number ≡ number_of f
   unfolding number_of is_number
   number-long long = simp (lt-leb (length f) 7 long, and-false)
 
-  pub number-led : unled f ≡ false → noNumber ≡ number_of f
+  pub number-led : unled f ≡ false → no_number ≡ number_of f
   unfolding number_of is_number
   number-led led = simp (led, and-false)
 
-  pub number-other : every isDigit f ≡ false → noNumber ≡ number_of f
+  pub number-other : every is_digit f ≡ false → no_number ≡ number_of f
   unfolding number_of is_number
   number-other other = simp (other, and-false)
 
-  pub number-yes : (v : ℕ) → 1 ≤ length f → length f ≤ 7 → unled f ≡ true → every isDigit f ≡ true → v ≡ value_of f
+  pub number-yes : (v : ℕ) → 1 ≤ length f → length f ≤ 7 → unled f ≡ true → every is_digit f ≡ true → v ≡ value_of f
       → record { ok = true; value = v } ≡ number_of f
   unfolding number_of is_number
   number-yes v some few plain digits value = simp (le-leb 1 (length f) some, le-leb (length f) 7 few, plain, digits, value)
@@ -90,7 +90,7 @@ module _ (f : List ℕ) where
   unfolding number_of
   number_ok x e = rw e (by_form (is_number f))
     where
-      by_form : (b : Bool) → b ≡ (cond {A = Number} b (record { ok = true; value = value_of f }) noNumber).ok
+      by_form : (b : Bool) → b ≡ (cond {A = Number} b (record { ok = true; value = value_of f }) no_number).ok
       by_form true = refl
       by_form false = refl
 
@@ -100,11 +100,11 @@ module _ (f : List ℕ) where
 
 -- ---- a name's bytes, one on
 
-module _ (f bytes : List ℕ) (i : ℕ) (so_far : bytes ≡ padded nameMost 0 (take i f)) where
-  pub name-more : i < length f → i < nameMost → set bytes i (get_or f i 0) ≡ padded nameMost 0 (take (i + 1) f)
+module _ (f bytes : List ℕ) (i : ℕ) (so_far : bytes ≡ padded name_most 0 (take i f)) where
+  pub name-more : i < length f → i < name_most → set bytes i (get_or f i 0) ≡ padded name_most 0 (take (i + 1) f)
   name-more low room =
       let long : length (take i f) ≡ i = length-take-le i f (le_of_lt low) in
-      let put = padded-put 0 nameMost (take i f) (get_or f i 0) (omega arith) in
+      let put = padded-put 0 name_most (take i f) (get_or f i 0) (omega arith) in
       rw (so_far, add-one i, take-suc f i 0 low) (rw long at put)
 
   pub name-all : length f ≤ i → record { len = length f; bytes = bytes } ≡ name_of f
@@ -112,6 +112,6 @@ module _ (f bytes : List ℕ) (i : ℕ) (so_far : bytes ≡ padded nameMost 0 (t
   name-all short = rw (so_far, take_all i f short)
 
   -- what stands past the 24th byte is left out
-  pub name-cut : i ≡ nameMost → record { len = length f; bytes = bytes } ≡ name_of f
+  pub name-cut : i ≡ name_most → record { len = length f; bytes = bytes } ≡ name_of f
   unfolding name_of
   name-cut full = rw (so_far, full, padded-cut)

@@ -14,7 +14,7 @@ use borrow.Author.Tests.{eq-eqb, ne_eqb}
 use lib.Dec.{eqb}
 use lib.ListN.{length, take, drop, get_or, set, replicate, length-drop, drop_of_length-le}
 use lib.Seq.{drop-cons, drop-drop, take_all}
-use Rattle.task.specs.Names.{sameBytes}
+use Rattle.task.specs.Names.{same_bytes}
 use Rattle.lines.specs.Lines.{up_to, beyond}
 
 -- ---- runs
@@ -119,7 +119,7 @@ module _ (b : ℕ) (s : List ℕ) (e : ℕ) (run : e ≡ length (up_to b s)) whe
 
 -- ---- equal bytes
 
-pub same-lengths : (as' bs : List ℕ) → (length as' ≡ length bs → ⊥) → sameBytes as' bs ≡ false
+pub same-lengths : (as' bs : List ℕ) → (length as' ≡ length bs → ⊥) → same_bytes as' bs ≡ false
 same-lengths [] [] h = absurd (h refl)
 same-lengths [] (b ∷ bs) h = refl
 same-lengths (a ∷ as') [] h = refl

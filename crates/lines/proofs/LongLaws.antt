@@ -1,7 +1,7 @@
 -- A line of a script that is longer than any form says nothing, whatever stands in it.
 -- Assumes nothing.
 --
---   orderMost       the bytes of the longest line that says something: `retime`, a name of 24 bytes and six numbers of 7 digits
+--   order_most       the bytes of the longest line that says something: `retime`, a name of 24 bytes and six numbers of 7 digits
 --   order-long      a longer line is of no form
 use mathlib.Core.Path.{◌≡◌, refl, ap}
 use mathlib.Core.Bool.{Bool, true, false, cond, ◌&&◌}
@@ -11,20 +11,20 @@ use native.Mathlib.Omega.{arith}
 use borrow.Author.Tests.{eqb-true, leb-true}
 use lib.Dec.{leb, eqb}
 use lib.ListN.{length}
-use Rattle.task.specs.Names.{between, sameBytes}
+use Rattle.task.specs.Names.{between, same_bytes}
 use Rattle.task.proofs.NameLaws.{same-bytes-exact}
 use Rattle.lines.specs.declared.Line.{Line}
 use Rattle.lines.specs.declared.Deed.{Deed}
-use Rattle.lines.specs.Lines.{bytes_of, tab, up_to, beyond, isDigit, every, unled, is_number, digitsMost, name_of, isName}
+use Rattle.lines.specs.Lines.{bytes_of, tab, up_to, beyond, is_digit, every, unled, is_number, digits_most, name_of, is_name}
 use Rattle.task.specs.Tasks.{task_of}
-use Rattle.lines.specs.Forms.{untimed, noLine, partLine, timesOf, numbered, values, part_form}
+use Rattle.lines.specs.Forms.{untimed, no_line, part_line, times_of, numbered, values, part_form}
 use Rattle.lines.specs.declared.Order.{Order}
-use Rattle.lines.specs.Orders.{no_order, forPart, timedForm, withdrawForm, bareForm, deed_of, orderForm, order_of}
+use Rattle.lines.specs.Orders.{no_order, for_part, timed_form, withdraw_form, bare_form, deed_of, order_form, order_of}
 use Rattle.demand.proofs.Tests.{both_left, both_right}
 use Rattle.lines.proofs.SaysLaws.{name-short}
 
-abbrev pub orderMost : ℕ
-orderMost = 79
+abbrev pub order_most : ℕ
+order_most = 79
 
 -- ---- how long fields are
 
@@ -43,11 +43,11 @@ line-span (x ∷ l) = by-test (eqb x tab) (line-span l)
     by-test true e = omega arith
     by-test false e = omega arith
 
-number-few : (f : List ℕ) → is_number f ≡ true → length f ≤ digitsMost
+number-few : (f : List ℕ) → is_number f ≡ true → length f ≤ digits_most
 unfolding is_number
 number-few f good =
-    let sized = both_left (between 1 digitsMost (length f)) (unled f) (both_left (between 1 digitsMost (length f) && unled f) (every isDigit f) good) in
-    leb-true (length f) digitsMost (both_right (leb 1 (length f)) (leb (length f) digitsMost) sized)
+    let sized = both_left (between 1 digits_most (length f)) (unled f) (both_left (between 1 digits_most (length f) && unled f) (every is_digit f) good) in
+    leb-true (length f) digits_most (both_right (leb 1 (length f)) (leb (length f) digits_most) sized)
 
 numbers-span : (fs : List (List ℕ)) → every is_number fs ≡ true → span fs ≤ 8 * length fs
 numbers-span [] good = omega arith
@@ -60,56 +60,56 @@ numbers-span (f ∷ fs) good =
 
 -- ---- the forms
 
-timed-long : (d : Deed) (fs : List (List ℕ)) → 73 < span fs → timedForm d fs ≡ no_order
-unfolding timedForm part_form
+timed-long : (d : Deed) (fs : List (List ℕ)) → 73 < span fs → timed_form d fs ≡ no_order
+unfolding timed_form part_form
 timed-long d [] long = refl
-timed-long d (f ∷ fs) long = by-test (isName f && numbered 6 fs) refl
+timed-long d (f ∷ fs) long = by-test (is_name f && numbered 6 fs) refl
   where
     line : Bool → Line
-    line t = cond t (partLine (record { name = name_of f; times = timesOf (values fs) })) noLine
+    line t = cond t (part_line (record { name = name_of f; times = times_of (values fs) })) no_line
 
-    by-test : (t : Bool) → (isName f && numbered 6 fs) ≡ t → forPart d (line t).word (line t).part ≡ no_order
+    by-test : (t : Bool) → (is_name f && numbered 6 fs) ≡ t → for_part d (line t).word (line t).part ≡ no_order
     by-test true e =
-        let six = both_right (isName f) (numbered 6 fs) e in
+        let six = both_right (is_name f) (numbered 6 fs) e in
         let many : length fs ≡ 6 = eqb-true (length fs) 6 (both_left (eqb (length fs) 6) (every is_number fs) six) in
         absurd (omega (
           arith,
-          name-short f (both_left (isName f) (numbered 6 fs) e),
+          name-short f (both_left (is_name f) (numbered 6 fs) e),
           numbers-span fs (both_right (eqb (length fs) 6) (every is_number fs) six),
           many,
         ))
     by-test false e = refl
 
-withdraw-long : (fs : List (List ℕ)) → 25 < span fs → withdrawForm fs ≡ no_order
-unfolding withdrawForm
+withdraw-long : (fs : List (List ℕ)) → 25 < span fs → withdraw_form fs ≡ no_order
+unfolding withdraw_form
 withdraw-long [] long = refl
-withdraw-long (f ∷ []) long = by-test (isName f) refl
+withdraw-long (f ∷ []) long = by-test (is_name f) refl
   where
-    by-test : (t : Bool) → isName f ≡ t → cond {A = Order} t (record { deed = Deed.Withdraw; task = task_of (name_of f) (untimed (name_of f)) }) no_order ≡ no_order
+    by-test : (t : Bool) → is_name f ≡ t → cond {A = Order} t (record { deed = Deed.Withdraw; task = task_of (name_of f) (untimed (name_of f)) }) no_order ≡ no_order
     by-test true e = absurd (omega (arith, name-short f e))
     by-test false e = refl
 withdraw-long (f ∷ g ∷ fs) long = refl
 
-bare-long : (d : Deed) (fs : List (List ℕ)) → 0 < span fs → bareForm d fs ≡ no_order
-unfolding bareForm
+bare-long : (d : Deed) (fs : List (List ℕ)) → 0 < span fs → bare_form d fs ≡ no_order
+unfolding bare_form
 bare-long d [] long = absurd (omega arith)
 bare-long d (f ∷ fs) long = refl
 
 -- ---- a line
 
-pub order-long : (l : List ℕ) → orderMost < length l → order_of l ≡ no_order
+pub order-long : (l : List ℕ) → order_most < length l → order_of l ≡ no_order
 unfolding order_of deed_of
 order-long l long =
-    by_word (sameBytes (up_to tab l) (bytes_of "add")) (sameBytes (up_to tab l) (bytes_of "withdraw"))
-    (sameBytes (up_to tab l) (bytes_of "retime")) (sameBytes (up_to tab l) (bytes_of "list")) (sameBytes (up_to tab l) (bytes_of "diff")) refl refl refl refl refl
+    by_word (same_bytes (up_to tab l) (bytes_of "add")) (same_bytes (up_to tab l) (bytes_of "withdraw"))
+    (same_bytes (up_to tab l) (bytes_of "retime")) (same_bytes (up_to tab l) (bytes_of "list")) (same_bytes (up_to tab l) (bytes_of "diff")) refl refl refl refl refl
   where
     by_word : (a w r s d : Bool)
-        → sameBytes (up_to tab l) (bytes_of "add") ≡ a
-        → sameBytes (up_to tab l) (bytes_of "withdraw") ≡ w
-        → sameBytes (up_to tab l) (bytes_of "retime") ≡ r
-        → sameBytes (up_to tab l) (bytes_of "list") ≡ s
-        → sameBytes (up_to tab l) (bytes_of "diff") ≡ d
-        → orderForm (cond a Deed.Add (cond w Deed.Withdraw (cond r Deed.Retime (cond s Deed.List (cond d Deed.Diff Deed.Other))))) (beyond tab l) ≡ no_order
+        → same_bytes (up_to tab l) (bytes_of "add") ≡ a
+        → same_bytes (up_to tab l) (bytes_of "withdraw") ≡ w
+        → same_bytes (up_to tab l) (bytes_of "retime") ≡ r
+        → same_bytes (up_to tab l) (bytes_of "list") ≡ s
+        → same_bytes (up_to tab l) (bytes_of "diff") ≡ d
+        → order_form (cond a Deed.Add (cond w Deed.Withdraw (cond r Deed.Retime (cond s Deed.List (cond d Deed.Diff Deed.Other))))) (beyond tab l) ≡ no_order
     by_word true w r s d e ew er es ed =
         let word : length (up_to tab l) ≡ 3 = ap length ((same-bytes-exact (up_to tab l) (bytes_of "add")).0 e) in
         timed-long Deed.Add (beyond tab l) (omega (arith, line-span l, word))

@@ -11,33 +11,33 @@ use native.Mathlib.Omega.{arith}
 use borrow.Author.Tests.{ne_eqb}
 use lib.Dec.{eqb, eqb-suc-suc}
 use lib.ListN.{length}
-use Rattle.task.specs.Names.{sameBytes}
+use Rattle.task.specs.Names.{same_bytes}
 use Rattle.task.proofs.NameLaws.{same-bytes-exact}
 use Rattle.lines.specs.declared.Word.{Word}
 use Rattle.lines.specs.declared.Line.{Line}
-use Rattle.lines.specs.Lines.{bytes_of, tab, up_to, beyond, every, is_number, isName}
-use Rattle.lines.specs.Forms.{noLine, machineLine, costLine, machine_of, costsOf, numbered, values}
-use Rattle.lines.specs.Forms.{machineForm, costForm, part_form, fitForm, word_of, form_of, line_of}
-use Rattle.lines.specs.Says.{Saying, machine, cost, part, fit, nothing, has, saysIn, says_of}
+use Rattle.lines.specs.Lines.{bytes_of, tab, up_to, beyond, every, is_number, is_name}
+use Rattle.lines.specs.Forms.{no_line, machine_line, cost_line, machine_of, costs_of, numbered, values}
+use Rattle.lines.specs.Forms.{machine_form, cost_form, part_form, fit_form, word_of, form_of, line_of}
+use Rattle.lines.specs.Says.{Saying, machine, cost, part, fit, nothing, has, says_in, says_of}
 
-abbrev pub wordSaid : Word → Line → Saying
-wordSaid Word.Machine l = machine l.machine
-wordSaid Word.Cost l = cost l.costs
-wordSaid Word.Part l = part l.part
-wordSaid Word.Fit l = fit l.task l.part.name
-wordSaid Word.Other l = nothing
+abbrev pub word_said : Word → Line → Saying
+word_said Word.Machine l = machine l.machine
+word_said Word.Cost l = cost l.costs
+word_said Word.Part l = part l.part
+word_said Word.Fit l = fit l.task l.part.name
+word_said Word.Other l = nothing
 
 abbrev pub said : Line → Saying
-said l = wordSaid l.word l
+said l = word_said l.word l
 
 -- ---- forms that are kept, or not
 
-kept-or-none : (b : Bool) (l : Line) → said (cond b l noLine) ≡ cond b (said l) nothing
+kept-or-none : (b : Bool) (l : Line) → said (cond b l no_line) ≡ cond b (said l) nothing
 kept-or-none true l = refl
 kept-or-none false l = refl
 
-part-numbers : (f : List ℕ) (fs : List (List ℕ)) → has 1 6 (f ∷ fs) ≡ (isName f && numbered 6 fs)
-part-numbers f fs = rw (eqb-suc-suc (length fs) 6) (by (isName f))
+part-numbers : (f : List ℕ) (fs : List (List ℕ)) → has 1 6 (f ∷ fs) ≡ (is_name f && numbered 6 fs)
+part-numbers f fs = rw (eqb-suc-suc (length fs) 6) (by (is_name f))
   where
     by : (b : Bool) → (b && true && eqb (length fs) 6 && every is_number fs) ≡ (b && (eqb (length fs) 6 && every is_number fs))
     by true = refl
@@ -51,24 +51,24 @@ two-names false c = refl
 -- ---- each form by its word
 
 module _ (fs : List (List ℕ)) where
-  machine-said : saysIn (bytes_of "machine") fs ≡ said (machineForm fs)
-  unfolding saysIn machineForm
-  machine-said = sym (kept-or-none (numbered 2 fs) (machineLine (machine_of (values fs))))
+  machine-said : says_in (bytes_of "machine") fs ≡ said (machine_form fs)
+  unfolding says_in machine_form
+  machine-said = sym (kept-or-none (numbered 2 fs) (machine_line (machine_of (values fs))))
 
-  cost-said : saysIn (bytes_of "cost") fs ≡ said (costForm fs)
-  unfolding saysIn costForm
-  cost-said = sym (kept-or-none (numbered 9 fs) (costLine (costsOf (values fs))))
+  cost-said : says_in (bytes_of "cost") fs ≡ said (cost_form fs)
+  unfolding says_in cost_form
+  cost-said = sym (kept-or-none (numbered 9 fs) (cost_line (costs_of (values fs))))
 
-part-said : (fs : List (List ℕ)) → saysIn (bytes_of "part") fs ≡ said (part_form fs)
-unfolding saysIn part_form
+part-said : (fs : List (List ℕ)) → says_in (bytes_of "part") fs ≡ said (part_form fs)
+unfolding says_in part_form
 part-said [] = refl
-part-said (f ∷ fs) = rw (part-numbers f fs) (sym (kept-or-none (isName f && numbered 6 fs) _))
+part-said (f ∷ fs) = rw (part-numbers f fs) (sym (kept-or-none (is_name f && numbered 6 fs) _))
 
-fit-said : (fs : List (List ℕ)) → saysIn (bytes_of "fit") fs ≡ said (fitForm fs)
-unfolding saysIn fitForm
+fit-said : (fs : List (List ℕ)) → says_in (bytes_of "fit") fs ≡ said (fit_form fs)
+unfolding says_in fit_form
 fit-said [] = refl
 fit-said (f ∷ []) = rw (and-false)
-fit-said (f ∷ g ∷ []) = rw (two-names (isName f) (isName g)) (sym (kept-or-none (isName f && isName g) _))
+fit-said (f ∷ g ∷ []) = rw (two-names (is_name f) (is_name g)) (sym (kept-or-none (is_name f && is_name g) _))
 fit-said (f ∷ g ∷ h ∷ fs) =
     let many : eqb (length (f ∷ g ∷ h ∷ fs)) 2 ≡ false = ne_eqb (length (f ∷ g ∷ h ∷ fs)) 2 (λ e. omega arith) in
     rw (many, and-false)
@@ -76,18 +76,18 @@ fit-said (f ∷ g ∷ h ∷ fs) =
 -- ---- a line
 
 -- a word that has a form is that form's, byte for byte
-in-said : (w : List ℕ) (fs : List (List ℕ)) → saysIn w fs ≡ said (form_of (word_of w) fs)
-unfolding saysIn word_of
+in-said : (w : List ℕ) (fs : List (List ℕ)) → says_in w fs ≡ said (form_of (word_of w) fs)
+unfolding says_in word_of
 in-said w fs =
-    by (sameBytes w (bytes_of "machine")) refl (sameBytes w (bytes_of "cost")) refl
-    (sameBytes w (bytes_of "part")) refl (sameBytes w (bytes_of "fit")) refl
+    by (same_bytes w (bytes_of "machine")) refl (same_bytes w (bytes_of "cost")) refl
+    (same_bytes w (bytes_of "part")) refl (same_bytes w (bytes_of "fit")) refl
   where
-    at : (v : List ℕ) → sameBytes w v ≡ true → saysIn v fs ≡ said (form_of (word_of v) fs) → saysIn w fs ≡ said (form_of (word_of w) fs)
+    at : (v : List ℕ) → same_bytes w v ≡ true → says_in v fs ≡ said (form_of (word_of v) fs) → says_in w fs ≡ said (form_of (word_of w) fs)
     at v same so = rw ((same-bytes-exact w v).0 same) so
 
-    by : (a : Bool) → sameBytes w (bytes_of "machine") ≡ a → (b : Bool) → sameBytes w (bytes_of "cost") ≡ b
-        → (c : Bool) → sameBytes w (bytes_of "part") ≡ c → (d : Bool) → sameBytes w (bytes_of "fit") ≡ d
-        → saysIn w fs ≡ said (form_of (word_of w) fs)
+    by : (a : Bool) → same_bytes w (bytes_of "machine") ≡ a → (b : Bool) → same_bytes w (bytes_of "cost") ≡ b
+        → (c : Bool) → same_bytes w (bytes_of "part") ≡ c → (d : Bool) → same_bytes w (bytes_of "fit") ≡ d
+        → says_in w fs ≡ said (form_of (word_of w) fs)
     by true m b c p q d r = at (bytes_of "machine") m (machine-said fs)
     by false m true c p q d r = at (bytes_of "cost") c (cost-said fs)
     by false m false c true p d q = at (bytes_of "part") p (part-said fs)

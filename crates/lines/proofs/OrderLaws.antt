@@ -16,47 +16,47 @@ use Rattle.task.specs.Names.{formed}
 use Rattle.lines.specs.declared.Word.{Word}
 use Rattle.lines.specs.declared.Line.{Line}
 use Rattle.lines.specs.declared.Deed.{Deed}
-use Rattle.lines.specs.Lines.{tab, up_to, fields, name_of, isName}
+use Rattle.lines.specs.Lines.{tab, up_to, fields, name_of, is_name}
 use Rattle.task.specs.Tasks.{task_of}
 use Rattle.lines.specs.Forms.{untimed, part_form}
-use Rattle.lines.specs.Orders.{no_order, forPart, timedForm, withdrawForm, bareForm, deed_of, orderForm, order_of}
+use Rattle.lines.specs.Orders.{no_order, for_part, timed_form, withdraw_form, bare_form, deed_of, order_form, order_of}
 use Rattle.lines.proofs.LineLaws.{rest, run_take, run-whole, run-last, run_more}
 
 -- ---- the forms
 
-pub timed-by-word : (d : Deed) (fs : List (List ℕ)) (l : Line) → l ≡ part_form fs → (w : Word) → l.word ≡ w → forPart d w l.part ≡ timedForm d fs
-unfolding timedForm
+pub timed-by-word : (d : Deed) (fs : List (List ℕ)) (l : Line) → l ≡ part_form fs → (w : Word) → l.word ≡ w → for_part d w l.part ≡ timed_form d fs
+unfolding timed_form
 timed-by-word d fs l answer w word = rw (← answer, word)
 
-pub bare-more : (d : Deed) (f : List ℕ) (fs : List (List ℕ)) → no_order ≡ bareForm d (f ∷ fs)
-unfolding bareForm
+pub bare-more : (d : Deed) (f : List ℕ) (fs : List (List ℕ)) → no_order ≡ bare_form d (f ∷ fs)
+unfolding bare_form
 bare-more d f fs = refl
 
 module _ (s : List ℕ) (e : ℕ) (run : e ≡ length (up_to tab s)) where
-  pub withdraw-many : e < length s → no_order ≡ withdrawForm (fields s)
-  unfolding withdrawForm
+  pub withdraw-many : e < length s → no_order ≡ withdraw_form (fields s)
+  unfolding withdraw_form
   withdraw-many many = rw (run_more tab s e run many)
 
   module _ (whole : length s ≤ e) (n : Name) (named : n ≡ name_of s) where
-    is_name : (t : Bool) → formed n ≡ t → isName s ≡ t
-    unfolding isName
-    is_name t form = rw (← named) form
+    is-name : (t : Bool) → formed n ≡ t → is_name s ≡ t
+    unfolding is_name
+    is-name t form = rw (← named) form
 
-    pub withdraw-unnamed : formed n ≡ false → no_order ≡ withdrawForm (fields s)
-    unfolding withdrawForm
-    withdraw-unnamed bad = rw (run-last tab s e run whole, run-whole tab s e run whole, is_name false bad)
+    pub withdraw-unnamed : formed n ≡ false → no_order ≡ withdraw_form (fields s)
+    unfolding withdraw_form
+    withdraw-unnamed bad = rw (run-last tab s e run whole, run-whole tab s e run whole, is-name false bad)
 
-    pub withdraw-some : formed n ≡ true → record { deed = Deed.Withdraw; task = task_of n (untimed n) } ≡ withdrawForm (fields s)
-    unfolding withdrawForm
-    withdraw-some good = rw (run-last tab s e run whole, run-whole tab s e run whole, is_name true good, named)
+    pub withdraw-some : formed n ≡ true → record { deed = Deed.Withdraw; task = task_of n (untimed n) } ≡ withdraw_form (fields s)
+    unfolding withdraw_form
+    withdraw-some good = rw (run-last tab s e run whole, run-whole tab s e run whole, is-name true good, named)
 
 -- ---- a line
 
 module _ (l : List ℕ) (e : ℕ) (run : e ≡ length (up_to tab l)) (d : Deed) (deed : d ≡ deed_of (take e l)) where
-  pub order-bare : e ≡ length l → orderForm d [] ≡ order_of l
+  pub order-bare : e ≡ length l → order_form d [] ≡ order_of l
   unfolding order_of
   order-bare bare = rw (run-last tab l e run (omega arith), ← run_take tab l e run, ← deed)
 
-  pub order-some : e < length l → orderForm d (fields (rest l (e + 1))) ≡ order_of l
+  pub order-some : e < length l → order_form d (fields (rest l (e + 1))) ≡ order_of l
   unfolding order_of
   order-some more = rw (run_more tab l e run more, ← run_take tab l e run, ← deed)

@@ -14,13 +14,13 @@ use native.Mathlib.Omega.{arith}
 use lib.Dec.{leb}
 use lib.ListN.{length}
 use Rattle.task.specs.declared.Name.{Name}
-use Rattle.task.specs.Names.{sameBytes, spelt, formed, nameMost}
+use Rattle.task.specs.Names.{same_bytes, spelt, formed, name_most}
 use Rattle.task.proofs.NameLaws.{same-bytes-exact, spelt-long}
 use Rattle.lines.specs.declared.Word.{Word}
 use Rattle.lines.specs.declared.Line.{Line}
-use Rattle.lines.specs.Lines.{bytes_of, tab, up_to, beyond, fields, name_of, isName}
+use Rattle.lines.specs.Lines.{bytes_of, tab, up_to, beyond, fields, name_of, is_name}
 use Rattle.demand.specs.Lists.{padded}
-use Rattle.lines.specs.Forms.{noLine, machineLine, machine_of, costLine, costsOf, partLine, fitLine, timesOf, numbered, values, machineForm, costForm, part_form, fitForm, word_of, form_of, line_of}
+use Rattle.lines.specs.Forms.{no_line, machine_line, machine_of, cost_line, costs_of, part_line, fit_line, times_of, numbered, values, machine_form, cost_form, part_form, fit_form, word_of, form_of, line_of}
 use Rattle.demand.proofs.PaddedLaws.{padded-length, padded-take}
 use Rattle.demand.proofs.Tests.{both_left, both_right}
 
@@ -44,19 +44,19 @@ module _ (f : List ℕ) where
   part-word : word_of f ≡ Word.Part → f ≡ bytes_of "part"
   unfolding word_of
   part-word e =
-      (same-bytes-exact f (bytes_of "part")).0 (third-word (sameBytes f (bytes_of "machine")) (sameBytes f (bytes_of "cost"))
-      (sameBytes f (bytes_of "part")) (sameBytes f (bytes_of "fit")) e)
+      (same-bytes-exact f (bytes_of "part")).0 (third-word (same_bytes f (bytes_of "machine")) (same_bytes f (bytes_of "cost"))
+      (same_bytes f (bytes_of "part")) (same_bytes f (bytes_of "fit")) e)
 
   fit_word : word_of f ≡ Word.Fit → f ≡ bytes_of "fit"
   unfolding word_of
   fit_word e =
-      (same-bytes-exact f (bytes_of "fit")).0 (fourth-word (sameBytes f (bytes_of "machine")) (sameBytes f (bytes_of "cost"))
-      (sameBytes f (bytes_of "part")) (sameBytes f (bytes_of "fit")) e)
+      (same-bytes-exact f (bytes_of "fit")).0 (fourth-word (same_bytes f (bytes_of "machine")) (same_bytes f (bytes_of "cost"))
+      (same_bytes f (bytes_of "part")) (same_bytes f (bytes_of "fit")) e)
 
 -- ---- lines
 
 -- a line has its word where its form is kept, and else none
-form-word : (b : Bool) (l : Line) (w : Word) → (w ≡ Word.Other → ⊥) → (cond b l noLine).word ≡ w → (b ≡ true) × (l.word ≡ w)
+form-word : (b : Bool) (l : Line) (w : Word) → (w ≡ Word.Other → ⊥) → (cond b l no_line).word ≡ w → (b ≡ true) × (l.word ≡ w)
 form-word true l w some e = (refl, e)
 form-word false l w some e = absurd (some (sym e))
 
@@ -64,35 +64,35 @@ pub record SaysPart (l : List ℕ) : Type 0 where
   pub name : List ℕ
   pub numbers : List (List ℕ)
   pub reads : fields l ≡ bytes_of "part" ∷ name ∷ numbers
-  pub named : isName name ≡ true
-  pub line : line_of l ≡ partLine (record { name = name_of name; times = timesOf (values numbers) })
+  pub named : is_name name ≡ true
+  pub line : line_of l ≡ part_line (record { name = name_of name; times = times_of (values numbers) })
 
 pub says-part : (l : List ℕ) → (line_of l).word ≡ Word.Part → SaysPart l
-unfolding line_of machineForm costForm part_form fitForm
+unfolding line_of machine_form cost_form part_form fit_form
 says-part l word = by_word (word_of (up_to tab l)) refl (beyond tab l) refl word
   where
     some : Word.Part ≡ Word.Other → ⊥
     some e = let z : ◌≡◌ {A = ℕ} 0 1 = cc in omega arith
 
-    other : (b : Bool) (m : Line) → (cond b m noLine).word ≡ Word.Part → (m.word ≡ Word.Part → ⊥) → SaysPart l
+    other : (b : Bool) (m : Line) → (cond b m no_line).word ≡ Word.Part → (m.word ≡ Word.Part → ⊥) → SaysPart l
     other b m e unlike = absurd (unlike (form-word b m Word.Part some e).1)
 
     by_word : (w : Word) → word_of (up_to tab l) ≡ w → (fs : List (List ℕ)) → beyond tab l ≡ fs → (form_of w fs).word ≡ Word.Part → SaysPart l
-    by_word Word.Machine w fs more e = other (numbered 2 fs) (machineLine (machine_of (values fs))) e (λ f. let z : ◌≡◌ {A = ℕ} 0 1 = cc in omega arith)
-    by_word Word.Cost w fs more e = other (numbered 9 fs) (costLine (costsOf (values fs))) e (λ f. let z : ◌≡◌ {A = ℕ} 0 1 = cc in omega arith)
+    by_word Word.Machine w fs more e = other (numbered 2 fs) (machine_line (machine_of (values fs))) e (λ f. let z : ◌≡◌ {A = ℕ} 0 1 = cc in omega arith)
+    by_word Word.Cost w fs more e = other (numbered 9 fs) (cost_line (costs_of (values fs))) e (λ f. let z : ◌≡◌ {A = ℕ} 0 1 = cc in omega arith)
     by_word Word.Part w [] more e = absurd (some (sym e))
     by_word Word.Part w (f ∷ fs) more e =
-        let good = (form-word (isName f && numbered 6 fs) (partLine (record { name = name_of f; times = timesOf (values fs) })) Word.Part some e).0 in
+        let good = (form-word (is_name f && numbered 6 fs) (part_line (record { name = name_of f; times = times_of (values fs) })) Word.Part some e).0 in
         record {
           name = f;
           numbers = fs;
           reads = cc (part-word (up_to tab l) w, more);
-          named = both_left (isName f) (numbered 6 fs) good;
+          named = both_left (is_name f) (numbered 6 fs) good;
           line = rw (w, more, good);
         }
     by_word Word.Fit w [] more e = absurd (some (sym e))
     by_word Word.Fit w (f ∷ []) more e = absurd (some (sym e))
-    by_word Word.Fit w (f ∷ g ∷ []) more e = other (isName f && isName g) (fitLine (name_of f) (name_of g)) e (λ h. let z : ◌≡◌ {A = ℕ} 0 1 = cc in omega arith)
+    by_word Word.Fit w (f ∷ g ∷ []) more e = other (is_name f && is_name g) (fit_line (name_of f) (name_of g)) e (λ h. let z : ◌≡◌ {A = ℕ} 0 1 = cc in omega arith)
     by_word Word.Fit w (f ∷ g ∷ h ∷ fs) more e = absurd (some (sym e))
     by_word Word.Other w fs more e = absurd (some (sym e))
 
@@ -100,37 +100,37 @@ pub record SaysFit (l : List ℕ) : Type 0 where
   pub task : List ℕ
   pub name : List ℕ
   pub reads : fields l ≡ bytes_of "fit" ∷ task ∷ name ∷ []
-  pub called : isName task ≡ true
-  pub named : isName name ≡ true
-  pub line : line_of l ≡ fitLine (name_of task) (name_of name)
+  pub called : is_name task ≡ true
+  pub named : is_name name ≡ true
+  pub line : line_of l ≡ fit_line (name_of task) (name_of name)
 
 pub says-fit : (l : List ℕ) → (line_of l).word ≡ Word.Fit → SaysFit l
-unfolding line_of machineForm costForm part_form fitForm
+unfolding line_of machine_form cost_form part_form fit_form
 says-fit l word = by_word (word_of (up_to tab l)) refl (beyond tab l) refl word
   where
     some : Word.Fit ≡ Word.Other → ⊥
     some e = let z : ◌≡◌ {A = ℕ} 0 1 = cc in omega arith
 
-    other : (b : Bool) (m : Line) → (cond b m noLine).word ≡ Word.Fit → (m.word ≡ Word.Fit → ⊥) → SaysFit l
+    other : (b : Bool) (m : Line) → (cond b m no_line).word ≡ Word.Fit → (m.word ≡ Word.Fit → ⊥) → SaysFit l
     other b m e unlike = absurd (unlike (form-word b m Word.Fit some e).1)
 
     by_word : (w : Word) → word_of (up_to tab l) ≡ w → (fs : List (List ℕ)) → beyond tab l ≡ fs → (form_of w fs).word ≡ Word.Fit → SaysFit l
-    by_word Word.Machine w fs more e = other (numbered 2 fs) (machineLine (machine_of (values fs))) e (λ f. let z : ◌≡◌ {A = ℕ} 0 1 = cc in omega arith)
-    by_word Word.Cost w fs more e = other (numbered 9 fs) (costLine (costsOf (values fs))) e (λ f. let z : ◌≡◌ {A = ℕ} 0 1 = cc in omega arith)
+    by_word Word.Machine w fs more e = other (numbered 2 fs) (machine_line (machine_of (values fs))) e (λ f. let z : ◌≡◌ {A = ℕ} 0 1 = cc in omega arith)
+    by_word Word.Cost w fs more e = other (numbered 9 fs) (cost_line (costs_of (values fs))) e (λ f. let z : ◌≡◌ {A = ℕ} 0 1 = cc in omega arith)
     by_word Word.Part w [] more e = absurd (some (sym e))
     by_word Word.Part w (f ∷ fs) more e =
-        other (isName f && numbered 6 fs) (partLine (record { name = name_of f; times = timesOf (values fs) })) e
+        other (is_name f && numbered 6 fs) (part_line (record { name = name_of f; times = times_of (values fs) })) e
         (λ h. let z : ◌≡◌ {A = ℕ} 0 1 = cc in omega arith)
     by_word Word.Fit w [] more e = absurd (some (sym e))
     by_word Word.Fit w (f ∷ []) more e = absurd (some (sym e))
     by_word Word.Fit w (f ∷ g ∷ []) more e =
-        let good = (form-word (isName f && isName g) (fitLine (name_of f) (name_of g)) Word.Fit some e).0 in
+        let good = (form-word (is_name f && is_name g) (fit_line (name_of f) (name_of g)) Word.Fit some e).0 in
         record {
           task = f;
           name = g;
           reads = cc (fit_word (up_to tab l) w, more);
-          called = both_left (isName f) (isName g) good;
-          named = both_right (isName f) (isName g) good;
+          called = both_left (is_name f) (is_name g) good;
+          named = both_right (is_name f) (is_name g) good;
           line = rw (w, more, good);
         }
     by_word Word.Fit w (f ∷ g ∷ h ∷ fs) more e = absurd (some (sym e))
@@ -138,21 +138,21 @@ says-fit l word = by_word (word_of (up_to tab l)) refl (beyond tab l) refl word
 
 -- ---- names
 
-pub name-short : (f : List ℕ) → isName f ≡ true → length f ≤ nameMost
-unfolding isName formed name_of
+pub name-short : (f : List ℕ) → is_name f ≡ true → length f ≤ name_most
+unfolding is_name formed name_of
 name-short f good =
-    elim (dec_le (length f) nameMost) [
+    elim (dec_le (length f) name_most) [
       | yes short ↦ short
       | no long ↦
-          let bad = spelt-long (length f) (padded nameMost 0 f) (omega (arith, padded-length 0 nameMost f)) in
-          let some = both_right (leb 1 (length f)) (spelt (length f) (padded nameMost 0 f)) good in
+          let bad = spelt-long (length f) (padded name_most 0 f) (omega (arith, padded-length 0 name_most f)) in
+          let some = both_right (leb 1 (length f)) (spelt (length f) (padded name_most 0 f)) good in
           let z : ◌≡◌ {A = ℕ} 0 1 = cc (bad, some) in
           absurd (omega arith)
     ]
 
-pub name-exact : (f g : List ℕ) → isName f ≡ true → isName g ≡ true → name_of f ≡ name_of g → f ≡ g
+pub name-exact : (f g : List ℕ) → is_name f ≡ true → is_name g ≡ true → name_of f ≡ name_of g → f ≡ g
 unfolding name_of
 name-exact f g good fine same =
     let long : length f ≡ length g = ap (λ (n : Name). n.len) same in
-    let bytes : padded nameMost 0 f ≡ padded nameMost 0 g = ap (λ (n : Name). n.bytes) same in
-    sym (padded-take 0 nameMost f (name-short f good)) ∙ rw (long, bytes) (padded-take 0 nameMost g (name-short g fine))
+    let bytes : padded name_most 0 f ≡ padded name_most 0 g = ap (λ (n : Name). n.bytes) same in
+    sym (padded-take 0 name_most f (name-short f good)) ∙ rw (long, bytes) (padded-take 0 name_most g (name-short g fine))

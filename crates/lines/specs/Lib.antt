@@ -3,4 +3,4 @@ pub mod Lines
 pub mod Forms
 pub mod Says
 pub mod Orders
-pub mod ways
+pub mod Ways

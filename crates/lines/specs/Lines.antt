@@ -6,13 +6,13 @@
 --   is_number f              1 to 7 decimal digits, no leading zero but for 0 itself
 --   value_of f               the number that they stand for
 --   name_of f                the name with the bytes f: their number, the bytes, and zeros to 24
---   isName f                the rule of names, crate `task`'s `formed`, holds of it
+--   is_name f                the rule of names, crate `task`'s `formed`, holds of it
 use Rattle.std.specs.Prelude.{Bool, true, cond, not, ◌&&◌, List, [], ◌∷◌, ℕ, ◌+◌, ◌-◌, ◌*◌, eqb, length}
 use Prim.Native.Char.{code}
 use Prim.Native.String.{String, [] as done, ◌∷◌ as ◌then◌}
 use Rattle.task.specs.declared.Name.{Name}
 use Rattle.demand.specs.Lists.{padded}
-use Rattle.task.specs.Names.{nameMost, between, formed}
+use Rattle.task.specs.Names.{name_most, between, formed}
 
 -- ---- lines and fields
 
@@ -40,11 +40,11 @@ fields s = up_to tab s ∷ beyond tab s
 
 -- ---- numbers
 
-abbrev pub digitsMost : ℕ
-digitsMost = 7
+abbrev pub digits_most : ℕ
+digits_most = 7
 
-abbrev pub isDigit : ℕ → Bool
-isDigit b = between 48 57 b
+abbrev pub is_digit : ℕ → Bool
+is_digit b = between 48 57 b
 
 abbrev pub every : {A : Type 0} → (A → Bool) → List A → Bool
 every ok [] = true
@@ -57,21 +57,21 @@ unled (d ∷ []) = true
 unled (d ∷ e ∷ f) = not (eqb d 48)
 
 unfoldable pub is_number : List ℕ → Bool
-is_number f = between 1 digitsMost (length f) && unled f && every isDigit f
+is_number f = between 1 digits_most (length f) && unled f && every is_digit f
 
 -- the number v with the digits f behind it
-abbrev pub valueFrom : ℕ → List ℕ → ℕ
-valueFrom v [] = v
-valueFrom v (d ∷ f) = valueFrom (v * 10 + (d - 48)) f
+abbrev pub value_from : ℕ → List ℕ → ℕ
+value_from v [] = v
+value_from v (d ∷ f) = value_from (v * 10 + (d - 48)) f
 
 abbrev pub value_of : List ℕ → ℕ
-value_of f = valueFrom 0 f
+value_of f = value_from 0 f
 
 -- ---- names
 
 -- more than 24 bytes give a length that `formed` refuses
 unfoldable pub name_of : List ℕ → Name
-name_of f = record { len = length f; bytes = padded nameMost 0 f }
+name_of f = record { len = length f; bytes = padded name_most 0 f }
 
-unfoldable pub isName : List ℕ → Bool
-isName f = formed (name_of f)
+unfoldable pub is_name : List ℕ → Bool
+is_name f = formed (name_of f)

@@ -1,15 +1,15 @@
 // Runs, numbers and names in the bytes of a line.
 ghost use Rattle.std.specs.Prelude.{◌≡◌, ◌<◌};
-ghost use Rattle.task.specs.Names.{sameBytes};
-ghost use Rattle.lines.specs.Lines.{fields, isDigit, unled, name_of};
-ghost use Rattle.lines.specs.ways.NumbersRead.{noNumber, number_of, noNumbers, numbersIn};
+ghost use Rattle.task.specs.Names.{same_bytes};
+ghost use Rattle.lines.specs.Lines.{fields, is_digit, unled, name_of};
+ghost use Rattle.lines.specs.Ways.NumbersRead.{no_number, number_of, no_numbers, numbers_in};
 
 use crate::{NUMBERS_MOST, Number, Numbers, until};
 use task::{NAME_MOST, Name};
 
 // Whether two runs of bytes are equal: their lengths and all their bytes are.
 pub fn same_run<'a>(a: &'a [u8], b: &'a [u8]) -> bool
-    ensures { result ≡ sameBytes a.now b.now }
+    ensures { result ≡ same_bytes a.now b.now }
 {
     if a.len() != b.len() {
         return false;
@@ -50,7 +50,7 @@ pub fn wide(b: u8) -> u64
 
 // Whether a byte is a decimal digit.
 pub fn is_digit(b: u8) -> bool
-    ensures { result ≡ isDigit b }
+    ensures { result ≡ is_digit b }
 {
     if b < 48 {
         return false;
@@ -70,7 +70,7 @@ pub fn unled(f: &[u8]) -> bool
 
 // What a field is that is no number.
 pub fn no_number() -> Number
-    ensures { result ≡ noNumber }
+    ensures { result ≡ no_number }
 {
     Number {
         ok: false,
@@ -107,7 +107,7 @@ pub fn number_of(f: &[u8]) -> Number
 
 // What fields are that are not all numbers.
 pub fn no_numbers() -> Numbers
-    ensures { result ≡ noNumbers }
+    ensures { result ≡ no_numbers }
 {
     Numbers {
         count: 0,
@@ -117,7 +117,7 @@ pub fn no_numbers() -> Numbers
 
 // The numbers that the fields of s are.
 pub fn numbers_of(s: &[u8]) -> Numbers
-    ensures { result ≡ numbersIn (fields s.now) }
+    ensures { result ≡ numbers_in (fields s.now) }
 {
     let mut values = [0u64; NUMBERS_MOST];
     let mut at = 0;

@@ -1,7 +1,7 @@
 // What a line says by its form alone.
 ghost use Rattle.std.specs.Prelude.{◌≡◌};
 ghost use Rattle.lines.specs.Lines.{fields};
-ghost use Rattle.lines.specs.Forms.{untimed, machineLine, costLine, partLine, fitLine, machineForm, costForm, part_form, fitForm, word_of};
+ghost use Rattle.lines.specs.Forms.{untimed, machine_line, cost_line, part_line, fit_line, machine_form, cost_form, part_form, fit_form, word_of};
 
 use crate::fields::{name_of, numbers_of, same_run};
 use crate::{Line, Word, no_line, until};
@@ -18,7 +18,7 @@ pub fn untimed(name: Name) -> Part
 
 // A `machine` line that says this.
 pub fn machine_line(machine: Machine) -> Line
-    ensures { result ≡ machineLine machine }
+    ensures { result ≡ machine_line machine }
 {
     let costs = no_costs();
     let task = no_name();
@@ -34,7 +34,7 @@ pub fn machine_line(machine: Machine) -> Line
 
 // A `cost` line that says this.
 pub fn cost_line(costs: Costs) -> Line
-    ensures { result ≡ costLine costs }
+    ensures { result ≡ cost_line costs }
 {
     let machine = no_machine();
     let task = no_name();
@@ -50,7 +50,7 @@ pub fn cost_line(costs: Costs) -> Line
 
 // A `part` line that says this.
 pub fn part_line(part: Part) -> Line
-    ensures { result ≡ partLine part }
+    ensures { result ≡ part_line part }
 {
     let machine = no_machine();
     let costs = no_costs();
@@ -66,7 +66,7 @@ pub fn part_line(part: Part) -> Line
 
 // A `fit` line that says this.
 pub fn fit_line(task: Name, name: Name) -> Line
-    ensures { result ≡ fitLine task name }
+    ensures { result ≡ fit_line task name }
 {
     let machine = no_machine();
     let costs = no_costs();
@@ -82,7 +82,7 @@ pub fn fit_line(task: Name, name: Name) -> Line
 
 // The `machine` line whose fields stand in s.
 pub fn machine_form(s: &[u8]) -> Line
-    ensures { result ≡ machineForm (fields s.now) }
+    ensures { result ≡ machine_form (fields s.now) }
 {
     let g = numbers_of(s);
     if g.count != 2 {
@@ -97,7 +97,7 @@ pub fn machine_form(s: &[u8]) -> Line
 
 // The `cost` line whose fields stand in s.
 pub fn cost_form(s: &[u8]) -> Line
-    ensures { result ≡ costForm (fields s.now) }
+    ensures { result ≡ cost_form (fields s.now) }
 {
     let g = numbers_of(s);
     if g.count != 9 {
@@ -149,7 +149,7 @@ pub fn part_form(s: &[u8]) -> Line
 
 // The `fit` line whose fields stand in s.
 pub fn fit_form(s: &[u8]) -> Line
-    ensures { result ≡ fitForm (fields s.now) }
+    ensures { result ≡ fit_form (fields s.now) }
 {
     let e = until(s, 9);
     if e == s.len() {

@@ -5,7 +5,7 @@ mod orders;
 
 ghost use Rattle.std.specs.Prelude.{◌≡◌, length};
 ghost use Rattle.lines.specs.Lines.{up_to};
-ghost use Rattle.lines.specs.Forms.{noLine, line_of};
+ghost use Rattle.lines.specs.Forms.{no_line, line_of};
 ghost use Rattle.lines.specs.Orders.{no_order, order_of};
 
 use demand::{Costs, no_costs};
@@ -84,7 +84,7 @@ pub fn until(s: &[u8], b: u8) -> usize
 
 /// A line of no form.
 pub fn no_line() -> Line
-    ensures exact { result ≡ noLine }
+    ensures exact { result ≡ no_line }
 {
     let machine = no_machine();
     let costs = no_costs();

@@ -1,7 +1,7 @@
 // What a line of a script says by its form alone.
 ghost use Rattle.std.specs.Prelude.{◌≡◌, []};
 ghost use Rattle.lines.specs.Lines.{fields};
-ghost use Rattle.lines.specs.Orders.{bareForm, deed_of, timedForm, withdrawForm, orderForm};
+ghost use Rattle.lines.specs.Orders.{bare_form, deed_of, timed_form, withdraw_form, order_form};
 
 use crate::fields::{name_of, same_run};
 use crate::forms::{part_form, untimed};
@@ -10,7 +10,7 @@ use task::{no_task, task_of, well_formed};
 
 // A `list` or `diff` line, with nothing beyond its word.
 fn bare_order(deed: Deed) -> Order
-    ensures { result ≡ bareForm deed [] }
+    ensures { result ≡ bare_form deed [] }
 {
     let task = no_task();
     Order { deed, task }
@@ -40,7 +40,7 @@ pub fn deed_of(f: &[u8]) -> Deed
 
 // A line that has its first field only.
 pub fn only_word(deed: Deed) -> Order
-    ensures { result ≡ orderForm deed [] }
+    ensures { result ≡ order_form deed [] }
 {
     match deed {
         Deed::Add => no_order(),
@@ -54,7 +54,7 @@ pub fn only_word(deed: Deed) -> Order
 
 // The `add` or `retime` line whose fields stand in s: they have the form of a part's.
 pub fn timed_order(deed: Deed, s: &[u8]) -> Order
-    ensures { result ≡ timedForm deed (fields s.now) }
+    ensures { result ≡ timed_form deed (fields s.now) }
 {
     let line = part_form(s);
     let word = line.word;
@@ -73,7 +73,7 @@ pub fn timed_order(deed: Deed, s: &[u8]) -> Order
 
 // The `withdraw` line whose field stands in s.
 pub fn withdraw_order(s: &[u8]) -> Order
-    ensures { result ≡ withdrawForm (fields s.now) }
+    ensures { result ≡ withdraw_form (fields s.now) }
 {
     if until(s, 9) < s.len() {
         return no_order();

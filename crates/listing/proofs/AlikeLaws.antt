@@ -17,33 +17,33 @@ use borrow.Author.Tests.{eq-eqb, eqb-true}
 use lib.Dec.{eqb}
 use lib.ListN.{length}
 use Rattle.demand.specs.declared.Piece.{Piece}
-use Rattle.demand.specs.Kinds.{kindNumber}
+use Rattle.demand.specs.Kinds.{kind_number}
 use Rattle.demand.specs.Sizes.{Each, Some}
 use Rattle.demand.proofs.Tests.{both_left, both_right}
 use Rattle.demand.proofs.KindLaws.{kind-one}
-use Rattle.task.specs.Names.{sameBytes}
+use Rattle.task.specs.Names.{same_bytes}
 use Rattle.task.proofs.NameLaws.{same-bytes-exact}
 use Rattle.walks.specs.Lists.{keep, only}
 use Rattle.walks.specs.Way.{Placed}
 use Rattle.lines.specs.Lines.{every}
-use Rattle.listing.specs.Diff.{samePiece, samePlaced, often, ofItem, asOften, alike, Alike}
+use Rattle.listing.specs.Diff.{same_piece, same_placed, often, of_item, as_often, alike, Alike}
 use Rattle.listing.proofs.ByteOrderLaws.{never, only-each, only-has}
 
 -- ---- what is the same
 
 abbrev test : Piece → Piece → Bool
 test p q =
-    eqb (kindNumber p.kind) (kindNumber q.kind) && eqb p.budget q.budget && eqb p.window q.window && eqb p.period q.period
+    eqb (kind_number p.kind) (kind_number q.kind) && eqb p.budget q.budget && eqb p.window q.window && eqb p.period q.period
     && eqb p.jitter q.jitter && eqb p.preempt q.preempt && eqb p.migrate q.migrate
 
-pub same-piece-exact : (p q : Piece) → (samePiece p q ≡ true) ↔ (p ≡ q)
-unfolding samePiece
+pub same-piece-exact : (p q : Piece) → (same_piece p q ≡ true) ↔ (p ≡ q)
+unfolding same_piece
 same-piece-exact p q = (equal, λ e. subst (λ (r : Piece). test p r ≡ true) e own)
   where
     own : test p p ≡ true
     own =
         rw (
-          eq-eqb (kindNumber p.kind) (kindNumber p.kind) refl,
+          eq-eqb (kind_number p.kind) (kind_number p.kind) refl,
           eq-eqb p.budget p.budget refl,
           eq-eqb p.window p.window refl,
           eq-eqb p.period p.period refl,
@@ -54,7 +54,7 @@ same-piece-exact p q = (equal, λ e. subst (λ (r : Piece). test p r ≡ true) e
 
     equal : test p q ≡ true → p ≡ q
     equal e =
-        let k = eqb (kindNumber p.kind) (kindNumber q.kind) in
+        let k = eqb (kind_number p.kind) (kind_number q.kind) in
         let b = eqb p.budget q.budget in
         let w = eqb p.window q.window in
         let t = eqb p.period q.period in
@@ -77,7 +77,7 @@ same-piece-exact p q = (equal, λ e. subst (λ (r : Piece). test p r ≡ true) e
         })
         (record { kind = q.kind; budget = q.budget; window = q.window; period = q.period; jitter = q.jitter; preempt = q.preempt; migrate = q.migrate }) =
         cc (
-          kind-one p.kind q.kind (eqb-true (kindNumber p.kind) (kindNumber q.kind) (both_left k b e2)),
+          kind-one p.kind q.kind (eqb-true (kind_number p.kind) (kind_number q.kind) (both_left k b e2)),
           eqb-true p.budget q.budget (both_right k b e2),
           eqb-true p.window q.window (both_right (k && b) w e3),
           eqb-true p.period q.period (both_right (k && b && w) t e4),
@@ -132,17 +132,17 @@ every_map t f (a ∷ l) = ap (λ (b : Bool). t (f a) && b) (every_map t f l)
 -- ---- as often
 
 module _ {A : Type 0} (same : A → A → Bool) (exact : (a b : A) → (same a b ≡ true) ↔ (a ≡ b)) where
-  pub same-placed-exact : (e f : Placed A) → (samePlaced same e f ≡ true) ↔ (e ≡ f)
-  same-placed-exact e f = (equal, λ is. subst (λ (g : Placed A). samePlaced same e g ≡ true) is own)
+  pub same-placed-exact : (e f : Placed A) → (same_placed same e f ≡ true) ↔ (e ≡ f)
+  same-placed-exact e f = (equal, λ is. subst (λ (g : Placed A). same_placed same e g ≡ true) is own)
     where
-      own : samePlaced same e e ≡ true
+      own : same_placed same e e ≡ true
       own = rw ((exact e.item e.item).1 refl, eq-eqb e.on e.on refl) ((same-piece-exact e.piece e.piece).1 refl)
 
-      equal : samePlaced same e f ≡ true → e ≡ f
+      equal : same_placed same e f ≡ true → e ≡ f
       equal h =
           let a = same e.item f.item in
           let b = eqb e.on f.on in
-          let c = samePiece e.piece f.piece in
+          let c = same_piece e.piece f.piece in
           let two = both_left (a && b) c h in
           let all : ◌≡◌ {A = Placed A} (record { on = e.on; item = e.item; piece = e.piece }) (record { on = f.on; item = f.item; piece = f.piece }) =
           cc (
@@ -152,8 +152,8 @@ module _ {A : Type 0} (same : A → A → Bool) (exact : (a b : A) → (same a b
           ) in
           all
 
-  pub of-each : (n : A) (l : List (Placed A)) → Each (λ e. e.item ≡ n) (ofItem same n l)
-  of-each n l = by (ofItem same n l) (only-each (λ e. same e.item n) l)
+  pub of-each : (n : A) (l : List (Placed A)) → Each (λ e. e.item ≡ n) (of_item same n l)
+  of-each n l = by (of_item same n l) (only-each (λ e. same e.item n) l)
     where
       by : (k : List (Placed A)) → Each (λ e. (same e.item n ≡ true) × Some (λ x. x ≡ e) l) k → Each (λ e. e.item ≡ n) k
       by [] h = tt
@@ -161,29 +161,29 @@ module _ {A : Type 0} (same : A → A → Bool) (exact : (a b : A) → (same a b
 
   pub alike-says : (n : A) (l k : List (Placed A)) → alike same n l k ≡ true → (e : Placed A) → e.item ≡ n → often same e l ≡ often same e k
   alike-says n l k h e is = elim (dec_lt 0 (often same e l)) [
-    | yes some ↦ eqb-true (often same e l) (often same e k) (told l k (both_left (every (asOften same l k) (ofItem same n l)) (every (asOften same k l) (ofItem same n k)) h) some)
+    | yes some ↦ eqb-true (often same e l) (often same e k) (told l k (both_left (every (as_often same l k) (of_item same n l)) (every (as_often same k l) (of_item same n k)) h) some)
     | no none ↦ elim (dec_lt 0 (often same e k)) [
-      | yes some ↦ sym (eqb-true (often same e k) (often same e l) (told k l (both_right (every (asOften same l k) (ofItem same n l)) (every (asOften same k l) (ofItem same n k)) h) some))
+      | yes some ↦ sym (eqb-true (often same e k) (often same e l) (told k l (both_right (every (as_often same l k) (of_item same n l)) (every (as_often same k l) (of_item same n k)) h) some))
       | no neither ↦ omega arith
     ]
   ]
     where
-      told : (l k : List (Placed A)) → every (asOften same l k) (ofItem same n l) ≡ true → 0 < often same e l → asOften same l k e ≡ true
+      told : (l k : List (Placed A)) → every (as_often same l k) (of_item same n l) ≡ true → 0 < often same e l → as_often same l k e ≡ true
       told l k all some =
-          let there = found (samePlaced same e) l some in
+          let there = found (same_placed same e) l some in
           let at = (same-placed-exact e there.0).0 there.1.0 in
           let here : Some (λ x. x ≡ e) l = subst (λ (f : Placed A). Some (λ x. x ≡ f) l) (sym at) there.1.1 in
-          every_some (asOften same l k) (ofItem same n l) e all (only-has (λ f. same f.item n) e ((exact e.item n).1 is) l here)
+          every_some (as_often same l k) (of_item same n l) e all (only-has (λ f. same f.item n) e ((exact e.item n).1 is) l here)
 
   pub alike-found : (n : A) (l k : List (Placed A)) → ((e : Placed A) → e.item ≡ n → often same e l ≡ often same e k) → alike same n l k ≡ true
   alike-found n l k as-often = rw (all l k as-often) (all k l (λ e is. sym (as-often e is)))
     where
-      all : (l k : List (Placed A)) → ((e : Placed A) → e.item ≡ n → often same e l ≡ often same e k) → every (asOften same l k) (ofItem same n l) ≡ true
-      all l k as-often = every-each (asOften same l k) (ofItem same n l) (each (ofItem same n l) (of-each n l))
+      all : (l k : List (Placed A)) → ((e : Placed A) → e.item ≡ n → often same e l ≡ often same e k) → every (as_often same l k) (of_item same n l) ≡ true
+      all l k as-often = every-each (as_often same l k) (of_item same n l) (each (of_item same n l) (of-each n l))
         where
-          each : (m : List (Placed A)) → Each (λ e. e.item ≡ n) m → Each (λ e. asOften same l k e ≡ true) m
+          each : (m : List (Placed A)) → Each (λ e. e.item ≡ n) m → Each (λ e. as_often same l k e ≡ true) m
           each [] h = tt
           each (e ∷ m) h = (eq-eqb (often same e l) (often same e k) (as-often e h.0), each m h.1)
 
-pub alike-means : (n : List ℕ) (l k : List (Placed (List ℕ))) → (alike sameBytes n l k ≡ true) ↔ Alike n l k
-alike-means n l k = (alike-says sameBytes same-bytes-exact n l k, alike-found sameBytes same-bytes-exact n l k)
+pub alike-means : (n : List ℕ) (l k : List (Placed (List ℕ))) → (alike same_bytes n l k ≡ true) ↔ Alike n l k
+alike-means n l k = (alike-says same_bytes same-bytes-exact n l k, alike-found same_bytes same-bytes-exact n l k)

@@ -7,8 +7,8 @@ use Rattle.demand.specs.declared.Kind.{Kind}
 use Rattle.demand.specs.declared.Kind.TheVariants.{Whole, First, Last}
 use Rattle.walks.specs.Way.{Placed}
 use Rattle.lines.specs.Lines.{bytes_of}
-use Rattle.listing.specs.Text.{digitsOnto}
-use Rattle.listing.specs.Diff.{samePiece, movedNames, diffLine, diffHead, diffText}
+use Rattle.listing.specs.Text.{digits_onto}
+use Rattle.listing.specs.Diff.{same_piece, moved_names, diff_line, diff_head, diff_text}
 
 -- a piece on a core, from 0, of a task of that name, with eight figures of which no two are equal
 piece : ℕ → List ℕ → Kind → ℕ → Placed (List ℕ)
@@ -21,11 +21,11 @@ was = piece 0 (bytes_of "stays") Whole 1 ∷ piece 0 (bytes_of "cut") First 2 �
 now : List (Placed (List ℕ))
 now = piece 0 (bytes_of "abc") Whole 8 ∷ piece 0 (bytes_of "stays") Whole 1 ∷ piece 0 (bytes_of "cut") Whole 9 ∷ []
 
-moved_listed : diffText 3 3 was now
+moved_listed : diff_text 3 3 was now
     ≡ bytes_of "diff\t3\t3\nonly1\tab\t2\twhole\t7\t20\t30\t4\t5\t6\nonly2\tabc\t1\twhole\t8\t20\t30\t4\t5\t6\nwas\tcut\t1\tfirst\t2\t20\t30\t4\t5\t6\nwas\tcut\t2\tlast\t3\t20\t30\t4\t5\t6\nnow\tcut\t1\twhole\t9\t20\t30\t4\t5\t6\n"
-unfolding diffText diffHead diffLine movedNames samePiece digitsOnto was now piece
+unfolding diff_text diff_head diff_line moved_names same_piece digits_onto was now piece
 moved_listed = refl
 
-none-listed : diffText 0 0 [] [] ≡ bytes_of "diff\t0\t0\n"
-unfolding diffText diffHead movedNames digitsOnto
+none-listed : diff_text 0 0 [] [] ≡ bytes_of "diff\t0\t0\n"
+unfolding diff_text diff_head moved_names digits_onto
 none-listed = refl

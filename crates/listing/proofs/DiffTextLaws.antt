@@ -21,60 +21,60 @@ use lib.ListN.{length, length-append}
 use Rattle.demand.specs.declared.Piece.{Piece}
 use Rattle.walks.specs.Lists.{keep, only}
 use Rattle.walks.specs.Way.{Placed, relabel}
-use Rattle.plan.specs.ways.PlacedArray.{seatOf, placed_at, placedIn}
+use Rattle.plan.specs.Ways.PlacedArray.{seat_of, placed_at, placed_in}
 use Rattle.plan.proofs.LentLaws.{placed-length}
 use Rattle.plan.proofs.Lists.{map_snoc}
 use Rattle.lines.specs.Lines.{bytes_of, tab}
-use Rattle.listing.specs.Text.{endedBy, textLine, decimal}
-use Rattle.listing.specs.Listing.{kindWord}
-use Rattle.listing.specs.Diff.{ofItem, alike, diffLine, diffLines, side_by_side}
-use Rattle.listing.specs.ways.RankArrays.{figuresOf, under, rankBlock, rankBlocks, rankedBelow}
+use Rattle.listing.specs.Text.{ended_by, text_line, decimal}
+use Rattle.listing.specs.Listing.{kind_word}
+use Rattle.listing.specs.Diff.{of_item, alike, diff_line, diff_lines, side_by_side}
+use Rattle.listing.specs.Ways.RankArrays.{figures_of, under, rank_block, rank_blocks, ranked_below}
 use Rattle.listing.proofs.RankLaws.{only-more}
 
 pub diff-line : (word name : List ℕ) (core n : ℕ) (p : Piece) → n ≡ core + 1
-    → endedBy tab word ++ (endedBy tab name ++ (endedBy tab (decimal n) ++ (endedBy tab (kindWord p.kind) ++ textLine (figuresOf p))))
-    ≡ diffLine word (record { on = core; item = name; piece = p })
-unfolding diffLine
+    → ended_by tab word ++ (ended_by tab name ++ (ended_by tab (decimal n) ++ (ended_by tab (kind_word p.kind) ++ text_line (figures_of p))))
+    ≡ diff_line word (record { on = core; item = name; piece = p })
+unfolding diff_line
 diff-line word name core n p is = rw is
 
 -- ---- the lines of one rank
 
-lines-append : (w : List ℕ) (es fs : List (Placed (List ℕ))) → diffLines w (es ++ fs) ≡ diffLines w es ++ diffLines w fs
+lines-append : (w : List ℕ) (es fs : List (Placed (List ℕ))) → diff_lines w (es ++ fs) ≡ diff_lines w es ++ diff_lines w fs
 lines-append w [] fs = refl
-lines-append w (e ∷ es) fs = ap (λ (l : List ℕ). diffLine w e ++ l) (lines-append w es fs)
-    ∙ sym (append_assoc (diffLine w e) (diffLines w es) (diffLines w fs))
+lines-append w (e ∷ es) fs = ap (λ (l : List ℕ). diff_line w e ++ l) (lines-append w es fs)
+    ∙ sym (append_assoc (diff_line w e) (diff_lines w es) (diff_lines w fs))
 
 abbrev pub lines_of : (word name : List ℕ) → ℕ → List (Placed ℕ) → List ℕ
-lines_of w s r l = diffLines w (under s (ofItem eqb r l))
+lines_of w s r l = diff_lines w (under s (of_item eqb r l))
 
 -- one piece more
 module _ (r : ℕ) (a : List ℕ) (i : ℕ) where
-  of_one : (placed_at a i).item ≡ r → ofItem eqb r (placedIn a (i + 1)) ≡ ofItem eqb r (placedIn a i) ++ (placed_at a i ∷ [])
+  of_one : (placed_at a i).item ≡ r → of_item eqb r (placed_in a (i + 1)) ≡ of_item eqb r (placed_in a i) ++ (placed_at a i ∷ [])
   of_one same = only-more a (λ e. eqb e.item r) i ∙ rw (eq-eqb (placed_at a i).item r same)
 
-  of-same : ((placed_at a i).item ≡ r → ⊥) → ofItem eqb r (placedIn a (i + 1)) ≡ ofItem eqb r (placedIn a i)
-  of-same other = only-more a (λ e. eqb e.item r) i ∙ rw (ne_eqb (placed_at a i).item r other) (append-nil (ofItem eqb r (placedIn a i)))
+  of-same : ((placed_at a i).item ≡ r → ⊥) → of_item eqb r (placed_in a (i + 1)) ≡ of_item eqb r (placed_in a i)
+  of-same other = only-more a (λ e. eqb e.item r) i ∙ rw (ne_eqb (placed_at a i).item r other) (append-nil (of_item eqb r (placed_in a i)))
 
-  pub of-more : (placed_at a i).item ≡ r → length (ofItem eqb r (placedIn a (i + 1))) ≡ length (ofItem eqb r (placedIn a i)) + 1
-  of-more same = ap (length {A = Placed ℕ}) (of_one same) ∙ length-append (ofItem eqb r (placedIn a i)) (placed_at a i ∷ [])
+  pub of-more : (placed_at a i).item ≡ r → length (of_item eqb r (placed_in a (i + 1))) ≡ length (of_item eqb r (placed_in a i)) + 1
+  of-more same = ap (length {A = Placed ℕ}) (of_one same) ∙ length-append (of_item eqb r (placed_in a i)) (placed_at a i ∷ [])
 
-  pub of-stay : ((placed_at a i).item ≡ r → ⊥) → length (ofItem eqb r (placedIn a (i + 1))) ≡ length (ofItem eqb r (placedIn a i))
+  pub of-stay : ((placed_at a i).item ≡ r → ⊥) → length (of_item eqb r (placed_in a (i + 1))) ≡ length (of_item eqb r (placed_in a i))
   of-stay other = ap (length {A = Placed ℕ}) (of-same other)
 
-  pub lines_more : (w s : List ℕ) (core rank : ℕ) (p : Piece) → seatOf core rank p ≡ placed_at a i → (placed_at a i).item ≡ r
-      → lines_of w s r (placedIn a i) ++ diffLine w (record { on = core; item = s; piece = p }) ≡ lines_of w s r (placedIn a (i + 1))
+  pub lines_more : (w s : List ℕ) (core rank : ℕ) (p : Piece) → seat_of core rank p ≡ placed_at a i → (placed_at a i).item ≡ r
+      → lines_of w s r (placed_in a i) ++ diff_line w (record { on = core; item = s; piece = p }) ≡ lines_of w s r (placed_in a (i + 1))
   lines_more w s core rank p is same =
-      let front = ofItem eqb r (placedIn a i) in
+      let front = of_item eqb r (placed_in a i) in
       let there = relabel (λ (k : ℕ). s) (placed_at a i) in
-      let here : diffLine w (record { on = core; item = s; piece = p }) ≡ diffLine w there =
-      ap (λ (e : Placed ℕ). diffLine w (relabel (λ (k : ℕ). s) e)) is in
-      sym (ap (λ (l : List (Placed ℕ)). diffLines w (under s l)) (of_one same)
-      ∙ (ap (diffLines w) (map_snoc (relabel (λ (k : ℕ). s)) front (placed_at a i))
+      let here : diff_line w (record { on = core; item = s; piece = p }) ≡ diff_line w there =
+      ap (λ (e : Placed ℕ). diff_line w (relabel (λ (k : ℕ). s) e)) is in
+      sym (ap (λ (l : List (Placed ℕ)). diff_lines w (under s l)) (of_one same)
+      ∙ (ap (diff_lines w) (map_snoc (relabel (λ (k : ℕ). s)) front (placed_at a i))
       ∙ (lines-append w (under s front) (there ∷ [])
-      ∙ ap (λ (l : List ℕ). lines_of w s r (placedIn a i) ++ l) (append-nil (diffLine w there) ∙ sym here))))
+      ∙ ap (λ (l : List ℕ). lines_of w s r (placed_in a i) ++ l) (append-nil (diff_line w there) ∙ sym here))))
 
-  pub lines_stay : (w s : List ℕ) → ((placed_at a i).item ≡ r → ⊥) → lines_of w s r (placedIn a i) ≡ lines_of w s r (placedIn a (i + 1))
-  lines_stay w s other = sym (ap (λ (l : List (Placed ℕ)). diffLines w (under s l)) (of-same other))
+  pub lines_stay : (w s : List ℕ) → ((placed_at a i).item ≡ r → ⊥) → lines_of w s r (placed_in a i) ≡ lines_of w s r (placed_in a (i + 1))
+  lines_stay w s other = sym (ap (λ (l : List (Placed ℕ)). diff_lines w (under s l)) (of-same other))
 
 -- ---- at most as many as there are
 
@@ -86,59 +86,59 @@ only-few test (a ∷ l) = by (test a) (only-few test l)
     by true h = omega arith
     by false h = omega arith
 
-pub of-few : (r : ℕ) (a : List ℕ) (n : ℕ) → length (ofItem eqb r (placedIn a n)) ≤ n
-of-few r a n = omega (arith, only-few (λ e. eqb e.item r) (placedIn a n), placed-length a n)
+pub of-few : (r : ℕ) (a : List ℕ) (n : ℕ) → length (of_item eqb r (placed_in a n)) ≤ n
+of-few r a n = omega (arith, only-few (λ e. eqb e.item r) (placed_in a n), placed-length a n)
 
 -- ---- the lines of one name
 
 module _ (s : List ℕ) where
-  second-alone : (es fs : List (Placed ℕ)) → length es ≡ 0 → side_by_side (under s es) (under s fs) ≡ diffLines (bytes_of "only2") (under s fs)
+  second-alone : (es fs : List (Placed ℕ)) → length es ≡ 0 → side_by_side (under s es) (under s fs) ≡ diff_lines (bytes_of "only2") (under s fs)
   second-alone [] fs none = refl
   second-alone (e ∷ es) fs none = absurd (omega (arith, none))
 
   first_alone : (es fs : List (Placed ℕ)) → (length es ≡ 0 → ⊥) → length fs ≡ 0
-      → side_by_side (under s es) (under s fs) ≡ diffLines (bytes_of "only1") (under s es)
+      → side_by_side (under s es) (under s fs) ≡ diff_lines (bytes_of "only1") (under s es)
   first_alone [] fs some none = absurd (some refl)
   first_alone (e ∷ es) [] some none = refl
   first_alone (e ∷ es) (f ∷ fs) some none = absurd (omega (arith, none))
 
   in_both : (es fs : List (Placed ℕ)) → (length es ≡ 0 → ⊥) → (length fs ≡ 0 → ⊥)
-      → side_by_side (under s es) (under s fs) ≡ diffLines (bytes_of "was") (under s es) ++ diffLines (bytes_of "now") (under s fs)
+      → side_by_side (under s es) (under s fs) ≡ diff_lines (bytes_of "was") (under s es) ++ diff_lines (bytes_of "now") (under s fs)
   in_both [] fs some more = absurd (some refl)
   in_both (e ∷ es) [] some more = absurd (more refl)
   in_both (e ∷ es) (f ∷ fs) some more = refl
 
   module _ (r : ℕ) (l k : List (Placed ℕ)) where
-    pub block-second : length (ofItem eqb r l) ≡ 0 → lines_of (bytes_of "only2") s r k ≡ rankBlock s r l k
-    block-second none = sym (second-alone (ofItem eqb r l) (ofItem eqb r k) none)
+    pub block-second : length (of_item eqb r l) ≡ 0 → lines_of (bytes_of "only2") s r k ≡ rank_block s r l k
+    block-second none = sym (second-alone (of_item eqb r l) (of_item eqb r k) none)
 
-    pub block-first : (length (ofItem eqb r l) ≡ 0 → ⊥) → length (ofItem eqb r k) ≡ 0 → lines_of (bytes_of "only1") s r l ≡ rankBlock s r l k
-    block-first some none = sym (first_alone (ofItem eqb r l) (ofItem eqb r k) some none)
+    pub block-first : (length (of_item eqb r l) ≡ 0 → ⊥) → length (of_item eqb r k) ≡ 0 → lines_of (bytes_of "only1") s r l ≡ rank_block s r l k
+    block-first some none = sym (first_alone (of_item eqb r l) (of_item eqb r k) some none)
 
-    pub block-both : (length (ofItem eqb r l) ≡ 0 → ⊥) → (length (ofItem eqb r k) ≡ 0 → ⊥)
-        → lines_of (bytes_of "was") s r l ++ lines_of (bytes_of "now") s r k ≡ rankBlock s r l k
-    block-both some more = sym (in_both (ofItem eqb r l) (ofItem eqb r k) some more)
+    pub block-both : (length (of_item eqb r l) ≡ 0 → ⊥) → (length (of_item eqb r k) ≡ 0 → ⊥)
+        → lines_of (bytes_of "was") s r l ++ lines_of (bytes_of "now") s r k ≡ rank_block s r l k
+    block-both some more = sym (in_both (of_item eqb r l) (of_item eqb r k) some more)
 
 -- ---- all lines
 
 module _ (name : ℕ → List ℕ) (l k : List (Placed ℕ)) (r : ℕ) where
-  pub blocks-alike : alike eqb r l k ≡ true → rankBlocks name l k r ≡ rankBlocks name l k (r + 1)
-  blocks-alike same = sym (rw (add-one r, same) (append-nil (rankBlocks name l k r)))
+  pub blocks-alike : alike eqb r l k ≡ true → rank_blocks name l k r ≡ rank_blocks name l k (r + 1)
+  blocks-alike same = sym (rw (add-one r, same) (append-nil (rank_blocks name l k r)))
 
   pub blocks_more : alike eqb r l k ≡ false → (s : List ℕ) → s ≡ name r
-      → rankBlocks name l k r ++ rankBlock s r l k ≡ rankBlocks name l k (r + 1)
+      → rank_blocks name l k r ++ rank_block s r l k ≡ rank_blocks name l k (r + 1)
   blocks_more other s is = sym (rw (add-one r, other, is))
 
 -- ---- how many have a lesser rank
 
-pub lesser-none : (l : List (Placed ℕ)) → rankedBelow 0 l ≡ 0
+pub lesser-none : (l : List (Placed ℕ)) → ranked_below 0 l ≡ 0
 lesser-none [] = refl
 lesser-none (e ∷ l) = rw (le-ltb e.item 0 (omega arith)) (lesser-none l)
 
-pub lesser-few : (r : ℕ) (l : List (Placed ℕ)) → rankedBelow r l ≤ length l
+pub lesser-few : (r : ℕ) (l : List (Placed ℕ)) → ranked_below r l ≤ length l
 lesser-few r l = only-few (λ e. ltb e.item r) l
 
-pub lesser-more : (r : ℕ) (l : List (Placed ℕ)) → rankedBelow (r + 1) l ≡ rankedBelow r l + length (ofItem eqb r l)
+pub lesser-more : (r : ℕ) (l : List (Placed ℕ)) → ranked_below (r + 1) l ≡ ranked_below r l + length (of_item eqb r l)
 lesser-more r [] = refl
 lesser-more r (e ∷ l) = elim (dec_lt e.item r) [
   | yes low ↦ rw (lt-ltb e.item (r + 1) (omega arith), lt-ltb e.item r low, ne_eqb e.item r (λ z. omega arith)) (omega (arith, lesser-more r l))

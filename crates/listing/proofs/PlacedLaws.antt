@@ -26,30 +26,30 @@ use Rattle.demand.specs.declared.Piece.{Piece}
 use Rattle.demand.specs.declared.Costs.{Costs}
 use Rattle.demand.specs.Sizes.{Sized, SizedCosts, Each}
 use Rattle.demand.specs.Charge.{charge}
-use Rattle.demand.specs.Answer.{chargedTime}
+use Rattle.demand.specs.Answer.{charged_time}
 use Rattle.demand.proofs.ChargeLaws.{charged-time-is}
 use Rattle.demand.proofs.Sums.{each-imp, each_map}
 use Rattle.task.specs.declared.Task.{Task}
 use Rattle.task.specs.declared.Machine.{Machine}
-use Rattle.task.specs.Tasks.{taskAt, stateFault, coresMost, tasksMost, tasksOf}
+use Rattle.task.specs.Tasks.{task_at, state_fault, cores_most, tasks_most, tasks_of}
 use Rattle.task.proofs.TaskLaws.{state-sane, tasks-at}
 use Rattle.plan.specs.declared.Layout.{Layout}
 use Rattle.plan.specs.declared.Plan.{Plan}
 use Rattle.plan.specs.declared.Reply.{Reply}
 use Rattle.walks.specs.Lists.{keep}
-use Rattle.walks.specs.Way.{Placed, fine, onCore, row_of}
+use Rattle.walks.specs.Way.{Placed, fine, on_core, row_of}
 use Rattle.walks.specs.Halves.{Stand}
 use Rattle.walks.proofs.ListLaws.{each-join, each-only}
 use Rattle.plan.specs.Walk.{walked}
-use Rattle.plan.specs.Layout.{keptPiece, blank}
+use Rattle.plan.specs.Layout.{kept_piece, blank}
 use Rattle.plan.specs.Plan.{finished, plan_of}
 use Rattle.task.specs.declared.Tasks.{Tasks}
-use Rattle.plan.specs.Shows.{storedOf, LayoutShows}
+use Rattle.plan.specs.Shows.{stored_of, LayoutShows}
 use Rattle.plan.proofs.GoingLaws.{piece-stored}
 use Rattle.plan.proofs.Theorems.{placed-places, placed-sized, plan-counts, plan-shows}
-use Rattle.listing.specs.Listing.{Entry, kindWord, rowPieces, entry_of, rowEntries, entriesOn, entries, entryLine, entryLines, header, listingOf}
-use Rattle.listing.specs.Placed.{placedFields, byCore, placedLines, textLines, placedListing, placedEntry, placedEntries}
-use Rattle.listing.specs.Text.{textLine, decimal}
+use Rattle.listing.specs.Listing.{Entry, kind_word, row_pieces, entry_of, row_entries, entries_on, entries, entry_line, entry_lines, header, listing_of}
+use Rattle.listing.specs.Placed.{placed_fields, by_core, placed_lines, text_lines, placed_listing, placed_entry, placed_entries}
+use Rattle.listing.specs.Text.{text_line, decimal}
 use Rattle.lines.specs.Lines.{bytes_of}
 
 -- ---- what the walk placed
@@ -57,9 +57,9 @@ use Rattle.lines.specs.Lines.{bytes_of}
 pub record Seated (k : ℕ) (e : Placed ℕ) : Type 0 where
   pub low : e.item < k
   pub size : Sized e.piece
-  pub core : e.on < coresMost
+  pub core : e.on < cores_most
 
-seated-all : (k : ℕ) (l : List (Placed ℕ)) → Each (λ e. e.item < k) l → Each (λ e. Sized e.piece) l → Each (λ e. e.on < coresMost) l → Each (Seated k) l
+seated-all : (k : ℕ) (l : List (Placed ℕ)) → Each (λ e. e.item < k) l → Each (λ e. Sized e.piece) l → Each (λ e. e.on < cores_most) l → Each (Seated k) l
 seated-all k [] low size core = tt
 seated-all k (e ∷ l) low size core = (record { low = low.0; size = size.0; core = core.0 }, seated-all k l low.1 size.1 core.1)
 
@@ -68,34 +68,34 @@ seated-all k (e ∷ l) low size core = (record { low = low.0; size = size.0; cor
 -- the fields of an entry's line
 abbrev fields_of : Entry → List (List ℕ)
 fields_of e =
-    bytes_of "piece" ∷ decimal e.core ∷ e.task ∷ kindWord e.kind ∷ decimal e.budget ∷ decimal e.window ∷ decimal e.jitter ∷ decimal e.charged ∷ []
+    bytes_of "piece" ∷ decimal e.core ∷ e.task ∷ kind_word e.kind ∷ decimal e.budget ∷ decimal e.window ∷ decimal e.jitter ∷ decimal e.charged ∷ []
 
 module _ (c : Costs) (ts : List Task) where
-  fields-placed : (l : List (Placed ℕ)) → map (placedFields c ts) l ≡ map fields_of (map (placedEntry c ts) l)
-  unfolding placedFields placedEntry
+  fields-placed : (l : List (Placed ℕ)) → map (placed_fields c ts) l ≡ map fields_of (map (placed_entry c ts) l)
+  unfolding placed_fields placed_entry
   fields-placed [] = refl
-  fields-placed (e ∷ l) = ap (λ (ls : List (List (List ℕ))). fields_of (placedEntry c ts e) ∷ ls) (fields-placed l)
+  fields-placed (e ∷ l) = ap (λ (ls : List (List (List ℕ))). fields_of (placed_entry c ts e) ∷ ls) (fields-placed l)
 
-  lines_of : (es : List Entry) → textLines (map fields_of es) ≡ entryLines es
-  unfolding entryLine
+  lines_of : (es : List Entry) → text_lines (map fields_of es) ≡ entry_lines es
+  unfolding entry_line
   lines_of [] = refl
-  lines_of (e ∷ es) = ap (λ (t : List ℕ). textLine (fields_of e) ++ t) (lines_of es)
+  lines_of (e ∷ es) = ap (λ (t : List ℕ). text_line (fields_of e) ++ t) (lines_of es)
 
-  pub placed-text : (l : List (Placed ℕ)) → placedListing c ts l ≡ header (length ts) (length l) ++ entryLines (placedEntries c ts l)
-  unfolding placedListing header
-  placed-text l = ap (λ (t : List ℕ). header (length ts) (length l) ++ t) (ap textLines (fields-placed (byCore coresMost l)) ∙ lines_of (placedEntries c ts l))
+  pub placed-text : (l : List (Placed ℕ)) → placed_listing c ts l ≡ header (length ts) (length l) ++ entry_lines (placed_entries c ts l)
+  unfolding placed_listing header
+  placed-text l = ap (λ (t : List ℕ). header (length ts) (length l) ++ t) (ap text_lines (fields-placed (by_core cores_most l)) ∙ lines_of (placed_entries c ts l))
 
 -- so equal entries have equal lines
-pub lines-placed : (c c' : Costs) (ts ts' : List Task) (l l' : List (Placed ℕ)) → placedEntries c ts l ≡ placedEntries c' ts' l'
-    → placedLines c ts l ≡ placedLines c' ts' l'
+pub lines-placed : (c c' : Costs) (ts ts' : List Task) (l l' : List (Placed ℕ)) → placed_entries c ts l ≡ placed_entries c' ts' l'
+    → placed_lines c ts l ≡ placed_lines c' ts' l'
 lines-placed c c' ts ts' l l' same =
-    fields-placed c ts (byCore coresMost l) ∙ (ap (map fields_of) same ∙ sym (fields-placed c' ts' (byCore coresMost l')))
+    fields-placed c ts (by_core cores_most l) ∙ (ap (map fields_of) same ∙ sym (fields-placed c' ts' (by_core cores_most l')))
 
-module _ (m : Machine) (c : Costs) (n : ℕ) (ts : List Task) (faultless : stateFault m c n ts ≡ 0) (s : Stand) (l : List (Placed ℕ))
+module _ (m : Machine) (c : Costs) (n : ℕ) (ts : List Task) (faultless : state_fault m c n ts ≡ 0) (s : Stand) (l : List (Placed ℕ))
     (planned : walked m c (take n ts) ≡ fine s l) where
-  seats-low : Each (λ e. e.on < coresMost) l
+  seats-low : Each (λ e. e.on < cores_most) l
   seats-low =
-      each-imp (λ (e : Placed ℕ). e.on < m.cores) (λ (e : Placed ℕ). e.on < coresMost)
+      each-imp (λ (e : Placed ℕ). e.on < m.cores) (λ (e : Placed ℕ). e.on < cores_most)
       (λ e h. omega (arith, (state-sane m c n ts faultless).cores-fit)) l (plan-counts m c n ts faultless s l planned).cores
 
   pub all-seated : Each (Seated (length (take n ts))) l
@@ -104,11 +104,11 @@ module _ (m : Machine) (c : Costs) (n : ℕ) (ts : List Task) (faultless : state
 
 -- ---- what is on a core
 
-pub each_on : (P : Placed ℕ → Type 0) (q : ℕ) (l : List (Placed ℕ)) → Each P l → Each (λ e. P e × (e.on ≡ q)) (onCore q l)
+pub each_on : (P : Placed ℕ → Type 0) (q : ℕ) (l : List (Placed ℕ)) → Each P l → Each (λ e. P e × (e.on ≡ q)) (on_core q l)
 each_on P q [] ok = tt
 each_on P q (e ∷ l) ok = by (eqb e.on q) refl (each_on P q l ok.1)
   where
-    by : (t : Bool) → eqb e.on q ≡ t → Each (λ e. P e × (e.on ≡ q)) (onCore q l) → Each (λ e. P e × (e.on ≡ q)) (keep t e (onCore q l))
+    by : (t : Bool) → eqb e.on q ≡ t → Each (λ e. P e × (e.on ≡ q)) (on_core q l) → Each (λ e. P e × (e.on ≡ q)) (keep t e (on_core q l))
     by true h others = ((ok.0, eqb-true e.on q h), others)
     by false h others = others
 
@@ -117,48 +117,48 @@ map_same P f g same [] ok = refl
 map_same P f g same (a ∷ x) ok = cc (same a ok.0, map_same P f g same x ok.1)
 
 -- the entry of what was placed, from the plan's struct
-entry-placed : (p : Plan) (c : Costs) (ts : List Task) (q : ℕ) (e : Placed ℕ) → p.costs ≡ c → length ts ≤ tasksMost → p.tasks ≡ tasksOf ts → SizedCosts c
-    → Seated (length ts) e → e.on ≡ q → entry_of p q (storedOf e) ≡ placedEntry c ts e
-unfolding entry_of placedEntry
+entry-placed : (p : Plan) (c : Costs) (ts : List Task) (q : ℕ) (e : Placed ℕ) → p.costs ≡ c → length ts ≤ tasks_most → p.tasks ≡ tasks_of ts → SizedCosts c
+    → Seated (length ts) e → e.on ≡ q → entry_of p q (stored_of e) ≡ placed_entry c ts e
+unfolding entry_of placed_entry
 entry-placed p c ts q e costs few list sizes seat on =
-    let piece : keptPiece (storedOf e) ≡ e.piece = piece-stored e.item e.piece in
-    let task : taskAt p.tasks.list e.item ≡ taskAt ts e.item = ap (λ (q : Tasks). taskAt q.list e.item) list
+    let piece : kept_piece (stored_of e) ≡ e.piece = piece-stored e.item e.piece in
+    let task : task_at p.tasks.list e.item ≡ task_at ts e.item = ap (λ (q : Tasks). task_at q.list e.item) list
     ∙ tasks-at ts e.item few seat.low in
-    let time : chargedTime p.costs (keptPiece (storedOf e)) ≡ charge c e.piece = rw (piece, costs) (charged-time-is c e.piece sizes seat.size) in
-    let kind : (keptPiece (storedOf e)).kind ≡ e.piece.kind = ap (λ (z : Piece). z.kind) piece in
+    let time : charged_time p.costs (kept_piece (stored_of e)) ≡ charge c e.piece = rw (piece, costs) (charged-time-is c e.piece sizes seat.size) in
+    let kind : (kept_piece (stored_of e)).kind ≡ e.piece.kind = ap (λ (z : Piece). z.kind) piece in
     cc (on, task, time, kind)
 
 -- a row of at most 64 is listed whole
-pub row-pieces : (y : Layout) (l : List (Placed ℕ)) (q : ℕ) → LayoutShows y l → q < 16 → length (row_of q l) ≤ 64 → rowPieces y q ≡ map storedOf (onCore q l)
-unfolding rowPieces
+pub row-pieces : (y : Layout) (l : List (Placed ℕ)) (q : ℕ) → LayoutShows y l → q < 16 → length (row_of q l) ≤ 64 → row_pieces y q ≡ map stored_of (on_core q l)
+unfolding row_pieces
 row-pieces y l q shows low short =
     let few : get_or y.lens q 0 ≤ 64 = omega (arith, shows.lens q low) in
     ap (map (λ i. get_or y.pieces i blank)) (take-take (get_or y.lens q 0) 64 (drop (q * 64) y.rows) few) ∙ shows.numbers q low
 
 -- ---- how many there are
 
-by-core-above : (k : ℕ) (e : Placed ℕ) (l : List (Placed ℕ)) → k ≤ e.on → byCore k (e ∷ l) ≡ byCore k l
+by-core-above : (k : ℕ) (e : Placed ℕ) (l : List (Placed ℕ)) → k ≤ e.on → by_core k (e ∷ l) ≡ by_core k l
 by-core-above zero e l high = refl
 by-core-above (suc q) e l high = rw (by-core-above q e l (omega arith), ne_eqb e.on q (λ h. omega arith))
 
-by-core-below : (k : ℕ) (e : Placed ℕ) (l : List (Placed ℕ)) → e.on < k → length (byCore k (e ∷ l)) ≡ suc (length (byCore k l))
+by-core-below : (k : ℕ) (e : Placed ℕ) (l : List (Placed ℕ)) → e.on < k → length (by_core k (e ∷ l)) ≡ suc (length (by_core k l))
 by-core-below zero e l low = absurd (omega arith)
 by-core-below (suc q) e l low = by (eqb e.on q) refl (λ h. by-core-below q e l h)
   where
-    by : (t : Bool) → eqb e.on q ≡ t → (e.on < q → length (byCore q (e ∷ l)) ≡ suc (length (byCore q l)))
-        → length (byCore q (e ∷ l) ++ keep t e (onCore q l)) ≡ suc (length (byCore q l ++ onCore q l))
+    by : (t : Bool) → eqb e.on q ≡ t → (e.on < q → length (by_core q (e ∷ l)) ≡ suc (length (by_core q l)))
+        → length (by_core q (e ∷ l) ++ keep t e (on_core q l)) ≡ suc (length (by_core q l ++ on_core q l))
     by true h below =
         omega (
           arith,
-          length-append (byCore q (e ∷ l)) (e ∷ onCore q l),
-          length-append (byCore q l) (onCore q l),
+          length-append (by_core q (e ∷ l)) (e ∷ on_core q l),
+          length-append (by_core q l) (on_core q l),
           ap length (by-core-above q e l (omega (arith, eqb-true e.on q h))),
         )
     by false h below =
         omega (
           arith,
-          length-append (byCore q (e ∷ l)) (onCore q l),
-          length-append (byCore q l) (onCore q l),
+          length-append (by_core q (e ∷ l)) (on_core q l),
+          length-append (by_core q l) (on_core q l),
           below (less (dec_lt e.on q)),
         )
       where
@@ -166,57 +166,57 @@ by-core-below (suc q) e l low = by (eqb e.on q) refl (λ h. by-core-below q e l 
         less (yes g) = g
         less (no g) = absurd (eqb-false e.on q h (omega arith))
 
-by-core-none : (k : ℕ) → byCore k [] ≡ []
+by-core-none : (k : ℕ) → by_core k [] ≡ []
 by-core-none zero = refl
 by-core-none (suc q) = rw (by-core-none q)
 
-pub by-core-all : (k : ℕ) (l : List (Placed ℕ)) → Each (λ e. e.on < k) l → length (byCore k l) ≡ length l
+pub by-core-all : (k : ℕ) (l : List (Placed ℕ)) → Each (λ e. e.on < k) l → length (by_core k l) ≡ length l
 by-core-all k [] ok = ap length (by-core-none k)
 by-core-all k (e ∷ l) ok = by-core-below k e l ok.0 ∙ ap suc (by-core-all k l ok.1)
 
-pub by-core-each : (P : Placed ℕ → Type 0) (k : ℕ) (l : List (Placed ℕ)) → Each P l → Each P (byCore k l)
+pub by-core-each : (P : Placed ℕ → Type 0) (k : ℕ) (l : List (Placed ℕ)) → Each P l → Each P (by_core k l)
 by-core-each P zero l ok = tt
-by-core-each P (suc q) l ok = each-join P (byCore q l) (onCore q l) (by-core-each P q l ok) (each-only P (λ e. eqb e.on q) l ok)
+by-core-each P (suc q) l ok = each-join P (by_core q l) (on_core q l) (by-core-each P q l ok) (each-only P (λ e. eqb e.on q) l ok)
 
 -- ---- a plan that the walk gave
 
-module _ (m : Machine) (c : Costs) (n : ℕ) (ts : List Task) (faultless : stateFault m c n ts ≡ 0) (s : Stand) (l : List (Placed ℕ))
+module _ (m : Machine) (c : Costs) (n : ℕ) (ts : List Task) (faultless : state_fault m c n ts ≡ 0) (s : Stand) (l : List (Placed ℕ))
     (planned : walked m c (take n ts) ≡ fine s l) where
   pub plan-is : plan_of m c n ts ≡ finished m c (take n ts) (fine s l)
   unfolding plan_of
   plan-is = rw (faultless, planned)
 
-  pub row-placed : (q : ℕ) → q < 16 → rowEntries (plan_of m c n ts).plan q ≡ map (placedEntry c (take n ts)) (onCore q l)
+  pub row-placed : (q : ℕ) → q < 16 → row_entries (plan_of m c n ts).plan q ≡ map (placed_entry c (take n ts)) (on_core q l)
   row-placed q low =
       let p : Plan = (plan_of m c n ts).plan in
       let k : ℕ = length (take n ts) in
       let costs : p.costs ≡ c = ap (λ (r : Reply). r.plan.costs) plan-is in
-      let list : p.tasks ≡ tasksOf (take n ts) = ap (λ (r : Reply). r.plan.tasks) plan-is in
-      let few : length (take n ts) ≤ tasksMost = omega (arith, length-take n ts, (state-sane m c n ts faultless).few) in
+      let list : p.tasks ≡ tasks_of (take n ts) = ap (λ (r : Reply). r.plan.tasks) plan-is in
+      let few : length (take n ts) ≤ tasks_most = omega (arith, length-take n ts, (state-sane m c n ts faultless).few) in
       ap (map (entry_of p q)) (row-pieces p.layout l q (plan-shows m c n ts faultless s l planned) low
       ((plan-counts m c n ts faultless s l planned).row_fits q))
-      ∙ (map-map (entry_of p q) storedOf (onCore q l)
-      ∙ map_same (λ e. Seated k e × (e.on ≡ q)) (λ e. entry_of p q (storedOf e)) (placedEntry c (take n ts))
-      (λ e seat. entry-placed p c (take n ts) q e costs few list (state-sane m c n ts faultless).costs seat.0 seat.1) (onCore q l)
+      ∙ (map-map (entry_of p q) stored_of (on_core q l)
+      ∙ map_same (λ e. Seated k e × (e.on ≡ q)) (λ e. entry_of p q (stored_of e)) (placed_entry c (take n ts))
+      (λ e seat. entry-placed p c (take n ts) q e costs few list (state-sane m c n ts faultless).costs seat.0 seat.1) (on_core q l)
       (each_on (Seated k) q l (all-seated m c n ts faultless s l planned)))
 
-  rows-placed : (k : ℕ) → k ≤ 16 → entriesOn (plan_of m c n ts).plan k ≡ map (placedEntry c (take n ts)) (byCore k l)
+  rows-placed : (k : ℕ) → k ≤ 16 → entries_on (plan_of m c n ts).plan k ≡ map (placed_entry c (take n ts)) (by_core k l)
   rows-placed zero few = refl
   rows-placed (suc q) few =
-      (λ i. rows-placed q (omega arith) i ++ row-placed q (omega arith) i) ∙ sym (map-append (placedEntry c (take n ts)) (byCore q l) (onCore q l))
+      (λ i. rows-placed q (omega arith) i ++ row-placed q (omega arith) i) ∙ sym (map-append (placed_entry c (take n ts)) (by_core q l) (on_core q l))
 
-  pub entries-placed : entries (plan_of m c n ts).plan ≡ placedEntries c (take n ts) l
+  pub entries-placed : entries (plan_of m c n ts).plan ≡ placed_entries c (take n ts) l
   entries-placed = rows-placed 16 (omega arith)
 
-  pub entries-count : length (placedEntries c (take n ts) l) ≡ length l
-  entries-count = length-map (byCore 16 l) (placedEntry c (take n ts)) ∙ by-core-all 16 l (seats-low m c n ts faultless s l planned)
+  pub entries-count : length (placed_entries c (take n ts) l) ≡ length l
+  entries-count = length-map (by_core 16 l) (placed_entry c (take n ts)) ∙ by-core-all 16 l (seats-low m c n ts faultless s l planned)
 
   -- what holds of the entry of each piece that was placed holds of all entries
-  pub entries-each : (R : Entry → Type 0) → ((e : Placed ℕ) → Seated (length (take n ts)) e → R (placedEntry c (take n ts) e))
-      → Each R (placedEntries c (take n ts) l)
+  pub entries-each : (R : Entry → Type 0) → ((e : Placed ℕ) → Seated (length (take n ts)) e → R (placed_entry c (take n ts) e))
+      → Each R (placed_entries c (take n ts) l)
   entries-each R each =
       let k : ℕ = length (take n ts) in
-      each_map (Seated k) R (placedEntry c (take n ts)) each (byCore 16 l)
+      each_map (Seated k) R (placed_entry c (take n ts)) each (by_core 16 l)
       (by-core-each (Seated k) 16 l (all-seated m c n ts faultless s l planned))
 
   pub pieces-count : (plan_of m c n ts).plan.layout.count ≡ length l
@@ -225,6 +225,6 @@ module _ (m : Machine) (c : Costs) (n : ℕ) (ts : List Task) (faultless : state
   pub tasks-count : (plan_of m c n ts).plan.tasks.count ≡ length (take n ts)
   tasks-count = ap (λ (r : Reply). r.plan.tasks.count) plan-is
 
-  pub listing-is : listingOf (plan_of m c n ts).plan ≡ placedListing c (take n ts) l
-  unfolding listingOf
-  listing-is = (λ i. header (tasks-count i) (pieces-count i) ++ entryLines (entries-placed i)) ∙ sym (placed-text c (take n ts) l)
+  pub listing-is : listing_of (plan_of m c n ts).plan ≡ placed_listing c (take n ts) l
+  unfolding listing_of
+  listing-is = (λ i. header (tasks-count i) (pieces-count i) ++ entry_lines (entries-placed i)) ∙ sym (placed-text c (take n ts) l)

@@ -20,7 +20,7 @@ use lib.ListN.{length, get_or, take, drop, set, length-append, length-set, lengt
 use lib.Seq.{sets, sets-eq, length-sets, take-suc, take_all, drop-cons, drop-set-lt, get_or-set_same}
 use lib.Dec.{ltb, lit<}
 use borrow.Author.Tests.{lt-ltb, le-ltb, lt-leb, le-leb}
-use Rattle.listing.specs.Text.{Wrote, endedBy, digitsOnto, decimal, over}
+use Rattle.listing.specs.Text.{Wrote, ended_by, digits_onto, decimal, over}
 
 -- one run after another is one run
 sets-append : (l : List ℕ) (at : ℕ) (a b : List ℕ) → sets (sets l at a) (at + length a) b ≡ sets l at (a ++ b)
@@ -55,17 +55,17 @@ wrote-more l at s i m r n h f g =
     record { place = sym q ∙ rw t b.place; bytes = rw t b.bytes }
 
 -- a run and its end
-pub ended-length : (b : ℕ) (f : List ℕ) → length (endedBy b f) ≡ length f + 1
+pub ended-length : (b : ℕ) (f : List ℕ) → length (ended_by b f) ≡ length f + 1
 ended-length b f = length-append f (b ∷ [])
 
 -- ---- digits
 
-pub digits_last : (k n : ℕ) (ds : List ℕ) → n < 10 → digitsOnto (suc k) n ds ≡ (48 + n) ∷ ds
-unfolding digitsOnto
+pub digits_last : (k n : ℕ) (ds : List ℕ) → n < 10 → digits_onto (suc k) n ds ≡ (48 + n) ∷ ds
+unfolding digits_onto
 digits_last k n ds h = simp (lt-ltb n 10 h)
 
-pub digits_step : (k n : ℕ) (ds : List ℕ) → 10 ≤ n → digitsOnto (suc k) n ds ≡ digitsOnto k (n / 10) ((48 + n % 10) ∷ ds)
-unfolding digitsOnto
+pub digits_step : (k n : ℕ) (ds : List ℕ) → 10 ≤ n → digits_onto (suc k) n ds ≡ digits_onto k (n / 10) ((48 + n % 10) ∷ ds)
+unfolding digits_onto
 digits_step k n ds h = simp (le-ltb n 10 h)
 
 -- i places are left for m, and the digits after them stand in d from place i on
@@ -74,12 +74,12 @@ pub record Left (n : ℕ) (d : List ℕ) (i m : ℕ) : Type 0 where
   pub room : i ≤ 20
   pub twenty : length d ≡ 20
   pub fits : m < 10 ^ i
-  pub digits : decimal n ≡ digitsOnto i m (drop i d)
+  pub digits : decimal n ≡ digits_onto i m (drop i d)
 
 pub left-start : (n : ℕ) (d : List ℕ) → length d ≡ 20 → n < 2 ^ 64 → Left n d 20 n
 left-start n d h l =
     let z : length d ≤ 20 = omega arith in
-    record { one = omega arith; room = omega arith; twenty = h; fits = omega arith; digits = ap (digitsOnto 20 n) (sym (drop_of_length-le d z)) }
+    record { one = omega arith; room = omega arith; twenty = h; fits = omega arith; digits = ap (digits_onto 20 n) (sym (drop_of_length-le d z)) }
 
 drop_set_at : (d : List ℕ) (j x : ℕ) → j < length d → drop j (set d j x) ≡ x ∷ drop (suc j) d
 drop_set_at d j x h =
@@ -101,7 +101,7 @@ left_step n d (suc (suc k)) m f h =
       room = omega (arith, f.room);
       twenty = length-set d (suc k) (48 + m % 10) ∙ f.twenty;
       fits = (div-lt_iff_lt-mul (lit< tt)).1 g;
-      digits = f.digits ∙ digits_step (suc k) m (drop (suc (suc k)) d) h ∙ ap (digitsOnto (suc k) (m / 10)) (sym (drop_set_at d (suc k) (48 + m % 10) s));
+      digits = f.digits ∙ digits_step (suc k) m (drop (suc (suc k)) d) h ∙ ap (digits_onto (suc k) (m / 10)) (sym (drop_set_at d (suc k) (48 + m % 10) s));
     })
 
 -- the first digit, and then all stand in the array
@@ -119,18 +119,18 @@ digits-whole n d i m f h x q =
     let b : length (drop (i - 1) (set d (i - 1) x)) ≤ 20 - (i - 1) = rw (length-drop, length-set) (omega (arith, f.twenty)) in
     take_all (20 - (i - 1)) (drop (i - 1) (set d (i - 1) x)) b ∙ rw q (left-last n d i m f h)
 
-digits-few : (k n : ℕ) (ds : List ℕ) → length (digitsOnto k n ds) ≤ k + length ds
-unfolding digitsOnto
+digits-few : (k n : ℕ) (ds : List ℕ) → length (digits_onto k n ds) ≤ k + length ds
+unfolding digits_onto
 digits-few zero n ds = omega arith
 digits-few (suc k) n ds = by-test (ltb n 10) (digits-few k (n / 10) ((48 + n % 10) ∷ ds))
   where
-    by-test : (b : Bool) → length (digitsOnto k (n / 10) ((48 + n % 10) ∷ ds)) ≤ k + suc (length ds)
-        → length (cond b ((48 + n) ∷ ds) (digitsOnto k (n / 10) ((48 + n % 10) ∷ ds))) ≤ suc k + length ds
+    by-test : (b : Bool) → length (digits_onto k (n / 10) ((48 + n % 10) ∷ ds)) ≤ k + suc (length ds)
+        → length (cond b ((48 + n) ∷ ds) (digits_onto k (n / 10) ((48 + n % 10) ∷ ds))) ≤ suc k + length ds
     by-test true h = omega arith
     by-test false h = omega arith
 
 pub decimal-few : (n : ℕ) → length (decimal n) ≤ 20
-decimal-few n = let h : length (digitsOnto 20 n []) ≤ 20 + length {A = ℕ} [] = digits-few 20 n [] in omega arith
+decimal-few n = let h : length (digits_onto 20 n []) ≤ 20 + length {A = ℕ} [] = digits-few 20 n [] in omega arith
 
 -- both passes
 pub over-short : (text old : List ℕ) → length old < length text → over text old ≡ old

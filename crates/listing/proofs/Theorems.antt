@@ -17,15 +17,15 @@ use lib.ListN.{length, take}
 use Rattle.demand.specs.declared.Costs.{Costs}
 use Rattle.task.specs.declared.Task.{Task}
 use Rattle.task.specs.declared.Machine.{Machine}
-use Rattle.task.specs.Tasks.{stateFault}
+use Rattle.task.specs.Tasks.{state_fault}
 use Rattle.walks.specs.Way.{Placed, fine}
 use Rattle.walks.specs.Halves.{Stand}
 use Rattle.plan.specs.Walk.{walked}
 use Rattle.plan.specs.Plan.{plan_of}
 use Rattle.lines.specs.Lines.{is_number, value_of}
 use Rattle.listing.specs.Text.{decimal}
-use Rattle.listing.specs.Listing.{entryLines, listingOf}
-use Rattle.listing.specs.Placed.{placedEntries, placedListing}
+use Rattle.listing.specs.Listing.{entry_lines, listing_of}
+use Rattle.listing.specs.Placed.{placed_entries, placed_listing}
 use Rattle.listing.proofs.DigitLaws.{decimal-value, decimal-number}
 use Rattle.listing.proofs.ReadLaws.{lines-alike, head-alike}
 use Rattle.listing.proofs.PlacedLaws.{placed-text, listing-is, entries-count}
@@ -41,22 +41,22 @@ digits-form n fits = decimal-number n fits
 
 -- ---- a plan that the walk gave
 
-module _ (m : Machine) (c : Costs) (n : ℕ) (ts : List Task) (faultless : stateFault m c n ts ≡ 0) (s : Stand) (l : List (Placed ℕ))
+module _ (m : Machine) (c : Costs) (n : ℕ) (ts : List Task) (faultless : state_fault m c n ts ≡ 0) (s : Stand) (l : List (Placed ℕ))
     (planned : walked m c (take n ts) ≡ fine s l) where
-  pub listing-placed : listingOf (plan_of m c n ts).plan ≡ placedListing c (take n ts) l
+  pub listing-placed : listing_of (plan_of m c n ts).plan ≡ placed_listing c (take n ts) l
   listing-placed = listing-is m c n ts faultless s l planned
 
-  pub header-counts : length (placedEntries c (take n ts) l) ≡ length l
+  pub header-counts : length (placed_entries c (take n ts) l) ≡ length l
   header-counts = entries-count m c n ts faultless s l planned
 
   -- ---- two walks
 
-  pub listing-determines : (m' : Machine) (c' : Costs) (n' : ℕ) (ts' : List Task) → stateFault m' c' n' ts' ≡ 0 → (s' : Stand) (l' : List (Placed ℕ))
-      → walked m' c' (take n' ts') ≡ fine s' l' → placedListing c (take n ts) l ≡ placedListing c' (take n' ts') l'
-      → placedEntries c (take n ts) l ≡ placedEntries c' (take n' ts') l'
+  pub listing-determines : (m' : Machine) (c' : Costs) (n' : ℕ) (ts' : List Task) → state_fault m' c' n' ts' ≡ 0 → (s' : Stand) (l' : List (Placed ℕ))
+      → walked m' c' (take n' ts') ≡ fine s' l' → placed_listing c (take n ts) l ≡ placed_listing c' (take n' ts') l'
+      → placed_entries c (take n ts) l ≡ placed_entries c' (take n' ts') l'
   listing-determines m' c' n' ts' faultless' s' l' planned' same =
-      let es = placedEntries c (take n ts) l in
-      let fs = placedEntries c' (take n' ts') l' in
+      let es = placed_entries c (take n ts) l in
+      let fs = placed_entries c' (take n' ts') l' in
       lines-alike es fs (entries-readable m c n ts faultless s l planned) (entries-readable m' c' n' ts' faultless' s' l' planned')
-      (head-alike (length (take n ts)) (length l) (length (take n' ts')) (length l') (entryLines es) (entryLines fs)
+      (head-alike (length (take n ts)) (length l) (length (take n' ts')) (length l') (entry_lines es) (entry_lines fs)
       (sym (placed-text c (take n ts) l) ∙ (same ∙ placed-text c' (take n' ts') l'))).2

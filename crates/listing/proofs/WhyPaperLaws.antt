@@ -25,21 +25,21 @@ use Rattle.demand.specs.declared.Refusal.{Refusal}
 use Rattle.demand.specs.declared.Refusal.TheVariants.{TooMany, BadCosts, BadRecord}
 use Rattle.demand.specs.declared.Check.{Check}
 use Rattle.demand.specs.declared.Check.TheVariants.{Fine, Bad}
-use Rattle.demand.specs.Answer.{checkRun, showing, showingOf, told}
-use Rattle.demand.specs.Records.{recordAt, recordsOf}
-use Rattle.demand.specs.Sizes.{runMost, lengthMost}
-use Rattle.demand.specs.Why.{shownOf}
+use Rattle.demand.specs.Answer.{check_run, showing, showing_of, told}
+use Rattle.demand.specs.Records.{record_at, records_of}
+use Rattle.demand.specs.Sizes.{run_most, length_most}
+use Rattle.demand.specs.Why.{shown_of}
 use Rattle.demand.proofs.AnswerLaws.{answer-carries}
 use Rattle.demand.proofs.RunLaws.{answer-bad, check-taken}
 use Rattle.task.specs.declared.Task.{Task}
-use Rattle.task.specs.Tasks.{taskAt}
+use Rattle.task.specs.Tasks.{task_at}
 use Rattle.plan.specs.declared.Plan.{Plan}
 use Rattle.listing.specs.declared.Note.{Note}
 use Rattle.listing.specs.Text.{Wrote}
 use Rattle.listing.specs.Papers.{Paper, refused, written, note_of, left}
 use Rattle.listing.specs.Listing.{spelling}
-use Rattle.listing.specs.Why.{piecesIn, noRoomLine, whyText, unlessBad, whyPaper, whyRun, rowSeats, whyRow, wholeSeat, whyStuck, whyAsked, whyOf}
-use Rattle.listing.specs.ways.SeatArrays.{seatsLaid, titledIn, frontOf}
+use Rattle.listing.specs.Why.{pieces_in, no_room_line, why_text, unless_bad, why_paper, why_run, row_seats, why_row, whole_seat, why_stuck, why_asked, why_of}
+use Rattle.listing.specs.Ways.SeatArrays.{seats_laid, titled_in, front_of}
 use Rattle.listing.proofs.TextLaws.{over-whole, over-short, first-pass}
 use Rattle.listing.proofs.SeatLaws.{titled-pieces, titled-take, run-paper, seats-paper}
 use Rattle.listing.proofs.WhyPlacedLaws.{asked-inside}
@@ -47,49 +47,49 @@ use Rattle.listing.proofs.WhyPlacedLaws.{asked-inside}
 -- ---- by the check
 
 module _ (c : Costs) (n : ℕ) (ps : List Piece) where
-  pub showing-shows : (s : Shown) → showingOf c n ps ≡ Shows s → (checkRun c n ps ≡ Fine) × (s ≡ shownOf c (take n ps))
-  unfolding showingOf
-  showing-shows s = by (checkRun c n ps) refl
+  pub showing-shows : (s : Shown) → showing_of c n ps ≡ Shows s → (check_run c n ps ≡ Fine) × (s ≡ shown_of c (take n ps))
+  unfolding showing_of
+  showing-shows s = by (check_run c n ps) refl
     where
-      by : (k : Check) → checkRun c n ps ≡ k → showing k (shownOf c (take n ps)) ≡ Shows s → (checkRun c n ps ≡ Fine) × (s ≡ shownOf c (take n ps))
-      by Fine fine e = (fine, sym (let same : Shows (shownOf c (take n ps)) ≡ Shows s = e in cc))
+      by : (k : Check) → check_run c n ps ≡ k → showing k (shown_of c (take n ps)) ≡ Shows s → (check_run c n ps ≡ Fine) × (s ≡ shown_of c (take n ps))
+      by Fine fine e = (fine, sym (let same : Shows (shown_of c (take n ps)) ≡ Shows s = e in cc))
       by (Bad r) bad e = absurd (let z : ◌≡◌ {A = ℕ} 0 1 = cc in omega arith)
 
-  pub showing-unshown : (r : Refusal) → showingOf c n ps ≡ Unshown r → checkRun c n ps ≡ Bad r
-  unfolding showingOf
-  showing-unshown r = by (checkRun c n ps) refl
+  pub showing-unshown : (r : Refusal) → showing_of c n ps ≡ Unshown r → check_run c n ps ≡ Bad r
+  unfolding showing_of
+  showing-unshown r = by (check_run c n ps) refl
     where
-      by : (k : Check) → checkRun c n ps ≡ k → showing k (shownOf c (take n ps)) ≡ Unshown r → checkRun c n ps ≡ Bad r
+      by : (k : Check) → check_run c n ps ≡ k → showing k (shown_of c (take n ps)) ≡ Unshown r → check_run c n ps ≡ Bad r
       by Fine fine e = absurd (let z : ◌≡◌ {A = ℕ} 0 1 = cc in omega arith)
       by (Bad q) bad e = bad ∙ ap Bad (let same : Unshown q ≡ Unshown r = e in cc)
 
 -- ---- the paper
 
 module _ (f : List ℕ) (c : Costs) (n : ℕ) (b : Bool) (ts : List Task) (ks a : List ℕ) where
-  pieces-all : piecesIn (titledIn b ts ks a runMost) ≡ recordsOf a
-  unfolding recordsOf
-  pieces-all = titled-pieces b ts ks a runMost
+  pieces-all : pieces_in (titled_in b ts ks a run_most) ≡ records_of a
+  unfolding records_of
+  pieces-all = titled-pieces b ts ks a run_most
 
-  pub why-written : checkRun c n (recordsOf a) ≡ Fine → whyPaper f c n (titledIn b ts ks a runMost) ≡ written (f ++ whyText c (titledIn b ts ks a n))
-  unfolding whyPaper
+  pub why-written : check_run c n (records_of a) ≡ Fine → why_paper f c n (titled_in b ts ks a run_most) ≡ written (f ++ why_text c (titled_in b ts ks a n))
+  unfolding why_paper
   why-written fine =
-      let few : n ≤ runMost = (check-taken c n (recordsOf a) fine).few in
+      let few : n ≤ run_most = (check-taken c n (records_of a) fine).few in
       rw (pieces-all, fine, titled-take b ts ks a n few)
 
-  pub why-barred : (r : Refusal) → checkRun c n (recordsOf a) ≡ Bad r → (room : ℕ) (old : List ℕ)
-      → (note_of (unlessBad (Bad r) (written [])) 0 ≡ note_of (whyPaper f c n (titledIn b ts ks a runMost)) room)
-      × (old ≡ left (whyPaper f c n (titledIn b ts ks a runMost)) old)
-      × ((note_of (unlessBad (Bad r) (written [])) 0).number ≤ 10) × ((note_of (unlessBad (Bad r) (written [])) 0).carries ≤ lengthMost)
-  unfolding whyPaper
+  pub why-barred : (r : Refusal) → check_run c n (records_of a) ≡ Bad r → (room : ℕ) (old : List ℕ)
+      → (note_of (unless_bad (Bad r) (written [])) 0 ≡ note_of (why_paper f c n (titled_in b ts ks a run_most)) room)
+      × (old ≡ left (why_paper f c n (titled_in b ts ks a run_most)) old)
+      × ((note_of (unless_bad (Bad r) (written [])) 0).number ≤ 10) × ((note_of (unless_bad (Bad r) (written [])) 0).carries ≤ length_most)
+  unfolding why_paper
   why-barred r bad room old =
-      let small : (told (Refused r)).carries ≤ lengthMost =
-      subst (λ (x : Answer). (told x).carries ≤ lengthMost) (answer-bad c n (recordsOf a) r bad) (answer-carries c n (recordsOf a)) in
+      let small : (told (Refused r)).carries ≤ length_most =
+      subst (λ (x : Answer). (told x).carries ≤ length_most) (answer-bad c n (records_of a) r bad) (answer-carries c n (records_of a)) in
       rw (pieces-all, bad) (by r small)
     where
-      by : (r : Refusal) → (told (Refused r)).carries ≤ lengthMost
-          → (note_of (unlessBad (Bad r) (written [])) 0 ≡ note_of (unlessBad (Bad r) (written (f ++ whyText c (take n (titledIn b ts ks a runMost))))) room)
-          × (old ≡ left (unlessBad (Bad r) (written (f ++ whyText c (take n (titledIn b ts ks a runMost))))) old)
-          × ((note_of (unlessBad (Bad r) (written [])) 0).number ≤ 10) × ((note_of (unlessBad (Bad r) (written [])) 0).carries ≤ lengthMost)
+      by : (r : Refusal) → (told (Refused r)).carries ≤ length_most
+          → (note_of (unless_bad (Bad r) (written [])) 0 ≡ note_of (unless_bad (Bad r) (written (f ++ why_text c (take n (titled_in b ts ks a run_most))))) room)
+          × (old ≡ left (unless_bad (Bad r) (written (f ++ why_text c (take n (titled_in b ts ks a run_most))))) old)
+          × ((note_of (unless_bad (Bad r) (written [])) 0).number ≤ 10) × ((note_of (unless_bad (Bad r) (written [])) 0).carries ≤ length_most)
       by TooMany small = (refl, refl, omega arith, omega arith)
       by BadCosts small = (refl, refl, omega arith, omega arith)
       by (BadRecord k) small = (refl, refl, omega arith, small)
@@ -116,30 +116,30 @@ module _ (p : Paper) (text old : List ℕ) (is : p ≡ written text) where
 
 -- ---- as the code comes to it
 
-pub front-none : (k : ℕ) (n : List ℕ) (m : ℕ) → k ≡ 0 → frontOf k n m ≡ []
+pub front-none : (k : ℕ) (n : List ℕ) (m : ℕ) → k ≡ 0 → front_of k n m ≡ []
 front-none k n m none = rw none
 
 pub run-asked : (f : List ℕ) → f ≡ [] → (c : Costs) (n : ℕ) (ts : List Task) (ks a : List ℕ)
-    → whyPaper f c n (titledIn false ts ks a runMost) ≡ whyRun c n (recordsOf a)
-run-asked f none c n ts ks a = ap (λ (g : List ℕ). whyPaper g c n (titledIn false ts ks a runMost)) none ∙ run-paper c n ts ks a
+    → why_paper f c n (titled_in false ts ks a run_most) ≡ why_run c n (records_of a)
+run-asked f none c n ts ks a = ap (λ (g : List ℕ). why_paper g c n (titled_in false ts ks a run_most)) none ∙ run-paper c n ts ks a
 
 module _ (p : Plan) (stuck core : ℕ) (some : 1 ≤ core) (within : core ≤ p.machine.cores) (f : List ℕ) (n : ℕ) (ks a : List ℕ) where
-  pub row-asked : stuck ≡ 0 → f ≡ [] → n ≤ runMost → seatsLaid (core - 1) ks a n ≡ rowSeats p.layout (core - 1)
-      → whyPaper f p.costs n (titledIn true p.tasks.list ks a runMost) ≡ whyOf p stuck core
-  unfolding whyRow
+  pub row-asked : stuck ≡ 0 → f ≡ [] → n ≤ run_most → seats_laid (core - 1) ks a n ≡ row_seats p.layout (core - 1)
+      → why_paper f p.costs n (titled_in true p.tasks.list ks a run_most) ≡ why_of p stuck core
+  unfolding why_row
   row-asked none front few laid =
-      ap (λ (g : List ℕ). whyPaper g p.costs n (titledIn true p.tasks.list ks a runMost)) front
-      ∙ (seats-paper [] p.costs p.tasks.list (core - 1) n ks a (rowSeats p.layout (core - 1)) few laid
-      ∙ sym (asked-inside p stuck core some within ∙ ap (λ (k : ℕ). whyAsked p k core) none))
+      ap (λ (g : List ℕ). why_paper g p.costs n (titled_in true p.tasks.list ks a run_most)) front
+      ∙ (seats-paper [] p.costs p.tasks.list (core - 1) n ks a (row_seats p.layout (core - 1)) few laid
+      ∙ sym (asked-inside p stuck core some within ∙ ap (λ (k : ℕ). why_asked p k core) none))
 
-  pub stuck-asked : (k : ℕ) → stuck ≡ suc k → f ≡ noRoomLine stuck (spelling (taskAt p.tasks.list k).name) p.machine.cores → n ≤ runMost
-      → seatsLaid (p.machine.cores - 1) ks a n ≡ rowSeats p.layout (p.machine.cores - 1) ++ (wholeSeat p.tasks.list (p.machine.cores - 1) k ∷ [])
-      → whyPaper f p.costs n (titledIn true p.tasks.list ks a runMost) ≡ whyOf p stuck core
-  unfolding whyStuck
+  pub stuck-asked : (k : ℕ) → stuck ≡ suc k → f ≡ no_room_line stuck (spelling (task_at p.tasks.list k).name) p.machine.cores → n ≤ run_most
+      → seats_laid (p.machine.cores - 1) ks a n ≡ row_seats p.layout (p.machine.cores - 1) ++ (whole_seat p.tasks.list (p.machine.cores - 1) k ∷ [])
+      → why_paper f p.costs n (titled_in true p.tasks.list ks a run_most) ≡ why_of p stuck core
+  unfolding why_stuck
   stuck-asked k is front few laid =
-      let there : f ≡ noRoomLine (k + 1) (spelling (taskAt p.tasks.list k).name) p.machine.cores =
-      front ∙ ap (λ (j : ℕ). noRoomLine j (spelling (taskAt p.tasks.list k).name) p.machine.cores) (is ∙ sym (add-one k)) in
-      ap (λ (g : List ℕ). whyPaper g p.costs n (titledIn true p.tasks.list ks a runMost)) there
-      ∙ (seats-paper (noRoomLine (k + 1) (spelling (taskAt p.tasks.list k).name) p.machine.cores) p.costs p.tasks.list
-      (p.machine.cores - 1) n ks a (rowSeats p.layout (p.machine.cores - 1) ++ (wholeSeat p.tasks.list (p.machine.cores - 1) k ∷ [])) few laid
-      ∙ sym (asked-inside p stuck core some within ∙ ap (λ (j : ℕ). whyAsked p j core) is))
+      let there : f ≡ no_room_line (k + 1) (spelling (task_at p.tasks.list k).name) p.machine.cores =
+      front ∙ ap (λ (j : ℕ). no_room_line j (spelling (task_at p.tasks.list k).name) p.machine.cores) (is ∙ sym (add-one k)) in
+      ap (λ (g : List ℕ). why_paper g p.costs n (titled_in true p.tasks.list ks a run_most)) there
+      ∙ (seats-paper (no_room_line (k + 1) (spelling (task_at p.tasks.list k).name) p.machine.cores) p.costs p.tasks.list
+      (p.machine.cores - 1) n ks a (row_seats p.layout (p.machine.cores - 1) ++ (whole_seat p.tasks.list (p.machine.cores - 1) k ∷ [])) few laid
+      ∙ sym (asked-inside p stuck core some within ∙ ap (λ (j : ℕ). why_asked p j core) is))

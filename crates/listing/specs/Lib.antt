@@ -6,4 +6,4 @@ pub mod Why
 pub mod ByteOrder
 pub mod Diff
 pub mod Placed
-pub mod ways
+pub mod Ways

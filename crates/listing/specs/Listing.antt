@@ -3,33 +3,33 @@
 --
 --   Entry                 a piece's line: core, task, kind, budget, window, jitter, charged time
 --   spelling n            the bytes of a name
---   rowPieces s q         the pieces on core q, from 0, in placement order
+--   row_pieces s q         the pieces on core q, from 0, in placement order
 --   entry_of p q s         the entry of the stored piece s on core q
---   rowEntries p q        the entries of core q
---   entriesOn p n         the entries of the first n cores: by core, then placement
+--   row_entries p q        the entries of core q
+--   entries_on p n         the entries of the first n cores: by core, then placement
 --   entries p             all entries
---   entryLine e           the line of one
---   entryLines es         the lines of all
+--   entry_line e           the line of one
+--   entry_lines es         the lines of all
 --   header t k            the first line: t tasks, k pieces
---   listingOf p           the listing
---   planWith c ts l       a plan with the costs c, the tasks ts and the layout l
---   listedOn lens n       how many places are listed on the first n cores, by the lengths of their rows
+--   listing_of p           the listing
+--   plan_with c ts l       a plan with the costs c, the tasks ts and the layout l
+--   listed_on lens n       how many places are listed on the first n cores, by the lengths of their rows
 use Rattle.std.specs.Prelude.{List, [], ◌∷◌, ◌++◌, map, ℕ, zero, suc, ◌+◌, ◌*◌, min, take, drop, get_or}
 use Rattle.demand.specs.declared.Costs.{Costs}
 use Rattle.demand.specs.declared.Kind.{Kind}
 use Rattle.demand.specs.declared.Kind.TheVariants.{Whole, First, Last}
 use Rattle.demand.specs.Kinds.{kind_of}
-use Rattle.demand.specs.Answer.{chargedTime}
+use Rattle.demand.specs.Answer.{charged_time}
 use Rattle.task.specs.declared.Name.{Name}
 use Rattle.task.specs.declared.Tasks.{Tasks}
-use Rattle.task.specs.Tasks.{taskAt, coresMost}
+use Rattle.task.specs.Tasks.{task_at, cores_most}
 use Rattle.plan.specs.declared.Stored.{Stored}
 use Rattle.plan.specs.declared.Layout.{Layout}
 use Rattle.plan.specs.declared.Plan.{Plan}
-use Rattle.plan.specs.Sizes.{rowMost}
-use Rattle.plan.specs.Layout.{keptPiece, blank}
+use Rattle.plan.specs.Sizes.{row_most}
+use Rattle.plan.specs.Layout.{kept_piece, blank}
 use Rattle.lines.specs.Lines.{bytes_of}
-use Rattle.listing.specs.Text.{textLine, decimal}
+use Rattle.listing.specs.Text.{text_line, decimal}
 
 pub record Entry : Type 0 where
   pub core : ℕ
@@ -45,66 +45,66 @@ pub record Entry : Type 0 where
 abbrev pub spelling : Name → List ℕ
 spelling n = take n.len n.bytes
 
-unfoldable pub rowPieces : Layout → ℕ → List Stored
-rowPieces s q = map (λ i. get_or s.pieces i blank) (take (get_or s.lens q 0) (take rowMost (drop (q * rowMost) s.rows)))
+unfoldable pub row_pieces : Layout → ℕ → List Stored
+row_pieces s q = map (λ i. get_or s.pieces i blank) (take (get_or s.lens q 0) (take row_most (drop (q * row_most) s.rows)))
 
 -- the stored piece s on core q, of a task named n, at the costs c
-abbrev pub entryWith : Costs → ℕ → List ℕ → Stored → Entry
-entryWith c q n s = record {
+abbrev pub entry_with : Costs → ℕ → List ℕ → Stored → Entry
+entry_with c q n s = record {
   core = q + 1;
   task = n;
   kind = kind_of s.kind;
   budget = s.budget;
   window = s.window;
   jitter = s.jitter;
-  charged = chargedTime c (keptPiece s);
+  charged = charged_time c (kept_piece s);
 }
 
 unfoldable pub entry_of : Plan → ℕ → Stored → Entry
-entry_of p q s = entryWith p.costs q (spelling (taskAt p.tasks.list s.task).name) s
+entry_of p q s = entry_with p.costs q (spelling (task_at p.tasks.list s.task).name) s
 
-abbrev pub rowEntries : Plan → ℕ → List Entry
-rowEntries p q = map (entry_of p q) (rowPieces p.layout q)
+abbrev pub row_entries : Plan → ℕ → List Entry
+row_entries p q = map (entry_of p q) (row_pieces p.layout q)
 
-abbrev pub entriesOn : Plan → ℕ → List Entry
-entriesOn p zero = []
-entriesOn p (suc q) = entriesOn p q ++ rowEntries p q
+abbrev pub entries_on : Plan → ℕ → List Entry
+entries_on p zero = []
+entries_on p (suc q) = entries_on p q ++ row_entries p q
 
 abbrev pub entries : Plan → List Entry
-entries p = entriesOn p coresMost
+entries p = entries_on p cores_most
 
 -- ---- how it is written
 
-abbrev pub kindWord : Kind → List ℕ
-kindWord Whole = bytes_of "whole"
-kindWord First = bytes_of "first"
-kindWord Last = bytes_of "last"
+abbrev pub kind_word : Kind → List ℕ
+kind_word Whole = bytes_of "whole"
+kind_word First = bytes_of "first"
+kind_word Last = bytes_of "last"
 
 -- the figures that end a piece's line
-abbrev pub figuresLine : (budget window jitter charged : ℕ) → List ℕ
-figuresLine b w j c = textLine (decimal b ∷ decimal w ∷ decimal j ∷ decimal c ∷ [])
+abbrev pub figures_line : (budget window jitter charged : ℕ) → List ℕ
+figures_line b w j c = text_line (decimal b ∷ decimal w ∷ decimal j ∷ decimal c ∷ [])
 
-unfoldable pub entryLine : Entry → List ℕ
-entryLine e =
-    textLine (bytes_of "piece" ∷ decimal e.core ∷ e.task ∷ kindWord e.kind
+unfoldable pub entry_line : Entry → List ℕ
+entry_line e =
+    text_line (bytes_of "piece" ∷ decimal e.core ∷ e.task ∷ kind_word e.kind
     ∷ decimal e.budget ∷ decimal e.window ∷ decimal e.jitter ∷ decimal e.charged ∷ [])
 
-abbrev pub entryLines : List Entry → List ℕ
-entryLines [] = []
-entryLines (e ∷ es) = entryLine e ++ entryLines es
+abbrev pub entry_lines : List Entry → List ℕ
+entry_lines [] = []
+entry_lines (e ∷ es) = entry_line e ++ entry_lines es
 
 unfoldable pub header : (tasks pieces : ℕ) → List ℕ
-header t k = textLine (bytes_of "plan" ∷ decimal t ∷ decimal k ∷ [])
+header t k = text_line (bytes_of "plan" ∷ decimal t ∷ decimal k ∷ [])
 
-unfoldable pub listingOf : Plan → List ℕ
-listingOf p = header p.tasks.count p.layout.count ++ entryLines (entries p)
+unfoldable pub listing_of : Plan → List ℕ
+listing_of p = header p.tasks.count p.layout.count ++ entry_lines (entries p)
 
 -- ---- what the writer goes by
 
 -- the machine is not listed
-abbrev pub planWith : Costs → Tasks → Layout → Plan
-planWith c ts l = record { machine = record { cores = 0; grain = 0 }; costs = c; tasks = ts; layout = l }
+abbrev pub plan_with : Costs → Tasks → Layout → Plan
+plan_with c ts l = record { machine = record { cores = 0; grain = 0 }; costs = c; tasks = ts; layout = l }
 
-unfoldable pub listedOn : List ℕ → ℕ → ℕ
-listedOn lens zero = 0
-listedOn lens (suc q) = listedOn lens q + min (get_or lens q 0) rowMost
+unfoldable pub listed_on : List ℕ → ℕ → ℕ
+listed_on lens zero = 0
+listed_on lens (suc q) = listed_on lens q + min (get_or lens q 0) row_most

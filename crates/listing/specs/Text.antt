@@ -1,7 +1,7 @@
 -- Text as bytes, and what a writer leaves in a lent buffer: document 01, "Sheet".
 --
---   endedBy b f             the bytes f, ended by the byte b
---   textLine fs             the fields fs, parted by tabs, ended by a newline
+--   ended_by b f             the bytes f, ended by the byte b
+--   text_line fs             the fields fs, parted by tabs, ended by a newline
 --   decimal n             the digits of n, as far as 64 bits go
 --   Wrote old at vs r new vs is written from the place `at` on, as far as the buffer goes, and r is the place behind it
 --   over text old         what a buffer holds after a text: the text and then what it held, or what it held where it is too short
@@ -9,21 +9,21 @@ use Rattle.std.specs.Prelude.{◌≡◌, cond, List, [], ◌∷◌, ◌++◌, �
 use Rattle.std.proofs.lemmas.List.Edits.{sets}
 use Rattle.lines.specs.Lines.{newline, tab}
 
-abbrev pub endedBy : ℕ → List ℕ → List ℕ
-endedBy b f = f ++ (b ∷ [])
+abbrev pub ended_by : ℕ → List ℕ → List ℕ
+ended_by b f = f ++ (b ∷ [])
 
-abbrev pub textLine : List (List ℕ) → List ℕ
-textLine [] = newline ∷ []
-textLine (f ∷ []) = endedBy newline f
-textLine (f ∷ g ∷ fs) = endedBy tab f ++ textLine (g ∷ fs)
+abbrev pub text_line : List (List ℕ) → List ℕ
+text_line [] = newline ∷ []
+text_line (f ∷ []) = ended_by newline f
+text_line (f ∷ g ∷ fs) = ended_by tab f ++ text_line (g ∷ fs)
 
 -- the digits of n, at most k of them, in front of those that stand
-unfoldable pub digitsOnto : ℕ → ℕ → List ℕ → List ℕ
-digitsOnto zero n ds = ds
-digitsOnto (suc k) n ds = cond (ltb n 10) ((48 + n) ∷ ds) (digitsOnto k (n / 10) ((48 + n % 10) ∷ ds))
+unfoldable pub digits_onto : ℕ → ℕ → List ℕ → List ℕ
+digits_onto zero n ds = ds
+digits_onto (suc k) n ds = cond (ltb n 10) ((48 + n) ∷ ds) (digits_onto k (n / 10) ((48 + n % 10) ∷ ds))
 
 abbrev pub decimal : ℕ → List ℕ
-decimal n = digitsOnto 20 n []
+decimal n = digits_onto 20 n []
 
 pub record Wrote (old : List ℕ) (at : ℕ) (vs : List ℕ) (r : ℕ) (new : List ℕ) : Type 0 where
   pub place : r ≡ at + length vs

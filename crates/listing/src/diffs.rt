@@ -1,12 +1,12 @@
 // Two plans side by side, written into a lent buffer: document 02, E3.
 ghost use Rattle.std.specs.Prelude.{[], ◌∷◌, ◌++◌, ◌≡◌, ◌+◌, ◌*◌, ◌≤◌, ◌<◌, eqb, length};
 ghost use Rattle.demand.specs.Sizes.{Each};
-ghost use Rattle.task.specs.Tasks.{tasksMost, coresMost};
-ghost use Rattle.plan.specs.ways.PlacedArray.{placedIn};
-ghost use Rattle.listing.specs.Text.{Wrote, textLine, decimal};
+ghost use Rattle.task.specs.Tasks.{tasks_most, cores_most};
+ghost use Rattle.plan.specs.Ways.PlacedArray.{placed_in};
+ghost use Rattle.listing.specs.Text.{Wrote, text_line, decimal};
 ghost use Rattle.listing.specs.Listing.{spelling};
-ghost use Rattle.listing.specs.Diff.{ofItem, diffLine, diffLines, diffHead};
-ghost use Rattle.listing.specs.ways.RankArrays.{standsMost, ranksMost, nameWith, under, rankBlock, rankBlocks, rankedBelow, figuresOf};
+ghost use Rattle.listing.specs.Diff.{of_item, diff_line, diff_lines, diff_head};
+ghost use Rattle.listing.specs.Ways.RankArrays.{stands_most, ranks_most, name_with, under, rank_block, rank_blocks, ranked_below, figures_of};
 
 use crate::names::name_with;
 use crate::stands::{alike, of_rank, rank_at, ranked_at};
@@ -18,7 +18,7 @@ use task::{Name, TASKS_MOST, Tasks};
 // The figures of a piece, to the line's end: budget, window, period, jitter, P, M.
 fn put_all_figures(buf: &mut [u8], at: usize, piece: Piece) -> usize
     requires { at ≤ 850000 }
-    ensures { (Wrote buf.old at (textLine (figuresOf piece)) result buf.new) × (result ≤ at + 126) }
+    ensures { (Wrote buf.old at (text_line (figures_of piece)) result buf.new) × (result ≤ at + 126) }
 {
     let a = put_number(buf, at, piece.budget, 9);
     let b = put_number(buf, a, piece.window, 9);
@@ -30,8 +30,8 @@ fn put_all_figures(buf: &mut [u8], at: usize, piece: Piece) -> usize
 
 // The line of a piece, under a word and a name.
 fn put_stand<'a>(buf: &'a mut [u8], at: usize, word: &'a [u8], name: Name, e: Ranked) -> usize
-    requires { (at ≤ 800000) × (length word.now ≤ 5) × (e.core < coresMost) }
-    ensures { (Wrote buf.old at (diffLine word.now (record { on = e.core; item = spelling name; piece = e.piece })) result buf.new) × (result ≤ at + 184) }
+    requires { (at ≤ 800000) × (length word.now ≤ 5) × (e.core < cores_most) }
+    ensures { (Wrote buf.old at (diff_line word.now (record { on = e.core; item = spelling name; piece = e.piece })) result buf.new) × (result ≤ at + 184) }
 {
     let piece = e.piece;
     let kind = piece.kind;
@@ -53,8 +53,8 @@ fn put_stands<'a>(
     stands: &'a [u64; STAND_NUMBERS],
     n: usize,
 ) -> usize
-    requires { (at + 184 * n ≤ 800000) × (length word.now ≤ 5) × (n ≤ standsMost) × Each (λ e. e.on < coresMost) (placedIn stands.now n) }
-    ensures { (Wrote buf.old at (diffLines word.now (under (spelling name) (ofItem eqb rank (placedIn stands.now n)))) result buf.new) × (result ≤ at + 184 * length (ofItem eqb rank (placedIn stands.now n))) }
+    requires { (at + 184 * n ≤ 800000) × (length word.now ≤ 5) × (n ≤ stands_most) × Each (λ e. e.on < cores_most) (placed_in stands.now n) }
+    ensures { (Wrote buf.old at (diff_lines word.now (under (spelling name) (of_item eqb rank (placed_in stands.now n)))) result buf.new) × (result ≤ at + 184 * length (of_item eqb rank (placed_in stands.now n))) }
 {
     let mut k = at;
     let mut i: usize = 0;
@@ -81,8 +81,8 @@ fn put_moved<'a>(
     others: &'a [u64; STAND_NUMBERS],
     m: usize,
 ) -> usize
-    requires { (at + 184 * n + 184 * m ≤ 800000) × (n ≤ standsMost) × (m ≤ standsMost) × Each (λ e. e.on < coresMost) (placedIn stands.now n) × Each (λ e. e.on < coresMost) (placedIn others.now m) }
-    ensures { (Wrote buf.old at (rankBlock (spelling name) rank (placedIn stands.now n) (placedIn others.now m)) result buf.new) × (result ≤ at + 184 * length (ofItem eqb rank (placedIn stands.now n)) + 184 * length (ofItem eqb rank (placedIn others.now m))) }
+    requires { (at + 184 * n + 184 * m ≤ 800000) × (n ≤ stands_most) × (m ≤ stands_most) × Each (λ e. e.on < cores_most) (placed_in stands.now n) × Each (λ e. e.on < cores_most) (placed_in others.now m) }
+    ensures { (Wrote buf.old at (rank_block (spelling name) rank (placed_in stands.now n) (placed_in others.now m)) result buf.new) × (result ≤ at + 184 * length (of_item eqb rank (placed_in stands.now n)) + 184 * length (of_item eqb rank (placed_in others.now m))) }
 {
     if of_rank(stands, n, rank) == 0 {
         return put_stands(buf, at, b"only2", name, rank, others, m);
@@ -96,7 +96,7 @@ fn put_moved<'a>(
 
 // The first line, with how many tasks each plan has.
 fn put_diff_head(buf: &mut [u8], tasks: usize, more: usize) -> usize
-    ensures { (Wrote buf.old 0 (diffHead tasks more) result buf.new) × (result ≤ 47) }
+    ensures { (Wrote buf.old 0 (diff_head tasks more) result buf.new) × (result ≤ 47) }
 {
     let a = put_bytes(buf, 0, b"diff", 9);
     let b = put_number(buf, a, wide(tasks), 9);
@@ -115,8 +115,8 @@ pub fn put_diff<'a>(
     rest: &'a [u64; STAND_NUMBERS],
     m: usize,
 ) -> usize
-    requires { (n ≤ standsMost) × (m ≤ standsMost) × Each (λ e. e.on < coresMost) (placedIn stands.now n) × Each (λ e. e.on < coresMost) (placedIn rest.now m) × (length ranks.now ≡ tasksMost) × (length others.now ≡ tasksMost) }
-    ensures { (Wrote buf.old 0 (diffHead tasks.count more.count ++ rankBlocks (λ k. nameWith k ranks.now tasks.list others.now more.list) (placedIn stands.now n) (placedIn rest.now m) ranksMost) result buf.new) × (result ≤ 47 + 184 * n + 184 * m) }
+    requires { (n ≤ stands_most) × (m ≤ stands_most) × Each (λ e. e.on < cores_most) (placed_in stands.now n) × Each (λ e. e.on < cores_most) (placed_in rest.now m) × (length ranks.now ≡ tasks_most) × (length others.now ≡ tasks_most) }
+    ensures { (Wrote buf.old 0 (diff_head tasks.count more.count ++ rank_blocks (λ k. name_with k ranks.now tasks.list others.now more.list) (placed_in stands.now n) (placed_in rest.now m) ranks_most) result buf.new) × (result ≤ 47 + 184 * n + 184 * m) }
 {
     let mut k = put_diff_head(buf, tasks.count, more.count);
     let mut rank: usize = 0;

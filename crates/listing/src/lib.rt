@@ -7,17 +7,17 @@ mod texts;
 mod whys;
 
 ghost use Rattle.std.specs.Prelude.{cond, [], ◌∷◌, ◌≡◌, ◌+◌, ◌*◌, ◌≤◌, ◌<◌, ltb, length};
-ghost use Rattle.demand.specs.Records.{recordsOf};
-ghost use Rattle.demand.specs.Sizes.{lengthMost};
-ghost use Rattle.task.specs.Tasks.{tasksMost, coresMost, noTimes};
-ghost use Rattle.plan.specs.Sizes.{piecesMost, rowMost};
+ghost use Rattle.demand.specs.Records.{records_of};
+ghost use Rattle.demand.specs.Sizes.{length_most};
+ghost use Rattle.task.specs.Tasks.{tasks_most, cores_most, no_times};
+ghost use Rattle.plan.specs.Sizes.{pieces_most, row_most};
 ghost use Rattle.plan.specs.Layout.{blank};
 ghost use Rattle.lines.specs.Lines.{bytes_of};
-ghost use Rattle.listing.specs.Text.{Wrote, endedBy, textLine, decimal, over};
-ghost use Rattle.listing.specs.Listing.{spelling, kindWord, figuresLine, entryWith, listingOf, planWith, listedOn, entryLine};
+ghost use Rattle.listing.specs.Text.{Wrote, ended_by, text_line, decimal, over};
+ghost use Rattle.listing.specs.Listing.{spelling, kind_word, figures_line, entry_with, listing_of, plan_with, listed_on, entry_line};
 ghost use Rattle.listing.specs.Papers.{note_of, left};
-ghost use Rattle.listing.specs.Why.{whyRun, whyOf};
-ghost use Rattle.listing.specs.Diff.{diffOf};
+ghost use Rattle.listing.specs.Why.{why_run, why_of};
+ghost use Rattle.listing.specs.Diff.{diff_of};
 
 use demand::{Costs, Kind, Piece, RUN_MOST, RUN_NUMBERS, charged_time};
 use diffs::put_diff;
@@ -58,7 +58,7 @@ pub struct Note {
 // A kind's word, ended by a tab.
 fn put_kind(buf: &mut [u8], at: usize, kind: Kind) -> usize
     requires { at < 900000 }
-    ensures { (Wrote buf.old at (endedBy 9 (kindWord kind)) result buf.new) × (result ≤ at + 6) }
+    ensures { (Wrote buf.old at (ended_by 9 (kind_word kind)) result buf.new) × (result ≤ at + 6) }
 {
     match kind {
         Kind::Whole => put_bytes(buf, at, b"whole", 9),
@@ -80,7 +80,7 @@ fn within(place: usize, top: usize) -> usize
 
 // The stored piece with a number; the zeros that fill a plan, where it has none.
 fn numbered(number: usize, stored: Stored) -> Stored
-    ensures { result ≡ cond (ltb number piecesMost) stored blank }
+    ensures { result ≡ cond (ltb number pieces_most) stored blank }
 {
     if number < PIECES_MOST {
         return stored;
@@ -99,7 +99,7 @@ fn numbered(number: usize, stored: Stored) -> Stored
 
 // The name of the task at a place; an empty one past the list.
 fn named(place: usize, name: Name) -> Name
-    ensures { spelling result ≡ cond (ltb place tasksMost) (spelling name) [] }
+    ensures { spelling result ≡ cond (ltb place tasks_most) (spelling name) [] }
 {
     if place < TASKS_MOST {
         return name;
@@ -112,7 +112,7 @@ fn named(place: usize, name: Name) -> Name
 
 // The times of the task at a place; zeros past the list.
 fn timed(place: usize, times: Times) -> Times
-    ensures { result ≡ cond (ltb place tasksMost) times noTimes }
+    ensures { result ≡ cond (ltb place tasks_most) times no_times }
 {
     if place < TASKS_MOST {
         return times;
@@ -129,7 +129,7 @@ fn wide(n: usize) -> u64
 // A piece's figures, to the line's end: budget, window, jitter, charged time.
 fn put_figures(buf: &mut [u8], at: usize, stored: Stored, charged: u64) -> usize
     requires { at ≤ 800000 }
-    ensures { (Wrote buf.old at (figuresLine stored.budget stored.window stored.jitter charged) result buf.new) × (result ≤ at + 84) }
+    ensures { (Wrote buf.old at (figures_line stored.budget stored.window stored.jitter charged) result buf.new) × (result ≤ at + 84) }
 {
     let a = put_number(buf, at, stored.budget, 9);
     let b = put_number(buf, a, stored.window, 9);
@@ -146,8 +146,8 @@ fn put_piece(
     stored: Stored,
     costs: Costs,
 ) -> usize
-    requires { (at ≤ 700000) × (core < coresMost) }
-    ensures { (Wrote buf.old at (entryLine (entryWith costs core (spelling name) stored)) result buf.new) × (result ≤ at + 142) }
+    requires { (at ≤ 700000) × (core < cores_most) }
+    ensures { (Wrote buf.old at (entry_line (entry_with costs core (spelling name) stored)) result buf.new) × (result ≤ at + 142) }
 {
     let piece = stored_piece(stored);
     let kind = piece.kind;
@@ -161,7 +161,7 @@ fn put_piece(
 
 // How many places of a row are listed.
 fn seats(n: usize) -> usize
-    ensures { (result ≤ n) × (result ≤ rowMost) × (result < n → result ≡ rowMost) }
+    ensures { (result ≤ n) × (result ≤ row_most) × (result < n → result ≡ row_most) }
 {
     if n < ROW_MOST {
         return n;
@@ -171,7 +171,7 @@ fn seats(n: usize) -> usize
 
 // The first line, with how many tasks and pieces there are.
 fn put_header(buf: &mut [u8], tasks: usize, pieces: usize) -> usize
-    ensures { (Wrote buf.old 0 (textLine (bytes_of "plan" ∷ decimal tasks ∷ decimal pieces ∷ [])) result buf.new) × (result ≤ 47) }
+    ensures { (Wrote buf.old 0 (text_line (bytes_of "plan" ∷ decimal tasks ∷ decimal pieces ∷ [])) result buf.new) × (result ≤ 47) }
 {
     let a = put_bytes(buf, 0, b"plan", 9);
     let b = put_number(buf, a, wide(tasks), 9);
@@ -180,7 +180,7 @@ fn put_header(buf: &mut [u8], tasks: usize, pieces: usize) -> usize
 
 // All lines, the first and then each place of each core after another; the place behind them.
 fn put_plan(buf: &mut [u8], costs: Costs, tasks: Tasks, layout: Layout) -> usize
-    ensures { (Wrote buf.old 0 (listingOf (planWith costs tasks layout)) result buf.new) × (result ≤ 47 + 142 * listedOn layout.lens coresMost) }
+    ensures { (Wrote buf.old 0 (listing_of (plan_with costs tasks layout)) result buf.new) × (result ≤ 47 + 142 * listed_on layout.lens cores_most) }
 {
     let mut k = put_header(buf, tasks.count, layout.count);
     let mut core: usize = 0;
@@ -206,7 +206,7 @@ fn put_plan(buf: &mut [u8], costs: Costs, tasks: Tasks, layout: Layout) -> usize
 
 // As many bytes as the listing of rows of these lengths may have.
 fn most_bytes(lens: [usize; CORES_MOST]) -> usize
-    ensures { result ≡ 47 + 142 * listedOn lens coresMost }
+    ensures { result ≡ 47 + 142 * listed_on lens cores_most }
 {
     let mut most: usize = 47;
     let mut core: usize = 0;
@@ -219,7 +219,7 @@ fn most_bytes(lens: [usize; CORES_MOST]) -> usize
 
 /// The listing's length, at most 160,047. It is written where the buffer is that long, and the bytes beyond it stay; else no byte is written.
 pub fn write_listing(plan: Plan, buf: &mut [u8]) -> usize
-    ensures exact { (result ≡ length (listingOf plan)) × (buf.new ≡ over (listingOf plan) buf.old) × (result ≤ 160047) }
+    ensures exact { (result ≡ length (listing_of plan)) × (buf.new ≡ over (listing_of plan) buf.old) × (result ≤ 160047) }
 {
     let lens = plan.layout.lens;
     if most_bytes(lens) <= buf.len() {
@@ -251,7 +251,7 @@ pub fn why_run<'a>(
     count: usize,
     buf: &'a mut [u8],
 ) -> Note
-    ensures exact { (result ≡ note_of (whyRun costs count (recordsOf records.now)) (length buf.old)) × (buf.new ≡ left (whyRun costs count (recordsOf records.now)) buf.old) × (result.number ≤ 10) × (result.carries ≤ lengthMost) }
+    ensures exact { (result ≡ note_of (why_run costs count (records_of records.now)) (length buf.old)) × (buf.new ≡ left (why_run costs count (records_of records.now)) buf.old) × (result.number ≤ 10) × (result.carries ≤ length_most) }
 {
     let places: [usize; RUN_MOST] = [0; RUN_MOST];
     let tasks = Tasks {
@@ -265,7 +265,7 @@ pub fn why_run<'a>(
 /// The same of a core, from 1, of a plan, its pieces called by the names of their tasks: first 1 where the machine has no such core, then as a run of these pieces is refused. Where `stuck` is not 0, the
 /// task at that place, from 1, found no room: then it is the last core, whichever was asked for, with the whole task added, and a line in front tells of it.
 pub fn why_plan(plan: Plan, stuck: usize, core: usize, buf: &mut [u8]) -> Note
-    ensures exact { (result ≡ note_of (whyOf plan stuck core) (length buf.old)) × (buf.new ≡ left (whyOf plan stuck core) buf.old) × (result.number ≤ 10) × (result.carries ≤ lengthMost) }
+    ensures exact { (result ≡ note_of (why_of plan stuck core) (length buf.old)) × (buf.new ≡ left (why_of plan stuck core) buf.old) × (result.number ≤ 10) × (result.carries ≤ length_most) }
 {
     let machine = plan.machine;
     let cores = machine.cores;
@@ -309,7 +309,7 @@ pub fn why_plan(plan: Plan, stuck: usize, core: usize, buf: &mut [u8]) -> Note
 /// The length of the listing that shows two plans side by side, at most 376,879: by name in byte order, what is in one of them alone or not alike in both. It is written where the buffer is that long, and
 /// the bytes beyond it stay; else no byte is written.
 pub fn write_diff(first: Plan, second: Plan, buf: &mut [u8]) -> usize
-    ensures exact { (result ≡ length (diffOf first second)) × (buf.new ≡ over (diffOf first second) buf.old) × (result ≤ 376879) }
+    ensures exact { (result ≡ length (diff_of first second)) × (buf.new ≡ over (diff_of first second) buf.old) × (result ≤ 376879) }
 {
     let tasks = first.tasks;
     let more = second.tasks;

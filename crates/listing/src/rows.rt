@@ -1,9 +1,9 @@
 // The pieces of a core, laid out to be written: their records, and beside them the places of their tasks.
 ghost use Rattle.std.specs.Prelude.{◌≡◌, ◌*◌, ◌≤◌, ◌<◌, length};
-ghost use Rattle.demand.specs.Sizes.{runMost};
-ghost use Rattle.plan.specs.Sizes.{rowMost};
-ghost use Rattle.listing.specs.Why.{rowSeats};
-ghost use Rattle.listing.specs.ways.SeatArrays.{SeatLaid, seatsLaid};
+ghost use Rattle.demand.specs.Sizes.{run_most};
+ghost use Rattle.plan.specs.Sizes.{row_most};
+ghost use Rattle.listing.specs.Why.{row_seats};
+ghost use Rattle.listing.specs.Ways.SeatArrays.{SeatLaid, seats_laid};
 
 use crate::{numbered, seats, within};
 use demand::{Piece, RUN_MOST, RUN_NUMBERS, put_record};
@@ -18,7 +18,7 @@ pub fn lay_seat<'a>(
     place: usize,
     piece: Piece,
 )
-    requires { (i < runMost) × (length records.old ≡ 7 * runMost) × (length places.old ≡ runMost) }
+    requires { (i < run_most) × (length records.old ≡ 7 * run_most) × (length places.old ≡ run_most) }
     ensures { SeatLaid places.old records.old i place piece places.new records.new }
 {
     put_record(records, i, piece);
@@ -32,8 +32,8 @@ pub fn lay_seats<'a>(
     layout: Layout,
     core: usize,
 ) -> usize
-    requires { (length records.old ≡ 7 * runMost) × (length places.old ≡ runMost) }
-    ensures { (seatsLaid core places.new records.new result ≡ rowSeats layout core) × (result ≤ rowMost) × (length records.new ≡ 7 * runMost) × (length places.new ≡ runMost) }
+    requires { (length records.old ≡ 7 * run_most) × (length places.old ≡ run_most) }
+    ensures { (seats_laid core places.new records.new result ≡ row_seats layout core) × (result ≤ row_most) × (length records.new ≡ 7 * run_most) × (length places.new ≡ run_most) }
 {
     if CORES_MOST <= core {
         return 0;

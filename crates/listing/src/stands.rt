@@ -1,11 +1,11 @@
 // What a plan places, in one lent array of numbers, nine to a piece, called by the ranks of its names: laid out once, then compared with another plan's.
 // An array lent to a function has one length, so that `plan`, which lays out what a walk places in the same way, cannot share its reader and writer.
 ghost use Rattle.std.specs.Prelude.{map, ◌≡◌, ◌*◌, ◌≤◌, ◌<◌, eqb, length, get_or};
-ghost use Rattle.task.specs.Tasks.{tasksMost, coresMost};
-ghost use Rattle.plan.specs.ways.PlacedArray.{seatOf, placed_at, placedIn};
+ghost use Rattle.task.specs.Tasks.{tasks_most, cores_most};
+ghost use Rattle.plan.specs.Ways.PlacedArray.{seat_of, placed_at, placed_in};
 ghost use Rattle.lines.specs.Lines.{every};
-ghost use Rattle.listing.specs.Diff.{samePiece, samePlaced, often, ofItem, asOften, alike, seatsOn};
-ghost use Rattle.listing.specs.ways.RankArrays.{standsMost, rankedBy, PutRanked};
+ghost use Rattle.listing.specs.Diff.{same_piece, same_placed, often, of_item, as_often, alike, seats_on};
+ghost use Rattle.listing.specs.Ways.RankArrays.{stands_most, ranked_by, PutRanked};
 
 use crate::{Ranked, STAND_NUMBERS, numbered, seats, wide, within};
 use demand::{Piece, kind_number, kind_of};
@@ -20,7 +20,7 @@ fn narrow(n: u64) -> usize
 
 // The rank of the piece at place i.
 pub fn rank_at(stands: &[u64; STAND_NUMBERS], i: usize) -> usize
-    requires { i < standsMost }
+    requires { i < stands_most }
     ensures { result ≡ (placed_at stands.now i).item }
 {
     narrow(stands[9 * i + 1])
@@ -28,8 +28,8 @@ pub fn rank_at(stands: &[u64; STAND_NUMBERS], i: usize) -> usize
 
 // The piece at place i, with its core and its name's rank.
 pub fn ranked_at(stands: &[u64; STAND_NUMBERS], i: usize) -> Ranked
-    requires { i < standsMost }
-    ensures { seatOf result.core result.rank result.piece ≡ placed_at stands.now i }
+    requires { i < stands_most }
+    ensures { seat_of result.core result.rank result.piece ≡ placed_at stands.now i }
 {
     let at = 9 * i;
     let core = narrow(stands[at]);
@@ -53,8 +53,8 @@ pub fn ranked_at(stands: &[u64; STAND_NUMBERS], i: usize) -> Ranked
 
 // The piece q on the core p, of a name with the rank k, goes behind the first n.
 pub fn put_ranked(stands: &mut [u64; STAND_NUMBERS], n: usize, p: usize, k: usize, q: Piece)
-    requires { (n < standsMost) × (length stands.old ≡ 9 * standsMost) }
-    ensures { PutRanked stands.old n (seatOf p k q) stands.new }
+    requires { (n < stands_most) × (length stands.old ≡ 9 * stands_most) }
+    ensures { PutRanked stands.old n (seat_of p k q) stands.new }
 {
     let at = 9 * n;
     let kind = q.kind;
@@ -74,7 +74,7 @@ pub fn put_ranked(stands: &mut [u64; STAND_NUMBERS], n: usize, p: usize, k: usiz
 
 // The rank at a place; 0 past the list, where there is no name.
 pub fn rank_in(ranks: &[usize; TASKS_MOST], place: usize) -> usize
-    requires { length ranks.now ≡ tasksMost }
+    requires { length ranks.now ≡ tasks_most }
     ensures { result ≡ get_or ranks.now place 0 }
 {
     if place < TASKS_MOST {
@@ -89,8 +89,8 @@ pub fn lay_stands<'a>(
     ranks: &'a [usize; TASKS_MOST],
     layout: Layout,
 ) -> usize
-    requires { (length stands.old ≡ 9 * standsMost) × (length ranks.now ≡ tasksMost) }
-    ensures { (placedIn stands.new result ≡ map (rankedBy ranks.now) (seatsOn layout coresMost)) × (result ≤ standsMost) }
+    requires { (length stands.old ≡ 9 * stands_most) × (length ranks.now ≡ tasks_most) }
+    ensures { (placed_in stands.new result ≡ map (ranked_by ranks.now) (seats_on layout cores_most)) × (result ≤ stands_most) }
 {
     let mut n: usize = 0;
     let mut core: usize = 0;
@@ -114,7 +114,7 @@ pub fn lay_stands<'a>(
 
 // Whether two pieces are equal.
 fn same_piece(p: Piece, q: Piece) -> bool
-    ensures { result ≡ samePiece p q }
+    ensures { result ≡ same_piece p q }
 {
     let kind = p.kind;
     let other = q.kind;
@@ -141,7 +141,7 @@ fn same_piece(p: Piece, q: Piece) -> bool
 
 // Whether they stand on the same core too, under the same rank.
 pub fn same_ranked(e: Ranked, f: Ranked) -> bool
-    ensures { result ≡ samePlaced eqb (seatOf e.core e.rank e.piece) (seatOf f.core f.rank f.piece) }
+    ensures { result ≡ same_placed eqb (seat_of e.core e.rank e.piece) (seat_of f.core f.rank f.piece) }
 {
     if e.rank != f.rank {
         return false;
@@ -156,8 +156,8 @@ pub fn same_ranked(e: Ranked, f: Ranked) -> bool
 
 // How often a piece is among the first n; of those of another rank no more is read than that.
 pub fn often(stands: &[u64; STAND_NUMBERS], n: usize, e: Ranked) -> usize
-    requires { n ≤ standsMost }
-    ensures { result ≡ often eqb (seatOf e.core e.rank e.piece) (placedIn stands.now n) }
+    requires { n ≤ stands_most }
+    ensures { result ≡ often eqb (seat_of e.core e.rank e.piece) (placed_in stands.now n) }
 {
     let mut count: usize = 0;
     let mut i: usize = 0;
@@ -177,8 +177,8 @@ pub fn often(stands: &[u64; STAND_NUMBERS], n: usize, e: Ranked) -> usize
 
 // How many of the first n have a rank.
 pub fn of_rank(stands: &[u64; STAND_NUMBERS], n: usize, rank: usize) -> usize
-    requires { n ≤ standsMost }
-    ensures { result ≡ length (ofItem eqb rank (placedIn stands.now n)) }
+    requires { n ≤ stands_most }
+    ensures { result ≡ length (of_item eqb rank (placed_in stands.now n)) }
 {
     let mut count: usize = 0;
     let mut i: usize = 0;
@@ -199,8 +199,8 @@ pub fn as_often<'a>(
     others: &'a [u64; STAND_NUMBERS],
     m: usize,
 ) -> bool
-    requires { (n ≤ standsMost) × (m ≤ standsMost) }
-    ensures { result ≡ every (asOften eqb (placedIn stands.now n) (placedIn others.now m)) (ofItem eqb rank (placedIn stands.now n)) }
+    requires { (n ≤ stands_most) × (m ≤ stands_most) }
+    ensures { result ≡ every (as_often eqb (placed_in stands.now n) (placed_in others.now m)) (of_item eqb rank (placed_in stands.now n)) }
 {
     let mut i: usize = 0;
     while i < n {
@@ -223,8 +223,8 @@ pub fn alike<'a>(
     others: &'a [u64; STAND_NUMBERS],
     m: usize,
 ) -> bool
-    requires { (n ≤ standsMost) × (m ≤ standsMost) }
-    ensures { result ≡ alike eqb rank (placedIn stands.now n) (placedIn others.now m) }
+    requires { (n ≤ stands_most) × (m ≤ stands_most) }
+    ensures { result ≡ alike eqb rank (placed_in stands.now n) (placed_in others.now m) }
 {
     if as_often(rank, stands, n, others, m) {
         return as_often(rank, others, m, stands, n);

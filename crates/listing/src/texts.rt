@@ -1,7 +1,7 @@
 // Bytes, numbers and names, each ended by a byte, into a lent buffer. A writer counts on where the buffer ends, and writes nothing there: so the
 // same code gives a text's length and writes it.
 ghost use Rattle.std.specs.Prelude.{◌≡◌, [], ◌∷◌, ◌+◌, ◌≤◌, ◌<◌, length};
-ghost use Rattle.listing.specs.Text.{Wrote, endedBy, decimal};
+ghost use Rattle.listing.specs.Text.{Wrote, ended_by, decimal};
 ghost use Rattle.listing.specs.Listing.{spelling};
 
 use task::Name;
@@ -21,7 +21,7 @@ pub fn put_byte(buf: &mut [u8], at: usize, b: u8) -> usize
 // A run of bytes, and the byte that ends it.
 pub fn put_bytes<'a>(buf: &'a mut [u8], at: usize, s: &'a [u8], end: u8) -> usize
     requires { at + length s.now < 1000000 }
-    ensures { Wrote buf.old at (endedBy end s.now) result buf.new }
+    ensures { Wrote buf.old at (ended_by end s.now) result buf.new }
 {
     let mut i = 0;
     while i < s.len() {
@@ -41,7 +41,7 @@ fn digit(m: u64) -> u8
 // A number in decimal digits.
 pub fn put_number(buf: &mut [u8], at: usize, n: u64, end: u8) -> usize
     requires { at < 900000 }
-    ensures { (Wrote buf.old at (endedBy end (decimal n)) result buf.new) × (result ≤ at + 21) }
+    ensures { (Wrote buf.old at (ended_by end (decimal n)) result buf.new) × (result ≤ at + 21) }
 {
     let mut d = [0u8; 20];
     let mut i: usize = 20;
@@ -69,7 +69,7 @@ pub fn capped(n: usize) -> usize
 // A name's bytes.
 pub fn put_name(buf: &mut [u8], at: usize, name: Name, end: u8) -> usize
     requires { at < 900000 }
-    ensures { (Wrote buf.old at (endedBy end (spelling name)) result buf.new) × (result ≤ at + 25) }
+    ensures { (Wrote buf.old at (ended_by end (spelling name)) result buf.new) × (result ≤ at + 25) }
 {
     let len = capped(name.len);
     let bytes = name.bytes;

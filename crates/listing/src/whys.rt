@@ -2,14 +2,14 @@
 ghost use Rattle.std.specs.Prelude.{Bool, cond, [], ◌∷◌, ◌++◌, ◌≡◌, ◌+◌, ◌*◌, ◌≤◌, ◌<◌, length, take};
 ghost use Rattle.demand.specs.declared.Check.TheVariants.{Bad};
 ghost use Rattle.demand.specs.Answer.{Taken};
-ghost use Rattle.demand.specs.Records.{recordsOf};
-ghost use Rattle.demand.specs.Sizes.{runMost, lengthMost};
-ghost use Rattle.demand.specs.Why.{shownOf};
-ghost use Rattle.listing.specs.Text.{Wrote, endedBy, decimal};
+ghost use Rattle.demand.specs.Records.{records_of};
+ghost use Rattle.demand.specs.Sizes.{run_most, length_most};
+ghost use Rattle.demand.specs.Why.{shown_of};
+ghost use Rattle.listing.specs.Text.{Wrote, ended_by, decimal};
 ghost use Rattle.listing.specs.Listing.{spelling};
 ghost use Rattle.listing.specs.Papers.{note_of, left, written};
-ghost use Rattle.listing.specs.Why.{verdictWord, signed, whyHead, askLine, whyFoot, whyText, whyPaper, unlessBad};
-ghost use Rattle.listing.specs.ways.SeatArrays.{titledIn, frontOf};
+ghost use Rattle.listing.specs.Why.{verdict_word, signed, why_head, ask_line, why_foot, why_text, why_paper, unless_bad};
+ghost use Rattle.listing.specs.Ways.SeatArrays.{titled_in, front_of};
 
 use crate::texts::{put_byte, put_bytes, put_name, put_number};
 use crate::{Note, named, put_kind, wide, within};
@@ -31,7 +31,7 @@ pub struct NoRoom {
 // A verdict's word, ended by a tab.
 pub fn put_verdict(buf: &mut [u8], at: usize, verdict: Verdict) -> usize
     requires { at < 900000 }
-    ensures { (Wrote buf.old at (endedBy 9 (verdictWord verdict)) result buf.new) × (result ≤ at + 11) }
+    ensures { (Wrote buf.old at (ended_by 9 (verdict_word verdict)) result buf.new) × (result ≤ at + 11) }
 {
     match verdict {
         Verdict::Passes => put_bytes(buf, at, b"passes", 9),
@@ -43,7 +43,7 @@ pub fn put_verdict(buf: &mut [u8], at: usize, verdict: Verdict) -> usize
 // a - b, with a minus sign where it is negative, ended by a newline.
 pub fn put_signed(buf: &mut [u8], at: usize, a: u64, b: u64) -> usize
     requires { at < 800000 }
-    ensures { (Wrote buf.old at (endedBy 10 (signed a b)) result buf.new) × (result ≤ at + 22) }
+    ensures { (Wrote buf.old at (ended_by 10 (signed a b)) result buf.new) × (result ≤ at + 22) }
 {
     if b <= a {
         return put_number(buf, at, a - b, 10);
@@ -54,7 +54,7 @@ pub fn put_signed(buf: &mut [u8], at: usize, a: u64, b: u64) -> usize
 
 pub fn put_head(buf: &mut [u8], at: usize, shown: Shown) -> usize
     requires { at < 800000 }
-    ensures { (Wrote buf.old at (whyHead shown) result buf.new) × (result ≤ at + 57) }
+    ensures { (Wrote buf.old at (why_head shown) result buf.new) × (result ≤ at + 57) }
 {
     let verdict = shown.verdict;
     let a = put_bytes(buf, at, b"why", 9);
@@ -65,7 +65,7 @@ pub fn put_head(buf: &mut [u8], at: usize, shown: Shown) -> usize
 
 pub fn put_foot(buf: &mut [u8], at: usize, shown: Shown) -> usize
     requires { at < 700000 }
-    ensures { (Wrote buf.old at (whyFoot shown) result buf.new) × (result ≤ at + 55) }
+    ensures { (Wrote buf.old at (why_foot shown) result buf.new) × (result ≤ at + 55) }
 {
     let a = put_bytes(buf, at, b"total", 9);
     let b = put_number(buf, a, shown.total, 10);
@@ -75,8 +75,8 @@ pub fn put_foot(buf: &mut [u8], at: usize, shown: Shown) -> usize
 
 // What a piece is called by, ended by a tab: its task's name, or its place i, from 0, counted from 1.
 pub fn put_title(buf: &mut [u8], at: usize, by_name: bool, name: Name, i: usize) -> usize
-    requires { (at < 800000) × (i < runMost) }
-    ensures { (Wrote buf.old at (endedBy 9 (cond by_name (spelling name) (decimal (i + 1)))) result buf.new) × (result ≤ at + 25) }
+    requires { (at < 800000) × (i < run_most) }
+    ensures { (Wrote buf.old at (ended_by 9 (cond by_name (spelling name) (decimal (i + 1)))) result buf.new) × (result ≤ at + 25) }
 {
     if by_name {
         return put_name(buf, at, name, 9);
@@ -87,7 +87,7 @@ pub fn put_title(buf: &mut [u8], at: usize, by_name: bool, name: Name, i: usize)
 // What it asks for, to the line's end.
 pub fn put_ask(buf: &mut [u8], at: usize, asked: Ask) -> usize
     requires { at < 800000 }
-    ensures { (Wrote buf.old at (endedBy 9 (decimal asked.jobs) ++ (endedBy 9 (decimal asked.demand) ++ endedBy 10 (decimal asked.interrupts))) result buf.new) × (result ≤ at + 63) }
+    ensures { (Wrote buf.old at (ended_by 9 (decimal asked.jobs) ++ (ended_by 9 (decimal asked.demand) ++ ended_by 10 (decimal asked.interrupts))) result buf.new) × (result ≤ at + 63) }
 {
     let a = put_number(buf, at, asked.jobs, 9);
     let b = put_number(buf, a, asked.demand, 9);
@@ -104,8 +104,8 @@ pub fn put_asking(
     kind: Kind,
     asked: Ask,
 ) -> usize
-    requires { (at < 700000) × (i < runMost) }
-    ensures { (Wrote buf.old at (askLine (cond by_name (spelling name) (decimal (i + 1))) kind asked) result buf.new) × (result ≤ at + 100) }
+    requires { (at < 700000) × (i < run_most) }
+    ensures { (Wrote buf.old at (ask_line (cond by_name (spelling name) (decimal (i + 1))) kind asked) result buf.new) × (result ≤ at + 100) }
 {
     let a = put_bytes(buf, at, b"piece", 9);
     let b = put_title(buf, a, by_name, name, i);
@@ -115,7 +115,7 @@ pub fn put_asking(
 
 // The line in front, if a task found no room.
 pub fn put_no_room(buf: &mut [u8], stuck: NoRoom) -> usize
-    ensures { (Wrote buf.old 0 (frontOf stuck.place (spelling stuck.name) stuck.cores) result buf.new) × (result ≤ 74) }
+    ensures { (Wrote buf.old 0 (front_of stuck.place (spelling stuck.name) stuck.cores) result buf.new) × (result ≤ 74) }
 {
     if stuck.place == 0 {
         return 0;
@@ -139,8 +139,8 @@ pub fn put_why<'a>(
     n: usize,
     shown: Shown,
 ) -> usize
-    requires { Taken costs n (recordsOf records.now) × (shown ≡ shownOf costs (take n (recordsOf records.now))) }
-    ensures { (Wrote buf.old 0 (frontOf stuck.place (spelling stuck.name) stuck.cores ++ whyText costs (titledIn by_name tasks.list places.now records.now n)) result buf.new) × (result ≤ 186 + 100 * n) }
+    requires { Taken costs n (records_of records.now) × (shown ≡ shown_of costs (take n (records_of records.now))) }
+    ensures { (Wrote buf.old 0 (front_of stuck.place (spelling stuck.name) stuck.cores ++ why_text costs (titled_in by_name tasks.list places.now records.now n)) result buf.new) × (result ≤ 186 + 100 * n) }
 {
     let front = put_no_room(buf, stuck);
     let head = put_head(buf, front, shown);
@@ -166,7 +166,7 @@ pub fn put_why<'a>(
 
 // A refusal of a run of records.
 pub fn refusal_note(why: Refusal) -> Note
-    ensures { result ≡ note_of (unlessBad (Bad why) (written [])) 0 }
+    ensures { result ≡ note_of (unless_bad (Bad why) (written [])) 0 }
 {
     match why {
         Refusal::TooMany => Note {
@@ -195,8 +195,8 @@ pub fn write_why<'a>(
     records: &'a [u64; RUN_NUMBERS],
     n: usize,
 ) -> Note
-    ensures value { (result ≡ note_of (whyPaper (frontOf stuck.place (spelling stuck.name) stuck.cores) costs n (titledIn by_name tasks.list places.now records.now runMost)) (length buf.old)) × (buf.new ≡ left (whyPaper (frontOf stuck.place (spelling stuck.name) stuck.cores) costs n (titledIn by_name tasks.list places.now records.now runMost)) buf.old) }
-    ensures number_bound { (result.number ≤ 10) × (result.carries ≤ lengthMost) }
+    ensures value { (result ≡ note_of (why_paper (front_of stuck.place (spelling stuck.name) stuck.cores) costs n (titled_in by_name tasks.list places.now records.now run_most)) (length buf.old)) × (buf.new ≡ left (why_paper (front_of stuck.place (spelling stuck.name) stuck.cores) costs n (titled_in by_name tasks.list places.now records.now run_most)) buf.old) }
+    ensures number_bound { (result.number ≤ 10) × (result.carries ≤ length_most) }
 {
     match show_records(costs, records, n) {
         Showing::Unshown(why) => refusal_note(why),

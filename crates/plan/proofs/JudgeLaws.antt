@@ -16,34 +16,34 @@ use Rattle.demand.specs.declared.Verdict.{Verdict}
 use Rattle.demand.specs.declared.Answer.{Answer}
 use Rattle.demand.specs.declared.Answer.TheVariants.{Judged, Refused}
 use Rattle.demand.specs.Sizes.{Sized}
-use Rattle.demand.specs.Verdict.{verdictOf}
+use Rattle.demand.specs.Verdict.{verdict_of}
 use Rattle.demand.specs.declared.Check.{Check}
 use Rattle.demand.specs.declared.Check.TheVariants.{Fine}
 use Rattle.demand.specs.declared.Split.{Split}
 use Rattle.demand.specs.declared.Splitting.{Splitting}
 use Rattle.demand.specs.declared.Splitting.TheVariants.{Best, Denied}
-use Rattle.demand.specs.Split.{greatestSplit}
-use Rattle.demand.specs.Answer.{answer_of, checkRun, splitted, splitOf}
+use Rattle.demand.specs.Split.{greatest_split}
+use Rattle.demand.specs.Answer.{answer_of, check_run, splitted, split_of}
 use Rattle.demand.proofs.Sums.{each_snoc}
 use Rattle.demand.proofs.RunLaws.{taken-check, taken-answer}
-use Rattle.demand.specs.Records.{recordsOf}
+use Rattle.demand.specs.Records.{records_of}
 use Rattle.demand.proofs.RecordLaws.{records-length}
-use Rattle.plan.specs.ways.WalkGoing.{firstRecords, AskFits}
+use Rattle.plan.specs.Ways.WalkGoing.{first_records, AskFits}
 
 module _ (c : Costs) (records : List ℕ) (n : ℕ) (q : Piece) (fits : AskFits c records n) (size : Sized q) where
   -- the records with the piece behind them
-  module _ (more : List ℕ) (behind : firstRecords more (n + 1) ≡ firstRecords records n ++ (q ∷ [])) where
-    judged-row : answer_of c (n + 1) (recordsOf more) ≡ Judged (verdictOf c (firstRecords records n ++ (q ∷ [])))
+  module _ (more : List ℕ) (behind : first_records more (n + 1) ≡ first_records records n ++ (q ∷ [])) where
+    judged-row : answer_of c (n + 1) (records_of more) ≡ Judged (verdict_of c (first_records records n ++ (q ∷ [])))
     judged-row =
-        taken-answer c (n + 1) (recordsOf more) (record {
+        taken-answer c (n + 1) (records_of more) (record {
           few = omega (arith, fits.free);
           costs = fits.costs;
-          each = rw behind (each_snoc Sized (firstRecords records n) q fits.sizes size);
+          each = rw behind (each_snoc Sized (first_records records n) q fits.sizes size);
         })
-        ∙ ap (λ (l : List Piece). Judged (verdictOf c l)) behind
+        ∙ ap (λ (l : List Piece). Judged (verdict_of c l)) behind
 
-    module _ (a : Answer) (answer-is : a ≡ answer_of c (n + 1) (recordsOf more)) where
-      pub judged-is : (v : Verdict) → a ≡ Judged v → v ≡ verdictOf c (firstRecords records n ++ (q ∷ []))
+    module _ (a : Answer) (answer-is : a ≡ answer_of c (n + 1) (records_of more)) where
+      pub judged-is : (v : Verdict) → a ≡ Judged v → v ≡ verdict_of c (first_records records n ++ (q ∷ []))
       judged-is v e = let f = sym e ∙ (answer-is ∙ judged-row) in cc f
 
       pub never-refused : (r : Refusal) → a ≡ Refused r → ⊥
@@ -51,25 +51,25 @@ module _ (c : Costs) (records : List ℕ) (n : ℕ) (q : Piece) (fits : AskFits 
 
   -- ---- the split
 
-  all : take (n + 1) (firstRecords records n ++ (q ∷ [])) ≡ firstRecords records n ++ (q ∷ [])
+  all : take (n + 1) (first_records records n ++ (q ∷ [])) ≡ first_records records n ++ (q ∷ [])
   all =
-      take_all (n + 1) (firstRecords records n ++ (q ∷ []))
-      (rw length-append (omega (arith, length-take-le n (recordsOf records) (omega (arith, fits.free, records-length records)))))
+      take_all (n + 1) (first_records records n ++ (q ∷ []))
+      (rw length-append (omega (arith, length-take-le n (records_of records) (omega (arith, fits.free, records-length records)))))
 
-  fine : checkRun c (n + 1) (firstRecords records n ++ (q ∷ [])) ≡ Fine
+  fine : check_run c (n + 1) (first_records records n ++ (q ∷ [])) ≡ Fine
   fine =
-      taken-check c (n + 1) (firstRecords records n ++ (q ∷ [])) (record {
+      taken-check c (n + 1) (first_records records n ++ (q ∷ [])) (record {
         few = omega (arith, fits.free);
         costs = fits.costs;
-        each = rw all (each_snoc Sized (firstRecords records n) q fits.sizes size);
+        each = rw all (each_snoc Sized (first_records records n) q fits.sizes size);
       })
 
-  split-row : (r : ℕ) → splitOf c n (recordsOf records) q r ≡ Best (greatestSplit c r (firstRecords records n) q)
-  unfolding splitOf
-  split-row r = ap (λ (k : Check). splitted k (greatestSplit c r (firstRecords records n) q)) fine
+  split-row : (r : ℕ) → split_of c n (records_of records) q r ≡ Best (greatest_split c r (first_records records n) q)
+  unfolding split_of
+  split-row r = ap (λ (k : Check). splitted k (greatest_split c r (first_records records n) q)) fine
 
-  module _ (r : ℕ) (a : Splitting) (answer-is : a ≡ splitOf c n (recordsOf records) q r) where
-    pub split-is : (s : Split) → a ≡ Best s → s ≡ greatestSplit c r (firstRecords records n) q
+  module _ (r : ℕ) (a : Splitting) (answer-is : a ≡ split_of c n (records_of records) q r) where
+    pub split-is : (s : Split) → a ≡ Best s → s ≡ greatest_split c r (first_records records n) q
     split-is s e = let f = sym e ∙ (answer-is ∙ split-row r) in cc f
 
     pub never-denied : (why : Refusal) → a ≡ Denied why → ⊥

@@ -16,15 +16,15 @@ use Rattle.demand.specs.declared.Piece.{Piece}
 use Rattle.demand.specs.declared.Costs.{Costs}
 use Rattle.demand.specs.Sizes.{Sized, SizedCosts, Each}
 use Rattle.task.specs.declared.Machine.{Machine}
-use Rattle.walks.specs.Way.{Placed, Landing, lands, refuses, Ending, fine, stuck, behind, landed, Way, walkOver, placedUntil, onCore}
+use Rattle.walks.specs.Way.{Placed, Landing, lands, refuses, Ending, fine, stuck, behind, landed, Way, walk_over, placed_until, on_core}
 use Rattle.walks.specs.Halves.{Stand, from_core}
 use Rattle.walks.proofs.WayLaws.{until-stuck, walk-snoc, walk-stuck, until-still}
 use Rattle.walks.proofs.SoundLaws.{Planned, few-on-core}
 use Rattle.plan.specs.declared.Going.{Going}
-use Rattle.plan.specs.Walk.{wayFor}
-use Rattle.plan.specs.ways.TimesArray.{timesAt, wholeIn}
-use Rattle.plan.specs.ways.PlacedArray.{placedIn}
-use Rattle.plan.specs.ways.WalkGoing.{piecesOfRow, beginOf, LandFits, Reached, Reach, ReachOver}
+use Rattle.plan.specs.Walk.{way_for}
+use Rattle.plan.specs.Ways.TimesArray.{times_at, whole_in}
+use Rattle.plan.specs.Ways.PlacedArray.{placed_in}
+use Rattle.plan.specs.Ways.WalkGoing.{pieces_of_row, begin_of, LandFits, Reached, Reach, ReachOver}
 use Rattle.plan.proofs.LentLaws.{placed-length}
 use Rattle.plan.proofs.WalkLaws.{claims, walk-planned}
 
@@ -57,11 +57,11 @@ reach-behind log until placed records x k (lands s l) is h = record {
 reach-behind log until placed records x k (refuses n) is h = (h.0, h.1, h.2 ∙ is n refl)
 
 module _ (m : Machine) (c : Costs) (times order : List ℕ) (n : ℕ) (some : 1 ≤ m.cores) (few : m.cores ≤ 16) (costs : SizedCosts c)
-    (sizes : Each (λ k. Sized (wholeIn times k)) (take n order)) (i : ℕ) (low : i < n) (in_order : i < length order) (in-tasks : i < 64)
-    (placed records : List ℕ) (g : Going) (walking : Walking placed records g (walkOver (wayFor m c (wholeIn times)) (take i order))) where
-  planned : Planned (claims m c (timesAt times)) (take i order) walking.at walking.past
+    (sizes : Each (λ k. Sized (whole_in times k)) (take n order)) (i : ℕ) (low : i < n) (in-order : i < length order) (in-tasks : i < 64)
+    (placed records : List ℕ) (g : Going) (walking : Walking placed records g (walk_over (way_for m c (whole_in times)) (take i order))) where
+  planned : Planned (claims m c (times_at times)) (take i order) walking.at walking.past
   planned =
-      walk-planned m c (timesAt times) costs some (take i order) (each-front (λ k. Sized (wholeIn times k)) i n order (omega arith) sizes)
+      walk-planned m c (times_at times) costs some (take i order) (each-front (λ k. Sized (whole_in times k)) i n order (omega arith) sizes)
       walking.at walking.past walking.is
 
   -- a core's row is no longer than the number of tasks placed
@@ -71,8 +71,8 @@ module _ (m : Machine) (c : Costs) (times order : List ℕ) (n : ℕ) (some : 1 
       omega (
         arith,
         ap length planned.faithful.here,
-        length-map (onCore core walking.past) (λ (e : Placed ℕ). e.piece),
-        few-on-core m.cores (wholeIn times) (claims m c (timesAt times)).Share core planned.shares,
+        length-map (on_core core walking.past) (λ (e : Placed ℕ). e.piece),
+        few-on-core m.cores (whole_in times) (claims m c (times_at times)).Share core planned.shares,
       )
 
   pub land-fits : get_or order i 0 < 64 → LandFits m.cores c placed records g (get_or order i 0)
@@ -95,19 +95,19 @@ module _ (m : Machine) (c : Costs) (times order : List ℕ) (n : ℕ) (some : 1 
         sizes = rw (there.row_is, ← f.here) (planned.rows walking.at.core).sizes;
       }
 
-  pub land-reach : (q : Piece) → wholeIn times (get_or order i 0) ≡ q → (placed' records' : List ℕ) (x : Going) →
-      Reach (placedIn placed g.count) (placedIn placed g.count) placed' records' x
-      (landed (get_or order i 0) (from_core c m.grain q (m.cores - 1 - g.core) g.core (piecesOfRow placed g.row))) →
-      ReachOver m c (wholeIn times) placed' records' x (take (i + 1) order)
+  pub land-reach : (q : Piece) → whole_in times (get_or order i 0) ≡ q → (placed' records' : List ℕ) (x : Going) →
+      Reach (placed_in placed g.count) (placed_in placed g.count) placed' records' x
+      (landed (get_or order i 0) (from_core c m.grain q (m.cores - 1 - g.core) g.core (pieces_of_row placed g.row))) →
+      ReachOver m c (whole_in times) placed' records' x (take (i + 1) order)
   land-reach q e placed' records' x h =
       let k = walking in
-      let W : Way ℕ = wayFor m c (wholeIn times) in
+      let W : Way ℕ = way_for m c (whole_in times) in
       let next = get_or order i 0 in
-      let longer : take (i + 1) order ≡ take i order ++ (next ∷ []) = ap (λ (j : ℕ). take j order) (add-one i) ∙ take-suc order i 0 in_order in
-      let more : walkOver W (take i order ++ (next ∷ [])) ≡ behind k.past (landed next (W.place k.at next)) =
+      let longer : take (i + 1) order ≡ take i order ++ (next ∷ []) = ap (λ (j : ℕ). take j order) (add-one i) ∙ take-suc order i 0 in-order in
+      let more : walk_over W (take i order ++ (next ∷ [])) ≡ behind k.past (landed next (W.place k.at next)) =
       walk-snoc W W.begin k.at (take i order) next k.past k.is in
-      let until = placedUntil W W.begin (take i order ++ (next ∷ [])) in
-      subst (ReachOver m c (wholeIn times) placed' records' x) (sym longer)
+      let until = placed_until W W.begin (take i order ++ (next ∷ [])) in
+      subst (ReachOver m c (whole_in times) placed' records' x) (sym longer)
       (subst (Reach [] until placed' records' x) (sym more) (reach-behind k.past until placed' records' x next (W.place k.at next)
       (λ j none. sym (until-stuck W W.begin k.at (take i order) [] next j k.past k.is none))
       (rw (e, ← k.reached.placed-is, ← k.reached.core_is, ← k.reached.row_is) h)))
@@ -120,12 +120,12 @@ module _ (placed records : List ℕ) (g : Going) where
   module _ (m : Machine) (c : Costs) (w : ℕ → Piece) where
     -- a walk that stuck stays stuck
     stays-stuck : (xs ys : List ℕ) → ReachOver m c w placed records g xs → 0 < g.stuck → ReachOver m c w placed records g (xs ++ ys)
-    stays-stuck xs ys h some = by (walkOver W xs) refl h
+    stays-stuck xs ys h some = by (walk_over W xs) refl h
       where
         W : Way ℕ
-        W = wayFor m c w
+        W = way_for m c w
 
-        by : (o : Ending Stand ℕ) → walkOver W xs ≡ o → Reach [] (placedUntil W W.begin xs) placed records g o → ReachOver m c w placed records g (xs ++ ys)
+        by : (o : Ending Stand ℕ) → walk_over W xs ≡ o → Reach [] (placed_until W W.begin xs) placed records g o → ReachOver m c w placed records g (xs ++ ys)
         by (fine s l) is there = absurd (omega (arith, there.still))
         by (stuck k n) is there =
             rw (walk-stuck W W.begin xs ys k n is) (there.0, there.1, there.2 ∙ sym (until-still W W.begin xs ys k n is))
@@ -137,12 +137,12 @@ module _ (placed records : List ℕ) (g : Going) where
         subst (ReachOver m c w placed records g) (sym (ap (λ (k : ℕ). take k l) more ∙ take-add i (n - i) l))
         (stays-stuck (take i l) (take (n - i) (drop i l)) there e)
 
-    pub walking-reach : (xs : List ℕ) → Walking placed records g (walkOver (wayFor m c w) xs) → ReachOver m c w placed records g xs
+    pub walking-reach : (xs : List ℕ) → Walking placed records g (walk_over (way_for m c w) xs) → ReachOver m c w placed records g xs
     walking-reach xs k = rw k.is k.reached
 
 pub begins : (m : Machine) (c : Costs) (w : ℕ → Piece) (order placed records : List ℕ) → length placed ≡ 711 → length records ≡ 553
-    → Walking placed records beginOf (walkOver (wayFor m c w) (take 0 order))
-unfolding beginOf
+    → Walking placed records begin_of (walk_over (way_for m c w) (take 0 order))
+unfolding begin_of
 begins m c w order placed records placed-size records-size = record {
   at = record { core = 0; row = [] };
   past = [];

@@ -20,41 +20,41 @@ use lib.ListN.{length, take, get_or-eq_default}
 use lib.Seq.{length-take-le}
 use Rattle.demand.specs.declared.Piece.{Piece}
 use Rattle.demand.specs.declared.Costs.{Costs}
-use Rattle.demand.specs.Sizes.{Sized, Each, sized, sizedCosts}
+use Rattle.demand.specs.Sizes.{Sized, Each, sized, sized_costs}
 use Rattle.task.specs.declared.Task.{Task}
 use Rattle.task.specs.declared.Machine.{Machine}
-use Rattle.task.specs.Tasks.{wholePiece, past, taskAt, place_of, rule, or_else, faultOf, firstFault, stateFault, sizedMachine, tasksMost}
+use Rattle.task.specs.Tasks.{whole_piece, past, task_at, place_of, rule, or_else, fault_of, first_fault, state_fault, sized_machine, tasks_most}
 use Rattle.task.specs.Names.{formed}
 use Rattle.task.proofs.TaskLaws.{Sane}
 use Rattle.plan.specs.declared.Going.{Going}
 use Rattle.walks.specs.Order.{pack}
 use Rattle.walks.proofs.OrderLaws.{pack-every}
 use Rattle.walks.specs.Halves.{denser}
-use Rattle.plan.specs.Walk.{whole_at, upto, denserAt, walked, walkedUntil}
-use Rattle.plan.specs.ways.TimesArray.{Laid, wholeIn, denserIn, Small, SmallIn}
-use Rattle.plan.specs.ways.WalkGoing.{WalkFits, Reach, ReachOver}
+use Rattle.plan.specs.Walk.{whole_at, upto, denser_at, walked, walked_until}
+use Rattle.plan.specs.Ways.TimesArray.{Laid, whole_in, denser_in, Small, SmallIn}
+use Rattle.plan.specs.Ways.WalkGoing.{WalkFits, Reach, ReachOver}
 
 -- ---- the times of the tasks, where they are laid out
 
 module _ (times : List ℕ) (l : List Task) (laid : Laid times l) where
-  wholes-laid : wholeIn times ≡ whole_at l
-  wholes-laid = fun_ext (λ i. ap wholePiece (laid i))
+  wholes-laid : whole_in times ≡ whole_at l
+  wholes-laid = fun_ext (λ i. ap whole_piece (laid i))
 
 -- ---- sizes
 
-pub sized-at : (l : List Task) → Each (λ t. Sized (wholePiece t.times)) l → (i : ℕ) → i < length l → Sized (whole_at l i)
+pub sized-at : (l : List Task) → Each (λ t. Sized (whole_piece t.times)) l → (i : ℕ) → i < length l → Sized (whole_at l i)
 sized-at [] ok i h = absurd (not-suc-le-zero h)
 sized-at (t ∷ l) ok zero h = ok.0
 sized-at (t ∷ l) ok (suc i) h = sized-at l ok.1 i (le_of_suc-le-suc h)
 
-small_at : (l : List Task) → Each (λ t. Sized (wholePiece t.times)) l → (i : ℕ) → Small (taskAt l i).times
-unfolding wholePiece
+small_at : (l : List Task) → Each (λ t. Sized (whole_piece t.times)) l → (i : ℕ) → Small (task_at l i).times
+unfolding whole_piece
 small_at l ok i = elim (dec_lt i (length l)) [
   | yes inside ↦ (let s = sized-at l ok i inside in record { worst-fits = omega arith; deadline-fits = omega arith })
   | no outside ↦ rw (get_or-eq_default l past {n = i} (omega arith)) (record { worst-fits = omega arith; deadline-fits = omega arith })
 ]
 
-pub small-laid : (times : List ℕ) (l : List Task) → Laid times l → Each (λ t. Sized (wholePiece t.times)) l → SmallIn times
+pub small-laid : (times : List ℕ) (l : List Task) → Laid times l → Each (λ t. Sized (whole_piece t.times)) l → SmallIn times
 small-laid times l laid ok i = rw (laid i) (small_at l ok i)
 
 pub upto-each : (P : ℕ → Type 0) (n : ℕ) → ((i : ℕ) → i < n → P i) → Each P (upto n)
@@ -66,13 +66,13 @@ upto-each P (suc n) h = behind (upto n) (upto-each P n (λ i less. h i (omega ar
     behind (i ∷ l) ok = (ok.0, behind l ok.1)
 
 module _ (m : Machine) (c : Costs) (n : ℕ) (ts : List Task) (long : length ts ≡ 64) (sane : Sane m c n ts) (times : List ℕ)
-    (laid : Laid times (take n ts)) (order : List ℕ) (packed : take n order ≡ pack (denserIn times) (upto n)) where
+    (laid : Laid times (take n ts)) (order : List ℕ) (packed : take n order ≡ pack (denser_in times) (upto n)) where
   whole : length (take n ts) ≡ n
   whole = length-take-le n ts (omega (arith, sane.few))
 
-  sizes : Each (λ k. Sized (wholeIn times k)) (take n order)
-  sizes = rw packed (pack-every (denserIn times) (λ k. Sized (wholeIn times k)) (upto n)
-      (upto-each (λ k. Sized (wholeIn times k)) n (λ i less. subst (λ (w : ℕ → Piece). Sized (w i))
+  sizes : Each (λ k. Sized (whole_in times k)) (take n order)
+  sizes = rw packed (pack-every (denser_in times) (λ k. Sized (whole_in times k)) (upto n)
+      (upto-each (λ k. Sized (whole_in times k)) n (λ i less. subst (λ (w : ℕ → Piece). Sized (w i))
       (sym (wholes-laid times (take n ts) laid)) (sized-at (take n ts) sane.timed i (omega (arith, whole))))))
 
   pub walk-fits : length order ≡ 64 → Each (λ k. k < 64) (take n order) → (placed records : List ℕ) → length placed ≡ 711
@@ -90,15 +90,15 @@ module _ (m : Machine) (c : Costs) (n : ℕ) (ts : List Task) (long : length ts 
   }
 
   -- so where the code's walk ends, the definition's does
-  pub walk-laid : (placed records : List ℕ) (g : Going) → ReachOver m c (wholeIn times) placed records g (take n order)
-      → Reach [] (walkedUntil m c (take n ts)) placed records g (walked m c (take n ts))
+  pub walk-laid : (placed records : List ℕ) (g : Going) → ReachOver m c (whole_in times) placed records g (take n order)
+      → Reach [] (walked_until m c (take n ts)) placed records g (walked m c (take n ts))
   unfolding walked
   walk-laid placed records g there =
-      subst (λ (k : ℕ). ReachOver m c (whole_at (take n ts)) placed records g (pack (denserAt (take n ts)) (upto k))) (sym whole)
+      subst (λ (k : ℕ). ReachOver m c (whole_at (take n ts)) placed records g (pack (denser_at (take n ts)) (upto k))) (sym whole)
       (subst (λ (w : ℕ → Piece). ReachOver m c w placed records g (pack (λ i j. denser (w i) (w j)) (upto n))) (wholes-laid times (take n ts) laid)
-      (subst (ReachOver m c (wholeIn times) placed records g) packed there))
+      (subst (ReachOver m c (whole_in times) placed records g) packed there))
 
-pub no-fault : (m : Machine) (c : Costs) (n : ℕ) (ts : List Task) (k : ℕ) → k ≡ stateFault m c n ts → k ≡ 0 → stateFault m c n ts ≡ 0
+pub no-fault : (m : Machine) (c : Costs) (n : ℕ) (ts : List Task) (k : ℕ) → k ≡ state_fault m c n ts → k ≡ 0 → state_fault m c n ts ≡ 0
 no-fault m c n ts k e none = sym e ∙ none
 
 -- ---- no fault has the number 7
@@ -111,22 +111,22 @@ or-other : (k n : ℕ) → (k ≡ 7 → ⊥) → (n ≡ 7 → ⊥) → or_else k
 or-other zero n here below = below
 or-other (suc k) n here below = here
 
-task-seven : (above : List Task) (t : Task) → faultOf above t ≡ 7 → ⊥
-unfolding faultOf
+task-seven : (above : List Task) (t : Task) → fault_of above t ≡ 7 → ⊥
+unfolding fault_of
 task-seven above t =
     let alone : Bool = eqb (place_of 1 t.name above) 0 in
-    let timed : Bool = sized (wholePiece t.times) in
+    let timed : Bool = sized (whole_piece t.times) in
     rule-other (formed t.name) 8 (rule timed 3 (rule alone 4 0)) (λ e. omega arith)
     (rule-other timed 3 (rule alone 4 0) (λ e. omega arith) (rule-other alone 4 0 (λ e. omega arith) (λ e. omega arith)))
 
-tasks-seven : (above ts : List Task) → firstFault above ts ≡ 7 → ⊥
+tasks-seven : (above ts : List Task) → first_fault above ts ≡ 7 → ⊥
 tasks-seven above [] e = omega arith
-tasks-seven above (t ∷ ts) e = or-other (faultOf above t) (firstFault (above ++ (t ∷ [])) ts) (task-seven above t) (tasks-seven (above ++ (t ∷ [])) ts) e
+tasks-seven above (t ∷ ts) e = or-other (fault_of above t) (first_fault (above ++ (t ∷ [])) ts) (task-seven above t) (tasks-seven (above ++ (t ∷ [])) ts) e
 
-pub fault-seven : (m : Machine) (c : Costs) (n : ℕ) (ts : List Task) → stateFault m c n ts ≡ 7 → ⊥
-unfolding stateFault
+pub fault-seven : (m : Machine) (c : Costs) (n : ℕ) (ts : List Task) → state_fault m c n ts ≡ 7 → ⊥
+unfolding state_fault
 fault-seven m c n ts =
-    let tasks : ℕ = firstFault [] (take n ts) in
-    let few : Bool = leb n tasksMost in
-    rule-other (sizedMachine m) 1 (rule (sizedCosts c) 2 (rule few 6 tasks)) (λ e. omega arith) (rule-other (sizedCosts c) 2
+    let tasks : ℕ = first_fault [] (take n ts) in
+    let few : Bool = leb n tasks_most in
+    rule-other (sized_machine m) 1 (rule (sized_costs c) 2 (rule few 6 tasks)) (λ e. omega arith) (rule-other (sized_costs c) 2
     (rule few 6 tasks) (λ e. omega arith) (rule-other few 6 tasks (λ e. omega arith) (tasks-seven [] (take n ts))))

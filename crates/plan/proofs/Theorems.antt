@@ -45,7 +45,7 @@ use Rattle.demand.specs.Sizes.{Sized, Each}
 use Rattle.demand.specs.Kinds.{arrives}
 use Rattle.demand.specs.Charge.{core_of, stall}
 use Rattle.demand.specs.Demand.{demand, Live}
-use Rattle.demand.specs.Verdict.{verdictOf}
+use Rattle.demand.specs.Verdict.{verdict_of}
 use Rattle.demand.proofs.Sums.{each-imp}
 use Rattle.demand.proofs.ChargeLaws.{late-jitter-is}
 use Rattle.demand.proofs.Judgement.{passes-all}
@@ -53,12 +53,12 @@ use Rattle.demand.proofs.SplitLaws.{Free}
 use Rattle.task.specs.declared.Times.{Times}
 use Rattle.task.specs.declared.Task.{Task}
 use Rattle.task.specs.declared.Machine.{Machine}
-use Rattle.task.specs.Tasks.{wholePiece, taskAt, stateFault}
+use Rattle.task.specs.Tasks.{whole_piece, task_at, state_fault}
 use Rattle.task.proofs.TaskLaws.{Sane, state-sane}
-use Rattle.walks.specs.Lists.{Chain, sumBy}
+use Rattle.walks.specs.Lists.{Chain, sum_by}
 use Rattle.walks.specs.Order.{Precedes}
-use Rattle.walks.specs.Way.{Placed, placedAs, Ending, fine, stuck, walkOver, SticksAt, onCore, row_of}
-use Rattle.walks.specs.Halves.{Stand, Shared, splitCount}
+use Rattle.walks.specs.Way.{Placed, placed_as, Ending, fine, stuck, walk_over, SticksAt, on_core, row_of}
+use Rattle.walks.specs.Halves.{Stand, Shared, split_count}
 use Rattle.walks.proofs.ListLaws.{each-parts, each-middle, sum-map}
 use Rattle.walks.proofs.OrderLaws.{pack-every, pack-ranked}
 use Rattle.walks.proofs.DenserLaws.{denser-lawful}
@@ -67,14 +67,14 @@ use Rattle.walks.proofs.SoundLaws.{Planned, Has, Divided, share-of, spots-within
 use Rattle.walks.proofs.HalvesLaws.{refused-last, shared-firsts, shares-firsts, shared-jitters, shared-free}
 use Rattle.plan.specs.declared.Plan.{Plan}
 use Rattle.plan.specs.declared.Reply.{Reply}
-use Rattle.plan.specs.Walk.{whole_at, placeWay, upto, denserAt, packed, walked, walkedUntil}
-use Rattle.plan.specs.Layout.{layoutOn, none, blank}
-use Rattle.plan.specs.Plan.{refused, planPlaced, finished, unlessFault, plan_of, reaching, reachedOf}
-use Rattle.plan.specs.Places.{Rearranged, ofTask, TaskPlaced}
+use Rattle.plan.specs.Walk.{whole_at, place_way, upto, denser_at, packed, walked, walked_until}
+use Rattle.plan.specs.Layout.{layout_on, none, blank}
+use Rattle.plan.specs.Plan.{refused, plan_placed, finished, unless_fault, plan_of, reaching, reached_of}
+use Rattle.plan.specs.Places.{Rearranged, of_task, TaskPlaced}
 use Rattle.plan.specs.Shows.{LayoutShows, WordShows}
 use Rattle.plan.proofs.WalkLaws.{whole-kind, claims, walk-planned, only-seven}
 use Rattle.plan.proofs.PlanLaws.{sized-at, upto-each, fault-seven}
-use Rattle.plan.proofs.PlaceLaws.{byPlace, place-exact, upto-chain, Arranged, arranged, rearranged}
+use Rattle.plan.proofs.PlaceLaws.{by_place, place-exact, upto-chain, Arranged, arranged, rearranged}
 use Rattle.plan.proofs.RankLaws.{rearranged-one}
 use Rattle.plan.proofs.ShowLaws.{Room, Kept, kept, kept-shows}
 use Rattle.plan.proofs.WordLaws.{word-shows}
@@ -82,10 +82,10 @@ use Rattle.plan.proofs.WordLaws.{word-shows}
 -- ---- the packing order
 
 pub packing-order : (ts : List Task) → Rearranged (length ts) (packed ts)
-packing-order ts = rearranged (denserAt ts) (length ts)
+packing-order ts = rearranged (denser_at ts) (length ts)
 
-in_order : (ts : List Task) → Arranged (length ts) (packed ts)
-in_order ts = arranged (denserAt ts) (length ts)
+in-order : (ts : List Task) → Arranged (length ts) (packed ts)
+in-order ts = arranged (denser_at ts) (length ts)
 
 -- the numbers of a plan on m cores with n tasks
 pub record Counted (m n : ℕ) (l : List (Placed ℕ)) : Type 0 where
@@ -93,45 +93,45 @@ pub record Counted (m n : ℕ) (l : List (Placed ℕ)) : Type 0 where
   pub pieces-fit : length l ≤ 79
   pub row : (q : ℕ) → length (row_of q l) ≤ n
   pub row_fits : (q : ℕ) → length (row_of q l) ≤ 64
-  pub splits : splitCount l ≤ m - 1
+  pub splits : split_count l ≤ m - 1
   pub cores : Each (λ e. e.on < m) l
 
 -- ---- a state that breaks a rule has its own number
 
 module _ (m : Machine) (c : Costs) (n : ℕ) (ts : List Task) where
-  own-number : (o : Reply) (k : ℕ) → ((unlessFault k o).number ≡ k) ⊎ (k ≡ 0)
+  own-number : (o : Reply) (k : ℕ) → ((unless_fault k o).number ≡ k) ⊎ (k ≡ 0)
   own-number o zero = inr refl
   own-number o (suc k) = inl refl
 
-  faultless-but : (k : ℕ) → (stateFault m c n ts ≡ k → stateFault m c n ts ≡ 0) → (plan_of m c n ts).number ≡ k → stateFault m c n ts ≡ 0
+  faultless-but : (k : ℕ) → (state_fault m c n ts ≡ k → state_fault m c n ts ≡ 0) → (plan_of m c n ts).number ≡ k → state_fault m c n ts ≡ 0
   unfolding plan_of
-  faultless-but k else e = by (own-number (finished m c (take n ts) (walked m c (take n ts))) (stateFault m c n ts))
+  faultless-but k else e = by (own-number (finished m c (take n ts) (walked m c (take n ts))) (state_fault m c n ts))
     where
-      by : ((unlessFault (stateFault m c n ts) (finished m c (take n ts) (walked m c (take n ts)))).number ≡ stateFault m c n ts)
-          ⊎ (stateFault m c n ts ≡ 0) → stateFault m c n ts ≡ 0
+      by : ((unless_fault (state_fault m c n ts) (finished m c (take n ts) (walked m c (take n ts)))).number ≡ state_fault m c n ts)
+          ⊎ (state_fault m c n ts ≡ 0) → state_fault m c n ts ≡ 0
       by (inl own) = else (sym own ∙ e)
       by (inr none) = none
 
-  pub plan-faultless : (plan_of m c n ts).number ≡ 0 → stateFault m c n ts ≡ 0
+  pub plan-faultless : (plan_of m c n ts).number ≡ 0 → state_fault m c n ts ≡ 0
   plan-faultless e = faultless-but 0 (λ same. same) e
 
-  pub no-room-faultless : (plan_of m c n ts).number ≡ 7 → stateFault m c n ts ≡ 0
+  pub no-room-faultless : (plan_of m c n ts).number ≡ 7 → state_fault m c n ts ≡ 0
   no-room-faultless e = faultless-but 7 (λ same. absurd (fault-seven m c n ts same)) e
 
   -- ---- what the walk reached
 
-  pub reached-number : ((reachedOf m c n ts).number ≡ (plan_of m c n ts).number) × ((reachedOf m c n ts).carries ≡ (plan_of m c n ts).carries)
-  unfolding plan_of reachedOf
-  reached-number = by (stateFault m c n ts) (planPlaced m c (take n ts) (walkedUntil m c (take n ts))) (finished m c (take n ts) (walked m c (take n ts)))
+  pub reached-number : ((reached_of m c n ts).number ≡ (plan_of m c n ts).number) × ((reached_of m c n ts).carries ≡ (plan_of m c n ts).carries)
+  unfolding plan_of reached_of
+  reached-number = by (state_fault m c n ts) (plan_placed m c (take n ts) (walked_until m c (take n ts))) (finished m c (take n ts) (walked m c (take n ts)))
     where
       by : (k : ℕ) (p : Plan) (r : Reply)
-          → ((unlessFault k (reaching p r)).number ≡ (unlessFault k r).number) × ((unlessFault k (reaching p r)).carries ≡ (unlessFault k r).carries)
+          → ((unless_fault k (reaching p r)).number ≡ (unless_fault k r).number) × ((unless_fault k (reaching p r)).carries ≡ (unless_fault k r).carries)
       by zero p r = (refl, refl)
       by (suc k) p r = (refl, refl)
 
 -- ---- a state that breaks no rule
 
-module _ (m : Machine) (c : Costs) (n : ℕ) (ts : List Task) (faultless : stateFault m c n ts ≡ 0) where
+module _ (m : Machine) (c : Costs) (n : ℕ) (ts : List Task) (faultless : state_fault m c n ts ≡ 0) where
   sane : Sane m c n ts
   sane = state-sane m c n ts faultless
 
@@ -144,7 +144,7 @@ module _ (m : Machine) (c : Costs) (n : ℕ) (ts : List Task) (faultless : state
   -- no other number than 7 comes of the walk
   sticks-with : (k j : ℕ) → walked m c (take n ts) ≡ stuck k j → j ≡ 7
   unfolding walked
-  sticks-with k j e = only-seven m c (λ i. (taskAt (take n ts) i).times) (packed (take n ts)) k j e
+  sticks-with k j e = only-seven m c (λ i. (task_at (take n ts) i).times) (packed (take n ts)) k j e
 
   pub plan-or-stuck : ((s : Stand) × (l : List (Placed ℕ)) × (walked m c (take n ts) ≡ fine s l)
       × (plan_of m c n ts ≡ finished m c (take n ts) (fine s l)))
@@ -185,15 +185,15 @@ module _ (m : Machine) (c : Costs) (n : ℕ) (ts : List Task) (faultless : state
       by (fine s l) e z y = absurd (omega arith)
       by (stuck j i) e z y = (let same : j ≡ k = omega arith in e ∙ (ap (λ (x : ℕ). stuck x i) same ∙ ap (stuck k) (sticks-with j i e)))
 
-  pub no-room-at : (k : ℕ) → walked m c (take n ts) ≡ stuck k 7 → SticksAt (placeWay m c (take n ts)) (placeWay m c (take n ts)).begin (packed (take n ts)) k 7
+  pub no-room-at : (k : ℕ) → walked m c (take n ts) ≡ stuck k 7 → SticksAt (place_way m c (take n ts)) (place_way m c (take n ts)).begin (packed (take n ts)) k 7
   unfolding walked
-  no-room-at k e = stuck-where (placeWay m c (take n ts)) (placeWay m c (take n ts)).begin (packed (take n ts)) k 7 e
+  no-room-at k e = stuck-where (place_way m c (take n ts)) (place_way m c (take n ts)).begin (packed (take n ts)) k 7 e
 
   pub no-room-place : (k : ℕ) → walked m c (take n ts) ≡ stuck k 7 → k < length (take n ts)
   no-room-place k e =
       let at = no-room-at k e in
       each-middle (λ (j : ℕ). j < length (take n ts)) at.ahead k at.later
-      (subst (Each (λ j. j < length (take n ts))) at.order (in_order (take n ts)).below)
+      (subst (Each (λ j. j < length (take n ts))) at.order (in-order (take n ts)).below)
 
   -- ---- every task is placed
 
@@ -202,41 +202,41 @@ module _ (m : Machine) (c : Costs) (n : ℕ) (ts : List Task) (faultless : state
 
   sized-order : Each (λ k. Sized (whole_at (take n ts) k)) (packed (take n ts))
   sized-order =
-      pack-every (denserAt (take n ts)) (λ k. Sized (whole_at (take n ts) k)) (upto (length (take n ts)))
+      pack-every (denser_at (take n ts)) (λ k. Sized (whole_at (take n ts) k)) (upto (length (take n ts)))
       (upto-each (λ k. Sized (whole_at (take n ts) k)) (length (take n ts)) sized-place)
 
-  pub packing-ranked : Chain (Precedes (denserAt (take n ts)) (λ i j. i < j)) (packed (take n ts))
+  pub packing-ranked : Chain (Precedes (denser_at (take n ts)) (λ i j. i < j)) (packed (take n ts))
   packing-ranked =
       let places = upto (length (take n ts)) in
-      pack-ranked (λ k. 1 ≤ (whole_at (take n ts) k).window) (denserAt (take n ts)) (denser-lawful (whole_at (take n ts))) (λ i j. i < j) places
+      pack-ranked (λ k. 1 ≤ (whole_at (take n ts) k).window) (denser_at (take n ts)) (denser-lawful (whole_at (take n ts))) (λ i j. i < j) places
       (upto-each (λ k. 1 ≤ (whole_at (take n ts) k).window) (length (take n ts))
       (λ k low. (let size = sized-place k low in omega (arith, size.budget-some, size.budget-fits)))) (upto-chain (length (take n ts)))
 
-  pub packing-one : (ks : List ℕ) → Rearranged (length (take n ts)) ks → Chain (Precedes (denserAt (take n ts)) (λ i j. i < j)) ks → ks ≡ packed (take n ts)
+  pub packing-one : (ks : List ℕ) → Rearranged (length (take n ts)) ks → Chain (Precedes (denser_at (take n ts)) (λ i j. i < j)) ks → ks ≡ packed (take n ts)
   packing-one ks all ranked =
-      rearranged-one (denserAt (take n ts)) (length (take n ts)) ks (packed (take n ts)) all (packing-order (take n ts)) ranked packing-ranked
+      rearranged-one (denser_at (take n ts)) (length (take n ts)) ks (packed (take n ts)) all (packing-order (take n ts)) ranked packing-ranked
 
-  abbrev timesOf : ℕ → Times
-  timesOf k = (taskAt (take n ts) k).times
+  abbrev times_of : ℕ → Times
+  times_of k = (task_at (take n ts) k).times
 
   -- ---- some tasks at the front of the packing order, over which the walk does not stick
 
   module _ (ks rest : List ℕ) (front : packed (take n ts) ≡ ks ++ rest) (s : Stand) (l : List (Placed ℕ))
-      (planned : walkOver (placeWay m c (take n ts)) ks ≡ fine s l) where
+      (planned : walk_over (place_way m c (take n ts)) ks ≡ fine s l) where
     front-each : (P : ℕ → Type 0) → Each P (packed (take n ts)) → Each P ks
     front-each P all = (each-parts P ks rest (subst (Each P) front all)).0
 
     front_long : length ks ≤ length (take n ts)
-    front_long = omega (arith, (in_order (take n ts)).long, ap length front, length-append ks rest)
+    front_long = omega (arith, (in-order (take n ts)).long, ap length front, length-append ks rest)
 
-    front-facts : Planned (claims m c timesOf) ks s l
+    front-facts : Planned (claims m c times_of) ks s l
     front-facts =
-        walk-planned m c timesOf sane.costs sane.cores-some ks (front-each (λ k. Sized (whole_at (take n ts) k)) sized-order) s l planned
+        walk-planned m c times_of sane.costs sane.cores-some ks (front-each (λ k. Sized (whole_at (take n ts) k)) sized-order) s l planned
 
     front-places : Each (λ e. e.item < length (take n ts)) l
     front-places =
-        walk-items (placeWay m c (take n ts)) (λ k. k < length (take n ts)) (placeWay m c (take n ts)).begin s ks l
-        (front-each (λ k. k < length (take n ts)) (in_order (take n ts)).below) planned
+        walk-items (place_way m c (take n ts)) (λ k. k < length (take n ts)) (place_way m c (take n ts)).begin s ks l
+        (front-each (λ k. k < length (take n ts)) (in-order (take n ts)).below) planned
 
     front-sized : Each (λ e. Sized e.piece) l
     front-sized = pieces-each Sized l (λ q. (front-facts.rows q).sizes)
@@ -249,8 +249,8 @@ module _ (m : Machine) (c : Costs) (n : ℕ) (ts : List Task) (faultless : state
         let row : (q : ℕ) → length (row_of q l) ≤ length (take n ts) =
         (λ q. omega (
           arith,
-          length-map (onCore q l) (λ (e : Placed ℕ). e.piece),
-          few-on-core m.cores (whole_at (take n ts)) (claims m c timesOf).Share q facts.shares,
+          length-map (on_core q l) (λ (e : Placed ℕ). e.piece),
+          few-on-core m.cores (whole_at (take n ts)) (claims m c times_of).Share q facts.shares,
           front_long,
         )) in
         record {
@@ -261,45 +261,45 @@ module _ (m : Machine) (c : Costs) (n : ℕ) (ts : List Task) (faultless : state
           splits =
               omega (
                 arith,
-                shares-firsts c m.grain m.cores (whole_at (take n ts)) (λ k. whole-kind (timesOf k)) facts.shares,
+                shares-firsts c m.grain m.cores (whole_at (take n ts)) (λ k. whole-kind (times_of k)) facts.shares,
                 facts.faithful.count,
                 facts.faithful.below,
               );
-          cores = spots-within m.cores (whole_at (take n ts)) (claims m c timesOf).Share facts.shares;
+          cores = spots-within m.cores (whole_at (take n ts)) (claims m c times_of).Share facts.shares;
         }
 
     front-room : Room l
     front-room = record {
       pieces = front-counts.pieces-fit;
-      seats = λ q. omega (arith, front-counts.row_fits q, length-map (onCore q l) (λ (e : Placed ℕ). e.piece));
+      seats = λ q. omega (arith, front-counts.row_fits q, length-map (on_core q l) (λ (e : Placed ℕ). e.piece));
       cores = each-imp (λ (e : Placed ℕ). e.on < m.cores) (λ (e : Placed ℕ). e.on < 16) (λ e h. omega (arith, sane.cores-fit)) l front-counts.cores;
     }
 
-    front_kept : Kept (layoutOn none l) l
+    front_kept : Kept (layout_on none l) l
     front_kept = kept l front-room
 
-    front-shows : LayoutShows (layoutOn none l) l
-    front-shows = kept-shows (layoutOn none l) l front-room front_kept
+    front-shows : LayoutShows (layout_on none l) l
+    front-shows = kept-shows (layout_on none l) l front-room front_kept
 
   module _ (s : Stand) (l : List (Placed ℕ)) (planned : walked m c (take n ts) ≡ fine s l) where
     -- all of them are such
     all : packed (take n ts) ≡ packed (take n ts) ++ []
     all = sym (append-nil (packed (take n ts)))
 
-    over : walkOver (placeWay m c (take n ts)) (packed (take n ts)) ≡ fine s l
+    over : walk_over (place_way m c (take n ts)) (packed (take n ts)) ≡ fine s l
     unfolding walked
     over = planned
 
     -- what every walk's plan is
-    facts : Planned (claims m c timesOf) (packed (take n ts)) s l
+    facts : Planned (claims m c times_of) (packed (take n ts)) s l
     facts = front-facts (packed (take n ts)) [] all s l over
 
     -- a task's share
     share : (k : ℕ) → k < length (take n ts)
-        → Has byPlace place-exact (Divided m.cores (whole_at (take n ts)) (claims m c timesOf).Share) [] k l
+        → Has by_place place-exact (Divided m.cores (whole_at (take n ts)) (claims m c times_of).Share) [] k l
     share k low =
-        let order = in_order (take n ts) in
-        share-of byPlace place-exact (Divided m.cores (whole_at (take n ts)) (claims m c timesOf).Share) k facts.shares order.apart (order.every k low)
+        let order = in-order (take n ts) in
+        share-of by_place place-exact (Divided m.cores (whole_at (take n ts)) (claims m c times_of).Share) k facts.shares order.apart (order.every k low)
 
     pub all_placed : (k : ℕ) → k < length (take n ts) → TaskPlaced m c (take n ts) k l
     all_placed k low =
@@ -310,40 +310,40 @@ module _ (m : Machine) (c : Costs) (n : ℕ) (ts : List Task) (faultless : state
           order = h.order ∙ ap (λ (z : List (Placed ℕ)). h.past ++ (z ++ h.later)) (sym h.is);
           shared =
               rw h.is
-              (subst (λ (j : ℕ). Shared c m.grain (whole_at (take n ts) j) h.past j (map (placedAs h.item) h.spots)) h.own h.has.1);
+              (subst (λ (j : ℕ). Shared c m.grain (whole_at (take n ts) j) h.past j (map (placed_as h.item) h.spots)) h.own h.has.1);
         }
 
     -- what is summed over a task's pieces
-    sum_of : (f : Piece → ℕ) (k : ℕ) (low : k < length (take n ts)) → sumBy (λ e. f e.piece) (ofTask k l) ≡ sumBy (λ e. f e.piece) (share k low).spots
+    sum_of : (f : Piece → ℕ) (k : ℕ) (low : k < length (take n ts)) → sum_by (λ e. f e.piece) (of_task k l) ≡ sum_by (λ e. f e.piece) (share k low).spots
     sum_of f k low =
-        (let h = share k low in ap (sumBy (λ (e : Placed ℕ). f e.piece)) h.is
-        ∙ sum-map (λ (e : Placed ℕ). f e.piece) (placedAs h.item) h.spots)
+        (let h = share k low in ap (sum_by (λ (e : Placed ℕ). f e.piece)) h.is
+        ∙ sum-map (λ (e : Placed ℕ). f e.piece) (placed_as h.item) h.spots)
 
-    pub budgets-add : (k : ℕ) → k < length (take n ts) → sumBy (λ e. e.piece.budget) (ofTask k l) ≡ (taskAt (take n ts) k).times.worst
-    unfolding wholePiece
+    pub budgets-add : (k : ℕ) → k < length (take n ts) → sum_by (λ e. e.piece.budget) (of_task k l) ≡ (task_at (take n ts) k).times.worst
+    unfolding whole_piece
     budgets-add k low =
-        (let h = share k low in sum_of (λ q. q.budget) k low ∙ (h.has.0.budgets ∙ ap (λ (j : ℕ). (taskAt (take n ts) j).times.worst) h.own))
+        (let h = share k low in sum_of (λ q. q.budget) k low ∙ (h.has.0.budgets ∙ ap (λ (j : ℕ). (task_at (take n ts) j).times.worst) h.own))
 
-    pub windows-add : (k : ℕ) → k < length (take n ts) → sumBy (λ e. e.piece.window) (ofTask k l) ≡ (taskAt (take n ts) k).times.deadline
-    unfolding wholePiece
+    pub windows-add : (k : ℕ) → k < length (take n ts) → sum_by (λ e. e.piece.window) (of_task k l) ≡ (task_at (take n ts) k).times.deadline
+    unfolding whole_piece
     windows-add k low =
         (let h = share k low in sum_of (λ q. q.window) k low
-        ∙ (h.has.0.windows ∙ ap (λ (j : ℕ). (taskAt (take n ts) j).times.deadline) h.own))
+        ∙ (h.has.0.windows ∙ ap (λ (j : ℕ). (task_at (take n ts) j).times.deadline) h.own))
 
     pub jitters-told : (k : ℕ) → k < length (take n ts)
         → Each (λ e. e.piece.jitter
-        ≡ cond (arrives e.piece.kind) (c.precision + c.ipb + c.relo + c.tseto) (taskAt (take n ts) k).times.jitter) (ofTask k l)
-    unfolding wholePiece
+        ≡ cond (arrives e.piece.kind) (c.precision + c.ipb + c.relo + c.tseto) (task_at (take n ts) k).times.jitter) (of_task k l)
+    unfolding whole_piece
     jitters-told k low =
         let h = all_placed k low in
-        subst (λ (j : ℕ). Each (λ e. e.piece.jitter ≡ cond (arrives e.piece.kind) j (taskAt (take n ts) k).times.jitter) (ofTask k l))
-        (late-jitter-is c sane.costs) (shared-jitters c m.grain (whole_at (take n ts) k) h.past k (whole-kind (timesOf k)) h.shared)
+        subst (λ (j : ℕ). Each (λ e. e.piece.jitter ≡ cond (arrives e.piece.kind) j (task_at (take n ts) k).times.jitter) (of_task k l))
+        (late-jitter-is c sane.costs) (shared-jitters c m.grain (whole_at (take n ts) k) h.past k (whole-kind (times_of k)) h.shared)
 
     pub free-is-budget : (k : ℕ) → k < length (take n ts) → Free c (whole_at (take n ts) k)
-        → Each (λ e. e.piece.kind ≡ First → e.piece.window ≡ e.piece.budget) (ofTask k l)
+        → Each (λ e. e.piece.kind ≡ First → e.piece.window ≡ e.piece.budget) (of_task k l)
     free-is-budget k low free =
         let h = all_placed k low in
-        shared-free c m.grain (whole_at (take n ts) k) h.past k (sized-place k low) free (whole-kind (timesOf k)) h.shared
+        shared-free c m.grain (whole_at (take n ts) k) h.past k (sized-place k low) free (whole-kind (times_of k)) h.shared
 
     pub placed-places : Each (λ e. e.item < length (take n ts)) l
     placed-places = front-places (packed (take n ts)) [] all s l over
@@ -353,7 +353,7 @@ module _ (m : Machine) (c : Costs) (n : ℕ) (ts : List Task) (faultless : state
 
     -- ---- every core passes
 
-    pub cores-pass : (q : ℕ) → verdictOf c (row_of q l) ≡ Passes
+    pub cores-pass : (q : ℕ) → verdict_of c (row_of q l) ≡ Passes
     cores-pass q = (facts.rows q).passing
 
     pub cores-keep-up : (q t : ℕ) → Live (core_of c (row_of q l)) t → demand (stall c) (core_of c (row_of q l)) t ≤ t
@@ -361,69 +361,69 @@ module _ (m : Machine) (c : Costs) (n : ℕ) (ts : List Task) (faultless : state
 
     -- ---- numbers
 
-    pub task-pieces : (k : ℕ) → k < length (take n ts) → length (ofTask k l) ≡ 1 + splitCount (ofTask k l)
+    pub task-pieces : (k : ℕ) → k < length (take n ts) → length (of_task k l) ≡ 1 + split_count (of_task k l)
     task-pieces k low =
         let h = all_placed k low in
-        shared-firsts c m.grain (whole_at (take n ts) k) h.past k (whole-kind (timesOf k)) h.shared
+        shared-firsts c m.grain (whole_at (take n ts) k) h.past k (whole-kind (times_of k)) h.shared
 
     pub plan-counts : Counted m.cores (length (take n ts)) l
     plan-counts = front-counts (packed (take n ts)) [] all s l over
 
     -- ---- rows and words
 
-    laid : (plan_of m c n ts).plan.layout ≡ layoutOn none l
+    laid : (plan_of m c n ts).plan.layout ≡ layout_on none l
     laid = ap (λ (r : Reply). r.plan.layout) (ended ∙ ap (finished m c (take n ts)) planned)
 
     pub plan-shows : LayoutShows (plan_of m c n ts).plan.layout l
     plan-shows = rw laid (front-shows (packed (take n ts)) [] all s l over)
 
-    pub words-show : (q : ℕ) → q < 16 → WordShows (get_or (plan_of m c n ts).plan.layout.words q 0) (onCore q l)
+    pub words-show : (q : ℕ) → q < 16 → WordShows (get_or (plan_of m c n ts).plan.layout.words q 0) (on_core q l)
     words-show q low =
-        word-shows (get_or (plan_of m c n ts).plan.layout.words q 0) (onCore q l) (rw laid ((front_kept (packed (take n ts)) [] all s l over).core q low blank).word)
-        (apart-on m.cores (whole_at (take n ts)) (claims m c timesOf).Share q (λ k. k) facts.shares (in_order (take n ts)).apart)
+        word-shows (get_or (plan_of m c n ts).plan.layout.words q 0) (on_core q l) (rw laid ((front_kept (packed (take n ts)) [] all s l over).core q low blank).word)
+        (apart-on m.cores (whole_at (take n ts)) (claims m c times_of).Share q (λ k. k) facts.shares (in-order (take n ts)).apart)
 
   -- ---- what was placed before the walk stuck
 
-  pub reached-ended : reachedOf m c n ts
-      ≡ reaching (planPlaced m c (take n ts) (walkedUntil m c (take n ts))) (finished m c (take n ts) (walked m c (take n ts)))
-  unfolding reachedOf
+  pub reached-ended : reached_of m c n ts
+      ≡ reaching (plan_placed m c (take n ts) (walked_until m c (take n ts))) (finished m c (take n ts) (walked m c (take n ts)))
+  unfolding reached_of
   reached-ended = rw faultless
 
-  pub reached-fine : (plan_of m c n ts).number ≡ 0 → reachedOf m c n ts ≡ plan_of m c n ts
+  pub reached-fine : (plan_of m c n ts).number ≡ 0 → reached_of m c n ts ≡ plan_of m c n ts
   unfolding walked
   reached-fine none =
       let w = plan-comes.0 none in
-      let W = placeWay m c (take n ts) in
+      let W = place_way m c (take n ts) in
       let fine-is = ap (finished m c (take n ts)) w.2 in
-      let all-is : walkedUntil m c (take n ts) ≡ w.1 = until-fine W W.begin w.0 (packed (take n ts)) w.1 w.2 in
+      let all-is : walked_until m c (take n ts) ≡ w.1 = until-fine W W.begin w.0 (packed (take n ts)) w.1 w.2 in
       reached-ended
-      ∙ (ap (reaching (planPlaced m c (take n ts) (walkedUntil m c (take n ts)))) fine-is
-      ∙ (ap (λ (z : List (Placed ℕ)). reaching (planPlaced m c (take n ts) z) (finished m c (take n ts) (fine w.0 w.1))) all-is
+      ∙ (ap (reaching (plan_placed m c (take n ts) (walked_until m c (take n ts)))) fine-is
+      ∙ (ap (λ (z : List (Placed ℕ)). reaching (plan_placed m c (take n ts) z) (finished m c (take n ts) (fine w.0 w.1))) all-is
       ∙ sym (ended ∙ fine-is)))
 
   pub reached-stuck : (k : ℕ) → walked m c (take n ts) ≡ stuck k 7
-      → reachedOf m c n ts ≡ record { number = 7; carries = suc k; plan = planPlaced m c (take n ts) (walkedUntil m c (take n ts)) }
+      → reached_of m c n ts ≡ record { number = 7; carries = suc k; plan = plan_placed m c (take n ts) (walked_until m c (take n ts)) }
   reached-stuck k e = reached-ended
-      ∙ ap (λ (o : Ending Stand ℕ). reaching (planPlaced m c (take n ts) (walkedUntil m c (take n ts))) (finished m c (take n ts) o)) e
+      ∙ ap (λ (o : Ending Stand ℕ). reaching (plan_placed m c (take n ts) (walked_until m c (take n ts))) (finished m c (take n ts) o)) e
 
-  reaches : Reaches (placeWay m c (take n ts)) (placeWay m c (take n ts)).begin (packed (take n ts))
-  reaches = until-reaches (placeWay m c (take n ts)) (placeWay m c (take n ts)).begin (packed (take n ts))
+  reaches : Reaches (place_way m c (take n ts)) (place_way m c (take n ts)).begin (packed (take n ts))
+  reaches = until-reaches (place_way m c (take n ts)) (place_way m c (take n ts)).begin (packed (take n ts))
 
-  pub reached-sized : Each (λ e. Sized e.piece) (walkedUntil m c (take n ts))
-  reached-sized = (let r = reaches in front-sized r.ahead r.rest r.order r.at (walkedUntil m c (take n ts)) r.reached)
+  pub reached-sized : Each (λ e. Sized e.piece) (walked_until m c (take n ts))
+  reached-sized = (let r = reaches in front-sized r.ahead r.rest r.order r.at (walked_until m c (take n ts)) r.reached)
 
-  pub reached-places : Each (λ e. e.item < length (take n ts)) (walkedUntil m c (take n ts))
-  reached-places = (let r = reaches in front-places r.ahead r.rest r.order r.at (walkedUntil m c (take n ts)) r.reached)
+  pub reached-places : Each (λ e. e.item < length (take n ts)) (walked_until m c (take n ts))
+  reached-places = (let r = reaches in front-places r.ahead r.rest r.order r.at (walked_until m c (take n ts)) r.reached)
 
-  pub reached-counts : Counted m.cores (length (take n ts)) (walkedUntil m c (take n ts))
-  reached-counts = (let r = reaches in front-counts r.ahead r.rest r.order r.at (walkedUntil m c (take n ts)) r.reached)
+  pub reached-counts : Counted m.cores (length (take n ts)) (walked_until m c (take n ts))
+  reached-counts = (let r = reaches in front-counts r.ahead r.rest r.order r.at (walked_until m c (take n ts)) r.reached)
 
-  pub reached-shows : LayoutShows (layoutOn none (walkedUntil m c (take n ts))) (walkedUntil m c (take n ts))
-  reached-shows = (let r = reaches in front-shows r.ahead r.rest r.order r.at (walkedUntil m c (take n ts)) r.reached)
+  pub reached-shows : LayoutShows (layout_on none (walked_until m c (take n ts))) (walked_until m c (take n ts))
+  reached-shows = (let r = reaches in front-shows r.ahead r.rest r.order r.at (walked_until m c (take n ts)) r.reached)
 
   pub no-room-last : (k : ℕ) → walked m c (take n ts) ≡ stuck k 7
-      → verdictOf c (row_of (m.cores - 1) (walkedUntil m c (take n ts)) ++ (whole_at (take n ts) k ∷ [])) ≡ Passes → ⊥
+      → verdict_of c (row_of (m.cores - 1) (walked_until m c (take n ts)) ++ (whole_at (take n ts) k ∷ [])) ≡ Passes → ⊥
   no-room-last k e =
       let at = no-room-at k e in
-      let facts = front-facts at.ahead (k ∷ at.later) at.order at.at (walkedUntil m c (take n ts)) at.reached in
-      refused-last c m.grain m.cores (whole_at (take n ts)) at.ahead at.at (walkedUntil m c (take n ts)) k 7 facts.faithful at.refused
+      let facts = front-facts at.ahead (k ∷ at.later) at.order at.at (walked_until m c (take n ts)) at.reached in
+      refused-last c m.grain m.cores (whole_at (take n ts)) at.ahead at.at (walked_until m c (take n ts)) k 7 facts.faithful at.refused

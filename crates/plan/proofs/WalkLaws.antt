@@ -14,27 +14,27 @@ use Rattle.demand.specs.Sizes.{Sized, SizedCosts, Each}
 use Rattle.demand.proofs.Sums.{each-imp}
 use Rattle.task.specs.declared.Times.{Times}
 use Rattle.task.specs.declared.Machine.{Machine}
-use Rattle.task.specs.Tasks.{wholePiece}
-use Rattle.walks.specs.Way.{Placed, fine, stuck, walkOver}
+use Rattle.task.specs.Tasks.{whole_piece}
+use Rattle.walks.specs.Way.{Placed, fine, stuck, walk_over}
 use Rattle.walks.specs.Halves.{Stand}
 use Rattle.walks.proofs.SoundLaws.{Claim, Planned, walk-sound}
 use Rattle.walks.proofs.HalvesLaws.{Right, halves, halving-sound, sticks-seven}
-use Rattle.plan.specs.Walk.{wayFor}
+use Rattle.plan.specs.Walk.{way_for}
 
-pub whole-kind : (t : Times) → (wholePiece t).kind ≡ Whole
-unfolding wholePiece
+pub whole-kind : (t : Times) → (whole_piece t).kind ≡ Whole
+unfolding whole_piece
 whole-kind t = refl
 
 module _ {A : Type 0} (m : Machine) (c : Costs) (times : A → Times) where
   abbrev pub claims : Claim A Stand
-  claims = halves c m.grain m.cores (λ a. wholePiece (times a))
+  claims = halves c m.grain m.cores (λ a. whole_piece (times a))
 
-  pub walk-planned : SizedCosts c → 1 ≤ m.cores → (xs : List A) → Each (λ a. Sized (wholePiece (times a))) xs
-      → (s : Stand) (l : List (Placed A)) → walkOver (wayFor m c (λ a. wholePiece (times a))) xs ≡ fine s l → Planned claims xs s l
+  pub walk-planned : SizedCosts c → 1 ≤ m.cores → (xs : List A) → Each (λ a. Sized (whole_piece (times a))) xs
+      → (s : Stand) (l : List (Placed A)) → walk_over (way_for m c (λ a. whole_piece (times a))) xs ≡ fine s l → Planned claims xs s l
   walk-planned costs some xs sizes =
-      walk-sound (wayFor m c (λ a. wholePiece (times a))) claims (halving-sound c m.grain m.cores (λ a. wholePiece (times a)) costs some) xs
-      (each-imp (λ a. Sized (wholePiece (times a))) (λ a. Right (wholePiece (times a)))
+      walk-sound (way_for m c (λ a. whole_piece (times a))) claims (halving-sound c m.grain m.cores (λ a. whole_piece (times a)) costs some) xs
+      (each-imp (λ a. Sized (whole_piece (times a))) (λ a. Right (whole_piece (times a)))
       (λ a size. record { size = size; kind = whole-kind (times a) }) xs sizes)
 
-  pub only-seven : (xs : List A) (a : A) (n : ℕ) → walkOver (wayFor m c (λ a. wholePiece (times a))) xs ≡ stuck a n → n ≡ 7
-  only-seven = sticks-seven c m.grain m.cores (λ a. wholePiece (times a))
+  pub only-seven : (xs : List A) (a : A) (n : ℕ) → walk_over (way_for m c (λ a. whole_piece (times a))) xs ≡ stuck a n → n ≡ 7
+  only-seven = sticks-seven c m.grain m.cores (λ a. whole_piece (times a))

@@ -23,10 +23,10 @@ use lib.ListN.{length}
 use Rattle.demand.specs.Sizes.{Each}
 use Rattle.walks.specs.Lists.{Lacks, Apart, keep}
 use Rattle.walks.specs.Way.{Placed}
-use Rattle.plan.specs.Places.{ofTask}
+use Rattle.plan.specs.Places.{of_task}
 use Rattle.plan.specs.Shows.{bit_of, WordShows}
 use Rattle.plan.proofs.Ones.{ones-or-fresh, bit-set, bit-kept-high, bit-kept-low}
-use Rattle.plan.proofs.ShowLaws.{wordOn}
+use Rattle.plan.proofs.ShowLaws.{word_on}
 
 -- ---- a bit for each piece
 
@@ -47,12 +47,12 @@ fresh_kept : (w k : ℕ) (l : List (Placed ℕ)) → Lacks (λ e. e.item) k l �
 fresh_kept w k [] h g = tt
 fresh_kept w k (e ∷ l) h g = (bit_kept w k e.item (λ same. h.0 (sym same)) ∙ g.0, fresh_kept w k l h.1 g.1)
 
-pub word-bits : (w : ℕ) (l : List (Placed ℕ)) → Apart (λ e. e.item) l → Fresh w l → (k : ℕ) → bit_of (wordOn w l) k ≡ bit_of w k + length (ofTask k l)
+pub word-bits : (w : ℕ) (l : List (Placed ℕ)) → Apart (λ e. e.item) l → Fresh w l → (k : ℕ) → bit_of (word_on w l) k ≡ bit_of w k + length (of_task k l)
 word-bits w [] h g k = omega arith
 word-bits w (e ∷ l) h g k = by (eqb e.item k) refl (word-bits (bit_or w (2 ^ e.item)) l h.1 (fresh_kept w e.item l h.0 g.1) k)
   where
-    by : (t : Bool) → eqb e.item k ≡ t → bit_of (wordOn (bit_or w (2 ^ e.item)) l) k ≡ bit_of (bit_or w (2 ^ e.item)) k + length (ofTask k l)
-        → bit_of (wordOn (bit_or w (2 ^ e.item)) l) k ≡ bit_of w k + length (keep t e (ofTask k l))
+    by : (t : Bool) → eqb e.item k ≡ t → bit_of (word_on (bit_or w (2 ^ e.item)) l) k ≡ bit_of (bit_or w (2 ^ e.item)) k + length (of_task k l)
+        → bit_of (word_on (bit_or w (2 ^ e.item)) l) k ≡ bit_of w k + length (keep t e (of_task k l))
     by true f r =
         let same = eqb-true e.item k f in
         let old : bit_of w k ≡ 0 = subst (λ (j : ℕ). bit_of w j ≡ 0) same g.0 in
@@ -60,7 +60,7 @@ word-bits w (e ∷ l) h g k = by (eqb e.item k) refl (word-bits (bit_or w (2 ^ e
         r ∙ omega arith
     by false f r = r ∙ omega (arith, bit_kept w e.item k (eqb-false e.item k f))
 
-pub word_ones : (w : ℕ) (l : List (Placed ℕ)) → Apart (λ e. e.item) l → Fresh w l → ones (wordOn w l) ≡ ones w + length l
+pub word_ones : (w : ℕ) (l : List (Placed ℕ)) → Apart (λ e. e.item) l → Fresh w l → ones (word_on w l) ≡ ones w + length l
 word_ones w [] h g = omega arith
 word_ones w (e ∷ l) h g = omega (arith, word_ones (bit_or w (2 ^ e.item)) l h.1 (fresh_kept w e.item l h.0 g.1), ones-or-fresh w e.item g.0)
 
@@ -76,11 +76,11 @@ zero_bits (e ∷ l) = (zero_bit e.item, zero_bits l)
 small : (n : ℕ) → n % 2 ≤ 1
 small n = omega arith
 
-pub word-shows : (w : ℕ) (l : List (Placed ℕ)) → w ≡ wordOn 0 l → Apart (λ e. e.item) l → WordShows w l
+pub word-shows : (w : ℕ) (l : List (Placed ℕ)) → w ≡ word_on 0 l → Apart (λ e. e.item) l → WordShows w l
 word-shows w l e apart =
-    let bit : (k : ℕ) → bit_of w k ≡ length (ofTask k l) =
+    let bit : (k : ℕ) → bit_of w k ≡ length (of_task k l) =
     (λ k. ap (λ (v : ℕ). bit_of v k) e ∙ (word-bits 0 l apart (zero_bits l) k ∙ omega (arith, zero_bit k))) in
-    let single : (k : ℕ) → length (ofTask k l) ≤ 1 = (λ k. omega (arith, bit k, small (w / 2 ^ k))) in
+    let single : (k : ℕ) → length (of_task k l) ≤ 1 = (λ k. omega (arith, bit k, small (w / 2 ^ k))) in
     record {
       bit = bit;
       set = λ k. ((λ on. omega (arith, bit k)), (λ some. omega (arith, bit k, single k)));

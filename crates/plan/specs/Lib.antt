@@ -6,4 +6,4 @@ pub mod Plan
 pub mod Refusals
 pub mod Places
 pub mod Shows
-pub mod ways
+pub mod Ways

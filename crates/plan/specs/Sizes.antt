@@ -1,11 +1,11 @@
--- The sizes of a plan: document 01, "Sizes". A lent run of records has a size of its own, `runMost`.
+-- The sizes of a plan: document 01, "Sizes". A lent run of records has a size of its own, `run_most`.
 --
---   piecesMost        pieces in a plan: 64 tasks and 15 splits
---   rowMost           pieces on one core of it
+--   pieces_most        pieces in a plan: 64 tasks and 15 splits
+--   row_most           pieces on one core of it
 use Rattle.std.specs.Prelude.{ℕ}
 
-abbrev pub piecesMost : ℕ
-piecesMost = 79
+abbrev pub pieces_most : ℕ
+pieces_most = 79
 
-abbrev pub rowMost : ℕ
-rowMost = 64
+abbrev pub row_most : ℕ
+row_most = 64

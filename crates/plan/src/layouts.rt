@@ -1,10 +1,10 @@
 // The plan's rows and words, one piece at a time.
 ghost use Rattle.std.specs.Prelude.{◌≡◌, ◌<◌, ◌≤◌, ◌^◌};
 ghost use Rattle.std.specs.Int.Bits.{bit_or};
-ghost use Rattle.plan.specs.Layout.{stored, keptPiece, none, layoutOn};
-ghost use Rattle.plan.specs.ways.PlacedArray.{placedIn, HasRoom};
-ghost use Rattle.plan.specs.Sizes.{piecesMost};
-ghost use Rattle.task.specs.Tasks.{tasksMost};
+ghost use Rattle.plan.specs.Layout.{stored, kept_piece, none, layout_on};
+ghost use Rattle.plan.specs.Ways.PlacedArray.{placed_in, HasRoom};
+ghost use Rattle.plan.specs.Sizes.{pieces_most};
+ghost use Rattle.task.specs.Tasks.{tasks_most};
 
 use crate::seats::seat_at;
 use crate::{Layout, PIECES_MOST, PLACED_NUMBERS, ROW_MOST, Stored};
@@ -30,7 +30,7 @@ pub fn store(k: usize, q: Piece) -> Stored
 
 // The piece that is kept.
 pub fn piece_of(s: Stored) -> Piece
-    ensures { result ≡ keptPiece s }
+    ensures { result ≡ kept_piece s }
 {
     Piece {
         kind: kind_of(s.kind),
@@ -44,7 +44,7 @@ pub fn piece_of(s: Stored) -> Piece
 }
 
 pub fn with_bit(word: u64, k: usize) -> u64
-    requires { k < tasksMost }
+    requires { k < tasks_most }
     ensures { result ≡ bit_or word (2 ^ k) }
 {
     word | (1u64 << k)
@@ -75,8 +75,8 @@ pub fn empty() -> Layout
 
 // The first n that were placed, one piece at a time.
 pub fn layout_of(placed: &[u64; PLACED_NUMBERS], n: usize) -> Layout
-    requires { (n ≤ piecesMost) × HasRoom (placedIn placed.now n) }
-    ensures { result ≡ layoutOn none (placedIn placed.now n) }
+    requires { (n ≤ pieces_most) × HasRoom (placed_in placed.now n) }
+    ensures { result ≡ layout_on none (placed_in placed.now n) }
 {
     let mut s = empty();
     let mut i: usize = 0;

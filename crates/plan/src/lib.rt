@@ -7,8 +7,8 @@ mod times;
 mod walk;
 
 ghost use Rattle.std.specs.Prelude.{◌≡◌};
-ghost use Rattle.plan.specs.Layout.{tasksOn, keptPiece};
-ghost use Rattle.plan.specs.Plan.{plan_of, reachedOf, refused};
+ghost use Rattle.plan.specs.Layout.{tasks_on, kept_piece};
+ghost use Rattle.plan.specs.Plan.{plan_of, reached_of, refused};
 
 use demand::{Costs, Piece, RUN_NUMBERS, no_costs};
 use layouts::{empty, layout_of, piece_of};
@@ -121,7 +121,7 @@ fn refuse(number: u64, carries: usize) -> Reply
 /// The plan of a machine, costs and a list of tasks, and where the walk sticks what it placed before. It is refused as `plan_tasks` is, with the
 /// same numbers; with 7 there is a plan all the same, of the pieces placed before the task that the walk sticks at.
 pub fn plan_reached(machine: Machine, costs: Costs, tasks: Tasks) -> Reply
-    ensures exact { result ≡ reachedOf machine costs tasks.count tasks.list }
+    ensures exact { result ≡ reached_of machine costs tasks.count tasks.list }
 {
     let fault = state_fault(machine, costs, tasks);
     if fault != 0 {
@@ -180,14 +180,14 @@ fn wide(n: u32) -> u64
 
 /// A piece that the plan keeps, as the verdict sees it.
 pub fn stored_piece(stored: Stored) -> Piece
-    ensures exact { result ≡ keptPiece stored }
+    ensures exact { result ≡ kept_piece stored }
 {
     piece_of(stored)
 }
 
 /// The number of tasks on a core, counted from 0: the ones of its word, and none past the sixteenth.
 pub fn tasks_on(layout: Layout, core: usize) -> u64
-    ensures exact { result ≡ tasksOn layout core }
+    ensures exact { result ≡ tasks_on layout core }
 {
     if CORES_MOST <= core {
         return 0;

@@ -1,7 +1,7 @@
 // What the walk placed, in one lent array of numbers, nine to a piece, in placement order.
 ghost use Rattle.std.specs.Prelude.{◌≡◌, ◌<◌, ◌*◌, length};
-ghost use Rattle.plan.specs.ways.PlacedArray.{seatOf, placed_at, Put};
-ghost use Rattle.plan.specs.Sizes.{piecesMost};
+ghost use Rattle.plan.specs.Ways.PlacedArray.{seat_of, placed_at, Put};
+ghost use Rattle.plan.specs.Sizes.{pieces_most};
 
 use crate::{PLACED_NUMBERS, Seat};
 use demand::{Piece, kind_number, kind_of};
@@ -20,8 +20,8 @@ fn narrow(n: u64) -> usize
 
 // The piece with the number i, with its core and its task's place.
 pub fn seat_at(placed: &[u64; PLACED_NUMBERS], i: usize) -> Seat
-    requires { i < piecesMost }
-    ensures { seatOf result.core result.task result.piece ≡ placed_at placed.now i }
+    requires { i < pieces_most }
+    ensures { seat_of result.core result.task result.piece ≡ placed_at placed.now i }
 {
     let at = 9 * i;
     let core = narrow(placed[at]);
@@ -45,8 +45,8 @@ pub fn seat_at(placed: &[u64; PLACED_NUMBERS], i: usize) -> Seat
 
 // The piece q of the task at place k, on the core p, goes behind the first n.
 pub fn put_seat(placed: &mut [u64; PLACED_NUMBERS], n: usize, p: usize, k: usize, q: Piece)
-    requires { (n < piecesMost) × (length placed.old ≡ 9 * piecesMost) }
-    ensures { Put placed.old n (seatOf p k q) placed.new }
+    requires { (n < pieces_most) × (length placed.old ≡ 9 * pieces_most) }
+    ensures { Put placed.old n (seat_of p k q) placed.new }
 {
     let at = 9 * n;
     let kind = q.kind;

@@ -1,16 +1,16 @@
 // A list of tasks with zeros past its end; and its times, laid out once in one array of numbers, six to a task, and lent from then on.
 ghost use Rattle.std.specs.Prelude.{◌≡◌, ◌<◌, ◌≤◌, ◌*◌, take, length, replicate};
-ghost use Rattle.plan.specs.ways.TimesArray.{timesAt, Laid, OthersKept};
+ghost use Rattle.plan.specs.Ways.TimesArray.{times_at, Laid, OthersKept};
 ghost use Rattle.demand.specs.Lists.{padded};
-ghost use Rattle.task.specs.Tasks.{tasksMost, noTask};
+ghost use Rattle.task.specs.Tasks.{tasks_most, no_task};
 
 use crate::TIMES_NUMBERS;
 use task::{TASKS_MOST, Tasks, Times, no_task};
 
 // The list with zeros past its end.
 pub fn tidy(tasks: Tasks) -> Tasks
-    requires { tasks.count ≤ tasksMost }
-    ensures { (result.count ≡ tasks.count) × (result.list ≡ padded tasksMost noTask (take tasks.count tasks.list)) }
+    requires { tasks.count ≤ tasks_most }
+    ensures { (result.count ≡ tasks.count) × (result.list ≡ padded tasks_most no_task (take tasks.count tasks.list)) }
 {
     let mut next = tasks;
     let blank = no_task();
@@ -24,8 +24,8 @@ pub fn tidy(tasks: Tasks) -> Tasks
 
 // The times of the task at place i.
 pub fn times_at(times: &[u64; TIMES_NUMBERS], i: usize) -> Times
-    requires { i < tasksMost }
-    ensures { result ≡ timesAt times.now i }
+    requires { i < tasks_most }
+    ensures { result ≡ times_at times.now i }
 {
     let at = 6 * i;
     Times {
@@ -40,8 +40,8 @@ pub fn times_at(times: &[u64; TIMES_NUMBERS], i: usize) -> Times
 
 // The times t go to place i.
 pub fn put_times(times: &mut [u64; TIMES_NUMBERS], i: usize, t: Times)
-    requires { (i < tasksMost) × (length times.old ≡ 6 * tasksMost) }
-    ensures { (timesAt times.new i ≡ t) × OthersKept i times.old times.new × (length times.new ≡ 6 * tasksMost) }
+    requires { (i < tasks_most) × (length times.old ≡ 6 * tasks_most) }
+    ensures { (times_at times.new i ≡ t) × OthersKept i times.old times.new × (length times.new ≡ 6 * tasks_most) }
 {
     let at = 6 * i;
     times[at] = t.worst;
@@ -54,7 +54,7 @@ pub fn put_times(times: &mut [u64; TIMES_NUMBERS], i: usize, t: Times)
 
 // The times of the tasks go into an array of zeros.
 pub fn lay_times(times: &mut [u64; TIMES_NUMBERS], tasks: Tasks)
-    requires { (tasks.count ≤ tasksMost) × (times.old ≡ replicate (6 * tasksMost) 0) }
+    requires { (tasks.count ≤ tasks_most) × (times.old ≡ replicate (6 * tasks_most) 0) }
     ensures { Laid times.new (take tasks.count tasks.list) }
 {
     let mut i: usize = 0;

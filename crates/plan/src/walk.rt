@@ -1,14 +1,14 @@
 // The C=D walk. What it placed lies in a lent array, and the records to be judged in another.
 ghost use Rattle.std.specs.Prelude.{◌≡◌, [], ◌∷◌, ◌++◌, ◌+◌, ◌-◌, ◌<◌, ◌*◌, take, length};
-ghost use Rattle.demand.specs.Sizes.{Sized, runMost};
-ghost use Rattle.demand.specs.Split.{greatestSplit, firstPiece, lastPiece};
-ghost use Rattle.demand.specs.Verdict.{verdictOf};
+ghost use Rattle.demand.specs.Sizes.{Sized, run_most};
+ghost use Rattle.demand.specs.Split.{greatest_split, first_piece, last_piece};
+ghost use Rattle.demand.specs.Verdict.{verdict_of};
 ghost use Rattle.walks.specs.Way.{landed};
 ghost use Rattle.walks.specs.Halves.{from_core};
-ghost use Rattle.plan.specs.ways.TimesArray.{wholeIn};
-ghost use Rattle.plan.specs.ways.PlacedArray.{seatOf, placedIn, Put};
-ghost use Rattle.plan.specs.ways.WalkGoing.{piecesOfRow, firstRecords, AskFits, SeatFits, BothFit, LandFits, seatedOf, next_of, stickOf, beginOf, Both, Reach, ReachOver, WalkFits};
-ghost use Rattle.task.specs.Tasks.{coresMost, tasksMost};
+ghost use Rattle.plan.specs.Ways.TimesArray.{whole_in};
+ghost use Rattle.plan.specs.Ways.PlacedArray.{seat_of, placed_in, Put};
+ghost use Rattle.plan.specs.Ways.WalkGoing.{pieces_of_row, first_records, AskFits, SeatFits, BothFit, LandFits, seated_of, next_of, stick_of, begin_of, Both, Reach, ReachOver, WalkFits};
+ghost use Rattle.task.specs.Tasks.{cores_most, tasks_most};
 
 use crate::rows::lay_row;
 use crate::seats::put_seat;
@@ -26,7 +26,7 @@ use verdicts::judge_records;
 pub fn judge_with(costs: Costs, records: &mut [u64; RUN_NUMBERS], n: usize, q: Piece) -> Verdict
     requires ask_fits { AskFits costs records.old n }
     requires sized { Sized q }
-    ensures { (result ≡ verdictOf costs (firstRecords records.old n ++ (q ∷ []))) × (firstRecords records.new (n + 1) ≡ firstRecords records.old n ++ (q ∷ [])) × (length records.new ≡ 7 * runMost) }
+    ensures { (result ≡ verdict_of costs (first_records records.old n ++ (q ∷ []))) × (first_records records.new (n + 1) ≡ first_records records.old n ++ (q ∷ [])) × (length records.new ≡ 7 * run_most) }
 {
     put_record(records, n, q);
     let Answer::Judged(v) = judge_records(costs, records, n + 1) else {
@@ -39,7 +39,7 @@ pub fn judge_with(costs: Costs, records: &mut [u64; RUN_NUMBERS], n: usize, q: P
 pub fn split_on(costs: Costs, grain: u64, records: &[u64; RUN_NUMBERS], n: usize, q: Piece) -> Split
     requires ask_fits { AskFits costs records.now n }
     requires sized { Sized q }
-    ensures { result ≡ greatestSplit costs grain (firstRecords records.now n) q }
+    ensures { result ≡ greatest_split costs grain (first_records records.now n) q }
 {
     let Splitting::Best(s) = split_records(costs, records, n, q, grain) else {
         return Split::Nowhere;
@@ -50,7 +50,7 @@ pub fn split_on(costs: Costs, grain: u64, records: &[u64; RUN_NUMBERS], n: usize
 // A piece of the task at place k on the core.
 pub fn seat(placed: &mut [u64; PLACED_NUMBERS], going: Going, k: usize, q: Piece) -> Going
     requires { SeatFits placed.old going }
-    ensures { (result ≡ seatedOf going) × Put placed.old going.count (seatOf going.core k q) placed.new }
+    ensures { (result ≡ seated_of going) × Put placed.old going.count (seat_of going.core k q) placed.new }
 {
     let number = going.count;
     put_seat(placed, number, going.core, k, q);
@@ -66,7 +66,7 @@ pub fn seat(placed: &mut [u64; PLACED_NUMBERS], going: Going, k: usize, q: Piece
 
 // The next core, with nothing on it.
 pub fn next_core(going: Going) -> Going
-    requires { going.core < coresMost }
+    requires { going.core < cores_most }
     ensures { result ≡ next_of going }
 {
     let mut row = going.row;
@@ -78,8 +78,8 @@ pub fn next_core(going: Going) -> Going
 }
 
 pub fn stick(going: Going, k: usize) -> Going
-    requires { k < tasksMost }
-    ensures { result ≡ stickOf going k }
+    requires { k < tasks_most }
+    ensures { result ≡ stick_of going k }
 {
     let mut next = going;
     next.stuck = k + 1;
@@ -88,7 +88,7 @@ pub fn stick(going: Going, k: usize) -> Going
 
 // A walk that has not begun.
 pub fn begin() -> Going
-    ensures { result ≡ beginOf }
+    ensures { result ≡ begin_of }
 {
     let row = Row {
         len: 0,
@@ -113,7 +113,7 @@ pub fn seat_both(
     w: u64,
 ) -> Going
     requires { BothFit placed.old going }
-    ensures { (result ≡ seatedOf (next_of (seatedOf going))) × Both placed.old going.count (seatOf going.core k (firstPiece whole x w)) (seatOf (going.core + 1) k (lastPiece costs whole x w)) placed.new }
+    ensures { (result ≡ seated_of (next_of (seated_of going))) × Both placed.old going.count (seat_of going.core k (first_piece whole x w)) (seat_of (going.core + 1) k (last_piece costs whole x w)) placed.new }
 {
     let one = seat(placed, going, k, first_piece(whole, x, w));
     let two = next_core(one);
@@ -132,7 +132,7 @@ pub fn land<'a>(
 ) -> Going
     requires land_fits { LandFits machine.cores costs placed.old records.old going k }
     requires sized { Sized whole }
-    ensures { Reach (placedIn placed.old going.count) (placedIn placed.old going.count) placed.new records.new result (landed k (from_core costs machine.grain whole (machine.cores - 1 - going.core) going.core (piecesOfRow placed.old going.row))) }
+    ensures { Reach (placed_in placed.old going.count) (placed_in placed.old going.count) placed.new records.new result (landed k (from_core costs machine.grain whole (machine.cores - 1 - going.core) going.core (pieces_of_row placed.old going.row))) }
 {
     let mut here = going;
     loop {
@@ -164,7 +164,7 @@ pub fn walk_over<'a>(
     records: &'a mut [u64; RUN_NUMBERS],
 ) -> Going
     requires { WalkFits machine costs times.now n order.now placed.old records.old }
-    ensures { ReachOver machine costs (wholeIn times.now) placed.new records.new result (take n order.now) }
+    ensures { ReachOver machine costs (whole_in times.now) placed.new records.new result (take n order.now) }
 {
     let mut going = begin();
     let mut i: usize = 0;

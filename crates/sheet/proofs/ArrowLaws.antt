@@ -15,10 +15,10 @@ use Rattle.task.specs.declared.Task.{Task}
 use Rattle.task.specs.Tasks.{task_of, list_of}
 use Rattle.lines.specs.declared.Word.{Word}
 use Rattle.lines.specs.declared.Line.{Line}
-use Rattle.lines.specs.Lines.{bytes_of, fields, name_of, isName}
-use Rattle.lines.specs.Forms.{timesOf, values, line_of}
+use Rattle.lines.specs.Lines.{bytes_of, fields, name_of, is_name}
+use Rattle.lines.specs.Forms.{times_of, values, line_of}
 use Rattle.lines.proofs.SaysLaws.{says-part, says-fit, name-exact}
-use Rattle.sheet.specs.Sheet.{Above, lineFault, partNamed, wordAfter, after, whole, outcomeOf, read_of}
+use Rattle.sheet.specs.Sheet.{Above, line_fault, part_named, word_after, after, whole, outcome_of, read_of}
 use Rattle.sheet.specs.Fitted.{lines_of, Fitted}
 use Rattle.sheet.proofs.FaultLaws.{line-fit}
 use Rattle.sheet.proofs.WholeLaws.{read_keeps, read_whole, read-tasks, Found, found}
@@ -31,9 +31,9 @@ record Stands (ls : List (List ℕ)) (p : Part) : Type 0 where
   numbers : List (List ℕ)
   order : ls ≡ above ++ (line ∷ below)
   reads : fields line ≡ bytes_of "part" ∷ name ∷ numbers
-  good : isName name ≡ true
+  good : is_name name ≡ true
   named : p.name ≡ name_of name
-  timed : p.times ≡ timesOf (values numbers)
+  timed : p.times ≡ times_of (values numbers)
 
 -- ---- one line more
 
@@ -55,20 +55,20 @@ module _ (ls : List (List ℕ)) (l : List ℕ) where
 
   fitted-on : (t : Task) → Fitted ls t → Fitted (ls ++ (l ∷ [])) t
   fitted-on t f =
-      let inner : (f.between ++ (f.fit_line ∷ f.below)) ++ (l ∷ []) ≡ f.between ++ (f.fit_line ∷ (f.below ++ (l ∷ []))) =
-      append_assoc f.between (f.fit_line ∷ f.below) (l ∷ []) in
+      let inner : (f.between ++ (f.fit-line ∷ f.below)) ++ (l ∷ []) ≡ f.between ++ (f.fit-line ∷ (f.below ++ (l ∷ []))) =
+      append_assoc f.between (f.fit-line ∷ f.below) (l ∷ []) in
       record {
         above = f.above;
         between = f.between;
         below = f.below ++ (l ∷ []);
         part-line = f.part-line;
-        fit_line = f.fit_line;
+        fit-line = f.fit-line;
         part-name = f.part-name;
         part-numbers = f.part-numbers;
         task-name = f.task-name;
         order =
             ap (λ (k : List (List ℕ)). k ++ (l ∷ [])) f.order
-            ∙ append_assoc f.above (f.part-line ∷ (f.between ++ (f.fit_line ∷ f.below))) (l ∷ [])
+            ∙ append_assoc f.above (f.part-line ∷ (f.between ++ (f.fit-line ∷ f.below))) (l ∷ [])
             ∙ ap (λ (k : List (List ℕ)). f.above ++ (f.part-line ∷ k)) inner;
         part-reads = f.part-reads;
         fit-reads = f.fit-reads;
@@ -104,7 +104,7 @@ part-stands ls l word =
 
 -- the part that a fit line names has its very bytes
 task-fitted : (ls : List (List ℕ)) (l : List ℕ) (parts : List Part) → (line_of l).word ≡ Word.Fit → Found (Stands ls) (line_of l).part.name parts
-    → Fitted (ls ++ (l ∷ [])) (task_of (line_of l).task (partNamed (line_of l).part.name parts))
+    → Fitted (ls ++ (l ∷ [])) (task_of (line_of l).task (part_named (line_of l).part.name parts))
 task-fitted ls l parts word f =
     let s = says-fit l word in
     let p = f.holds in
@@ -115,7 +115,7 @@ task-fitted ls l parts word f =
       between = p.below;
       below = [];
       part-line = p.line;
-      fit_line = l;
+      fit-line = l;
       part-name = p.name;
       part-numbers = p.numbers;
       task-name = s.task;
@@ -126,7 +126,7 @@ task-fitted ls l parts word f =
       timed = ap (λ (k : Part). k.times) f.is ∙ p.timed;
     }
 
-arrows-step : (ls : List (List ℕ)) (a : Above) (l : List ℕ) → Arrows ls a → lineFault a (line_of l) ≡ 0 → Arrows (ls ++ (l ∷ [])) (after a (line_of l))
+arrows-step : (ls : List (List ℕ)) (a : Above) (l : List ℕ) → Arrows ls a → line_fault a (line_of l) ≡ 0 → Arrows (ls ++ (l ∷ [])) (after a (line_of l))
 unfolding after
 arrows-step ls a l so_far none = by_word (line_of l).word refl
   where
@@ -136,7 +136,7 @@ arrows-step ls a l so_far none = by_word (line_of l).word refl
     tasks : Each (Fitted (ls ++ (l ∷ []))) a.tasks
     tasks = each_on (Fitted ls) (Fitted (ls ++ (l ∷ []))) (fitted-on ls l) a.tasks so_far.tasks-fitted
 
-    by_word : (w : Word) → (line_of l).word ≡ w → Arrows (ls ++ (l ∷ [])) (wordAfter w a (line_of l))
+    by_word : (w : Word) → (line_of l).word ≡ w → Arrows (ls ++ (l ∷ [])) (word_after w a (line_of l))
     by_word Word.Machine word = record { parts-stand = parts; tasks-fitted = tasks }
     by_word Word.Cost word = record { parts-stand = parts; tasks-fitted = tasks }
     by_word Word.Part word = record {
@@ -148,13 +148,13 @@ arrows-step ls a l so_far none = by_word (line_of l).word refl
         let one = task-fitted ls l a.parts word (found (Stands ls) 1 (line_of l).part.name a.parts so_far.parts-stand known) in
         record {
           parts-stand = parts;
-          tasks-fitted = each_snoc (Fitted (ls ++ (l ∷ []))) a.tasks (task_of (line_of l).task (partNamed (line_of l).part.name a.parts)) tasks one;
+          tasks-fitted = each_snoc (Fitted (ls ++ (l ∷ []))) a.tasks (task_of (line_of l).task (part_named (line_of l).part.name a.parts)) tasks one;
         }
     by_word Word.Other word = record { parts-stand = parts; tasks-fitted = tasks }
 
 -- ---- the whole sheet
 
-tasks-of : (bytes : List ℕ) (b : Above) → outcomeOf bytes ≡ whole b → Each (Fitted (lines_of bytes)) b.tasks
+tasks-of : (bytes : List ℕ) (b : Above) → outcome_of bytes ≡ whole b → Each (Fitted (lines_of bytes)) b.tasks
 tasks-of bytes b e = (read_keeps Arrows (record { parts-stand = tt; tasks-fitted = tt }) arrows-step bytes b e).0.tasks-fitted
 
 pub first-arrow : (bytes : List ℕ) → (read_of bytes).number ≡ 0 → Each (Fitted (lines_of bytes)) (list_of (read_of bytes).sheet.tasks)

@@ -23,64 +23,64 @@ use Rattle.task.specs.Names.{same_name}
 use Rattle.demand.specs.Sizes.{sized}
 use Rattle.task.specs.declared.Part.{Part}
 use Rattle.task.specs.declared.Parts.{Parts}
-use Rattle.task.specs.Tasks.{tasksMost, no_part, noTask, task_of, wholePiece, list_of, placeBy, rule, or_else, tasksOf}
+use Rattle.task.specs.Tasks.{tasks_most, no_part, no_task, task_of, whole_piece, list_of, place_by, rule, or_else, tasks_of}
 use Rattle.task.proofs.TaskLaws.{by-other, by-here, by_end}
 use Rattle.lines.specs.declared.Word.{Word}
 use Rattle.lines.specs.declared.Line.{Line}
 use Rattle.sheet.specs.declared.Head.{Head}
 use Rattle.demand.specs.Lists.{padded}
 use Rattle.demand.proofs.PaddedLaws.{padded-none, padded-take, padded-put, padded-length}
-use Rattle.sheet.specs.Sheet.{Above, partFault, fitFault, lineFault, wordAfter, after, partNamed}
-use Rattle.sheet.specs.ways.ReaderHolds.{parts_of, head_of, Carries, Found}
+use Rattle.sheet.specs.Sheet.{Above, part_fault, fit_fault, line_fault, word_after, after, part_named}
+use Rattle.sheet.specs.Ways.ReaderHolds.{parts_of, head_of, Carries, Found}
 
 -- ---- lists in arrays
 
 -- xs, with z behind them
-module _ {A : Type 0} (z : A) (list xs : List A) (kept : list ≡ padded tasksMost z xs) where
-  array_long : length list ≡ tasksMost
-  array_long = rw kept (padded-length z tasksMost xs)
+module _ {A : Type 0} (z : A) (list xs : List A) (kept : list ≡ padded tasks_most z xs) where
+  array_long : length list ≡ tasks_most
+  array_long = rw kept (padded-length z tasks_most xs)
 
-  array-is : length xs ≤ tasksMost → take (length xs) list ≡ xs
-  array-is few = rw kept (padded-take z tasksMost xs few)
+  array-is : length xs ≤ tasks_most → take (length xs) list ≡ xs
+  array-is few = rw kept (padded-take z tasks_most xs few)
 
-  array-put : (x : A) → length xs < tasksMost → set list (length xs) x ≡ padded tasksMost z (xs ++ (x ∷ []))
-  array-put x space = rw kept (padded-put z tasksMost xs x space)
+  array-put : (x : A) → length xs < tasks_most → set list (length xs) x ≡ padded tasks_most z (xs ++ (x ∷ []))
+  array-put x space = rw kept (padded-put z tasks_most xs x space)
 
-pub parts_none : (p : Part) → p ≡ no_part → record { count = 0; list = replicate tasksMost p } ≡ parts_of []
-parts_none p e = rw (e, padded-none no_part tasksMost)
+pub parts_none : (p : Part) → p ≡ no_part → record { count = 0; list = replicate tasks_most p } ≡ parts_of []
+parts_none p e = rw (e, padded-none no_part tasks_most)
 
-module _ (q : Tasks) (ts : List Task) (kept : q ≡ tasksOf ts) where
-  tasks-list : q.list ≡ padded tasksMost noTask ts
+module _ (q : Tasks) (ts : List Task) (kept : q ≡ tasks_of ts) where
+  tasks-list : q.list ≡ padded tasks_most no_task ts
   tasks-list = ap (λ (p : Tasks). p.list) kept
 
   pub tasks-count : q.count ≡ length ts
   tasks-count = ap (λ (p : Tasks). p.count) kept
 
-  pub tasks-array : length q.list ≡ tasksMost
-  tasks-array = array_long noTask q.list ts tasks-list
+  pub tasks-array : length q.list ≡ tasks_most
+  tasks-array = array_long no_task q.list ts tasks-list
 
-  pub tasks-are : length ts ≤ tasksMost → list_of q ≡ ts
-  tasks-are few = ap (λ (n : ℕ). take n q.list) tasks-count ∙ array-is noTask q.list ts tasks-list few
+  pub tasks-are : length ts ≤ tasks_most → list_of q ≡ ts
+  tasks-are few = ap (λ (n : ℕ). take n q.list) tasks-count ∙ array-is no_task q.list ts tasks-list few
 
-  pub tasks-put : (t : Task) → length ts < tasksMost → record { count = q.count + 1; list = set q.list q.count t } ≡ tasksOf (ts ++ (t ∷ []))
+  pub tasks-put : (t : Task) → length ts < tasks_most → record { count = q.count + 1; list = set q.list q.count t } ≡ tasks_of (ts ++ (t ∷ []))
   tasks-put t space =
       let long : length (ts ++ (t ∷ [])) ≡ q.count + 1 = length-append ts (t ∷ []) ∙ ap (λ (n : ℕ). n + 1) (sym tasks-count) in
-      cc (tasks-count, long, array-put noTask q.list ts tasks-list t space)
+      cc (tasks-count, long, array-put no_task q.list ts tasks-list t space)
 
 module _ (q : Parts) (ps : List Part) (kept : q ≡ parts_of ps) where
-  parts-list : q.list ≡ padded tasksMost no_part ps
+  parts-list : q.list ≡ padded tasks_most no_part ps
   parts-list = ap (λ (p : Parts). p.list) kept
 
   pub parts-count : q.count ≡ length ps
   parts-count = ap (λ (p : Parts). p.count) kept
 
-  pub parts-array : length q.list ≡ tasksMost
+  pub parts-array : length q.list ≡ tasks_most
   parts-array = array_long no_part q.list ps parts-list
 
-  pub parts_are : length ps ≤ tasksMost → take q.count q.list ≡ ps
+  pub parts_are : length ps ≤ tasks_most → take q.count q.list ≡ ps
   parts_are few = ap (λ (n : ℕ). take n q.list) parts-count ∙ array-is no_part q.list ps parts-list few
 
-  pub parts-put : (p : Part) → length ps < tasksMost → record { count = q.count + 1; list = set q.list q.count p } ≡ parts_of (ps ++ (p ∷ []))
+  pub parts-put : (p : Part) → length ps < tasks_most → record { count = q.count + 1; list = set q.list q.count p } ≡ parts_of (ps ++ (p ∷ []))
   parts-put p space =
       let long : length (ps ++ (p ∷ [])) ≡ q.count + 1 = length-append ps (p ∷ []) ∙ ap (λ (n : ℕ). n + 1) (sym parts-count) in
       cc (parts-count, long, array-put no_part q.list ps parts-list p space)
@@ -89,15 +89,15 @@ module _ (q : Parts) (ps : List Part) (kept : q ≡ parts_of ps) where
 
 module _ (a : Above) (h : Head) (ps : Parts) (ts : Tasks) (held : Carries a h ps ts) (l : Line) (next : Head) (head : next ≡ head_of (after a l)) where
   -- a word that adds nothing to the lists
-  pub holds_same : (w : Word) → l.word ≡ w → (wordAfter w a l).parts ≡ a.parts → (wordAfter w a l).tasks ≡ a.tasks → Carries (after a l) next ps ts
+  pub holds_same : (w : Word) → l.word ≡ w → (word_after w a l).parts ≡ a.parts → (word_after w a l).tasks ≡ a.tasks → Carries (after a l) next ps ts
   unfolding after
   holds_same w word parts tasks = record {
     head-is = head;
-    parts_are = held.parts_are ∙ ap parts_of (sym (ap (λ (v : Word). (wordAfter v a l).parts) word ∙ parts));
-    tasks-are = held.tasks-are ∙ ap tasksOf (sym (ap (λ (v : Word). (wordAfter v a l).tasks) word ∙ tasks));
+    parts_are = held.parts_are ∙ ap parts_of (sym (ap (λ (v : Word). (word_after v a l).parts) word ∙ parts));
+    tasks-are = held.tasks-are ∙ ap tasks_of (sym (ap (λ (v : Word). (word_after v a l).tasks) word ∙ tasks));
   }
 
-  pub holds-part : l.word ≡ Word.Part → length a.parts < tasksMost
+  pub holds-part : l.word ≡ Word.Part → length a.parts < tasks_most
       → Carries (after a l) next (record { count = ps.count + 1; list = set ps.list ps.count l.part }) ts
   unfolding after
   holds-part word space = record {
@@ -106,27 +106,27 @@ module _ (a : Above) (h : Head) (ps : Parts) (ts : Tasks) (held : Carries a h ps
     tasks-are = rw word held.tasks-are;
   }
 
-  pub holds-task : l.word ≡ Word.Fit → length a.tasks < tasksMost → (t : Task) → t ≡ task_of l.task (partNamed l.part.name a.parts)
+  pub holds-task : l.word ≡ Word.Fit → length a.tasks < tasks_most → (t : Task) → t ≡ task_of l.task (part_named l.part.name a.parts)
       → Carries (after a l) next ps (record { count = ts.count + 1; list = set ts.list ts.count t })
   unfolding after
   holds-task word space t made = record {
     head-is = head;
     parts_are = rw word held.parts_are;
-    tasks-are = rw (word, made) (tasks-put ts a.tasks held.tasks-are (task_of l.task (partNamed l.part.name a.parts)) space);
+    tasks-are = rw (word, made) (tasks-put ts a.tasks held.tasks-are (task_of l.task (part_named l.part.name a.parts)) space);
   }
 
 -- ---- what is wrong with a line, by what was found
 
 module _ (a : Above) (l : Line) (source parts twin tasks : ℕ) (found : Found a l source parts twin tasks) where
   pub found_part : l.word ≡ Word.Part
-      → rule (eqb a.stage 2) 8 (rule (sized (wholePiece l.part.times)) 3 (rule (eqb source 0) 4 (rule (ltb parts tasksMost) 6 0)))
-      ≡ lineFault a l
-  unfolding lineFault partFault
+      → rule (eqb a.stage 2) 8 (rule (sized (whole_piece l.part.times)) 3 (rule (eqb source 0) 4 (rule (ltb parts tasks_most) 6 0)))
+      ≡ line_fault a l
+  unfolding line_fault part_fault
   found_part word = rw (word, found.source_is, found.parts-count)
 
   pub found-fit : l.word ≡ Word.Fit
-      → rule (leb 2 a.stage) 8 (rule (eqb twin 0) 4 (rule (not (eqb source 0)) 5 (rule (ltb tasks tasksMost) 6 0))) ≡ lineFault a l
-  unfolding lineFault fitFault
+      → rule (leb 2 a.stage) 8 (rule (eqb twin 0) 4 (rule (not (eqb source 0)) 5 (rule (ltb tasks tasks_most) 6 0))) ≡ line_fault a l
+  unfolding line_fault fit_fault
   found-fit word = rw (word, found.source_is, found.twin-is, found.tasks-count)
 
 -- ---- the search for a name, among things that have one
@@ -134,7 +134,7 @@ module _ (a : Above) (l : Line) (source parts twin tasks : ℕ) (found : Found a
 pub record Seeking {A : Type 0} (key : A → Name) (n : Name) (m : ℕ) (xs : List A) (k s : ℕ) : Type 0 where
   pub low : k ≤ m
   pub quiet : k < m → s ≡ 0
-  pub place : placeBy key 1 n (take m xs) ≡ or_else s (placeBy key (k + 1) n (drop k (take m xs)))
+  pub place : place_by key 1 n (take m xs) ≡ or_else s (place_by key (k + 1) n (drop k (take m xs)))
 
 or_else_none : (s : ℕ) → or_else s 0 ≡ s
 or_else_none zero = refl
@@ -145,13 +145,13 @@ module _ {A : Type 0} (key : A → Name) (n : Name) (m : ℕ) (xs : List A) wher
   seek-start = record { low = omega arith; quiet = λ h. refl; place = refl }
 
   module _ (k s : ℕ) (seek : Seeking key n m xs k s) where
-    pub seek-end : m ≤ k → s ≡ placeBy key 1 n (take m xs)
+    pub seek-end : m ≤ k → s ≡ place_by key 1 n (take m xs)
     seek-end over =
         sym (seek.place ∙ (ap (or_else s) (by_end key (k + 1) n m xs k (omega (arith, length-take m xs))) ∙ or_else_none s))
 
     module _ (more : k < m) (room : k < length xs) (d : A) where
-      so_far : placeBy key 1 n (take m xs) ≡ placeBy key (k + 1) n (drop k (take m xs))
-      so_far = seek.place ∙ ap (λ (z : ℕ). or_else z (placeBy key (k + 1) n (drop k (take m xs)))) (seek.quiet more)
+      so_far : place_by key 1 n (take m xs) ≡ place_by key (k + 1) n (drop k (take m xs))
+      so_far = seek.place ∙ ap (λ (z : ℕ). or_else z (place_by key (k + 1) n (drop k (take m xs)))) (seek.quiet more)
 
       pub seek-other : same_name n (key (get_or xs k d)) ≡ false → Seeking key n m xs (k + 1) s
       seek-other other = record {
@@ -167,8 +167,8 @@ module _ {A : Type 0} (key : A → Name) (n : Name) (m : ℕ) (xs : List A) wher
         place = so_far ∙ (by-here key n m xs k d more room same ∙ rw (add-one k));
       }
 
-abbrev pub partName : Part → Name
-partName p = p.name
+abbrev pub part_name : Part → Name
+part_name p = p.name
 
-abbrev pub taskName : Task → Name
-taskName t = t.name
+abbrev pub task_name : Task → Name
+task_name t = t.name

@@ -1,7 +1,7 @@
 -- Where a sheet ends: nothing stands behind its last newline exactly where its last byte is one.
 -- Assumes nothing.
 --
---   tailOf bytes     what stands behind the last newline: nothing, or a line that was cut
+--   tail_of bytes     what stands behind the last newline: nothing, or a line that was cut
 --   tail-ends        that is so
 use mathlib.Core.Path.{◌≡◌, refl, ap}
 use mathlib.Core.Bool.{Bool, true, false, cond}
@@ -15,8 +15,8 @@ use lib.ListN.{length}
 use Rattle.demand.specs.Tables.{Not}
 use Rattle.lines.specs.Lines.{newline, up_to, beyond}
 
-unfoldable pub tailOf : List ℕ → List ℕ
-tailOf bytes = get_last_d (up_to newline bytes ∷ beyond newline bytes) []
+unfoldable pub tail_of : List ℕ → List ℕ
+tail_of bytes = get_last_d (up_to newline bytes ∷ beyond newline bytes) []
 
 pub cons-some : {A : Type 0} (x : A) (l : List A) → Not (x ∷ l ≡ [])
 cons-some x l e = let z : suc (length l) ≡ 0 = ap length e in omega arith
@@ -51,7 +51,7 @@ ends_some x (y ∷ s) = by (eqb x newline) (ends_some y s)
     by true h = h
     by false h = on (up_to newline (y ∷ s)) (beyond newline (y ∷ s)) (first_some y s) h
 
-pub tail-ends : (bytes : List ℕ) → (tailOf bytes ≡ []) ↔ (get_last_d bytes newline ≡ newline)
-unfolding tailOf Ends get_last_d up_to beyond
+pub tail-ends : (bytes : List ℕ) → (tail_of bytes ≡ []) ↔ (get_last_d bytes newline ≡ newline)
+unfolding tail_of Ends get_last_d up_to beyond
 tail-ends [] = ((λ e. refl), (λ e. refl))
 tail-ends (x ∷ s) = ends_some x s

@@ -4,15 +4,15 @@
 use mathlib.Core.Path.{◌≡◌, refl}
 use mathlib.Core.List.{List, [], ◌∷◌, map}
 use Prim.Native.String.{String}
-use Rattle.demand.specs.Sizes.{sized, sizedCosts}
+use Rattle.demand.specs.Sizes.{sized, sized_costs}
 use Rattle.task.specs.declared.Task.{Task}
-use Rattle.task.specs.Names.{nameByte, formed, same_name}
-use Rattle.task.specs.Tasks.{wholePiece, sizedMachine}
-use Rattle.lines.specs.Lines.{bytes_of, up_to, beyond, is_number, name_of, isName}
+use Rattle.task.specs.Names.{name_byte, formed, same_name}
+use Rattle.task.specs.Tasks.{whole_piece, sized_machine}
+use Rattle.lines.specs.Lines.{bytes_of, up_to, beyond, is_number, name_of, is_name}
 use Rattle.demand.specs.Lists.{padded}
-use Rattle.demand.specs.Charge.{noCosts}
-use Rattle.lines.specs.Forms.{machineForm, costForm, part_form, fitForm, word_of, line_of}
-use Rattle.sheet.specs.Sheet.{Outcome, refused, whole, amongFits, machineFault, costFault, partFault, fitFault, lineFault, after, readFrom, outcomeOf}
+use Rattle.demand.specs.Charge.{no_costs}
+use Rattle.lines.specs.Forms.{machine_form, cost_form, part_form, fit_form, word_of, line_of}
+use Rattle.sheet.specs.Sheet.{Outcome, refused, whole, among_fits, machine_fault, cost_fault, part_fault, fit_fault, line_fault, after, read_from, outcome_of}
 
 -- a sheet, and what is to be made of it
 record Row : Type 0 where
@@ -29,9 +29,9 @@ rows =
       text = "machine\t2\t1\ncost\t0\t0\t0\t0\t0\t0\t0\t0\t0\npart\tdrv-a\t6\t10\t10\t0\t0\t1\nfit\tpress\tdrv-a\nfit\tfeed\tdrv-a\nfit\tweld\tdrv-a\n";
       outcome =
           whole (record {
-            stage = amongFits;
+            stage = among_fits;
             machine = record { cores = 2; grain = 1 };
-            costs = noCosts;
+            costs = no_costs;
             parts = record { name = name_of (bytes_of "drv-a"); times = (timed "drv-a").times } ∷ [];
             tasks = timed "press" ∷ timed "feed" ∷ timed "weld" ∷ [];
           });
@@ -47,9 +47,9 @@ rows =
     ∷ []
 
 read : Row → Outcome
-read r = outcomeOf (bytes_of r.text)
+read r = outcome_of (bytes_of r.text)
 
 all-rows : map read rows ≡ map (λ (r : Row). r.outcome) rows
-unfolding read rows timed outcomeOf readFrom lineFault machineFault costFault partFault fitFault after line_of word_of machineForm costForm
-    part_form fitForm up_to beyond is_number isName name_of padded formed nameByte same_name sizedMachine sizedCosts sized wholePiece
+unfolding read rows timed outcome_of read_from line_fault machine_fault cost_fault part_fault fit_fault after line_of word_of machine_form cost_form
+    part_form fit_form up_to beyond is_number is_name name_of padded formed name_byte same_name sized_machine sized_costs sized whole_piece
 all-rows = refl

@@ -11,20 +11,20 @@ use Prim.Native.Nat.{ℕ, zero, suc, ◌≤◌}
 use native.Mathlib.Omega.{arith}
 use borrow.Author.Tests.{le-leb}
 use lib.ListN.{length}
-use Rattle.demand.specs.Sizes.{Each, sized, sizedCosts}
+use Rattle.demand.specs.Sizes.{Each, sized, sized_costs}
 use Rattle.demand.proofs.Sums.{each_snoc}
 use Rattle.task.specs.declared.Part.{Part}
 use Rattle.task.specs.declared.Task.{Task}
-use Rattle.task.specs.Tasks.{task_of, tasksMost, sizedMachine, wholePiece, or_else, faultOf, firstFault, stateFault, noTask}
+use Rattle.task.specs.Tasks.{task_of, tasks_most, sized_machine, whole_piece, or_else, fault_of, first_fault, state_fault, no_task}
 use Rattle.task.specs.Names.{formed}
 use Rattle.task.proofs.TaskLaws.{fault-free}
 use Rattle.lines.specs.declared.Word.{Word}
 use Rattle.lines.specs.declared.Line.{Line}
-use Rattle.lines.specs.Lines.{isName}
+use Rattle.lines.specs.Lines.{is_name}
 use Rattle.lines.specs.Forms.{line_of}
 use Rattle.demand.proofs.PaddedLaws.{padded-take}
 use Rattle.lines.proofs.SaysLaws.{says-fit}
-use Rattle.sheet.specs.Sheet.{Above, belowMachine, amongParts, lineFault, partNamed, wordAfter, after, whole, outcomeOf, read_of}
+use Rattle.sheet.specs.Sheet.{Above, below_machine, among_parts, line_fault, part_named, word_after, after, whole, outcome_of, read_of}
 use Rattle.sheet.proofs.FaultLaws.{line-machine, line-cost, line-part, line-fit}
 use Rattle.sheet.proofs.WholeLaws.{read_keeps, read_whole, read_fits, read-shown, found}
 
@@ -34,43 +34,43 @@ or-none : (k n : ℕ) → or_else k n ≡ 0 → (k ≡ 0) × (n ≡ 0)
 or-none zero n e = (refl, e)
 or-none (suc k) n e = absurd (omega arith)
 
-first-snoc : (ts : List Task) (above : List Task) (t : Task) → firstFault above ts ≡ 0 → faultOf (above ++ ts) t ≡ 0 → firstFault above (ts ++ (t ∷ [])) ≡ 0
-first-snoc [] above t none good = let g : faultOf above t ≡ 0 = rw append-nil at good in rw g
+first-snoc : (ts : List Task) (above : List Task) (t : Task) → first_fault above ts ≡ 0 → fault_of (above ++ ts) t ≡ 0 → first_fault above (ts ++ (t ∷ [])) ≡ 0
+first-snoc [] above t none good = let g : fault_of above t ≡ 0 = rw append-nil at good in rw g
 first-snoc (s ∷ ts) above t none good =
-    let first = or-none (faultOf above s) (firstFault (above ++ (s ∷ [])) ts) none in
-    let more : faultOf ((above ++ (s ∷ [])) ++ ts) t ≡ 0 = rw (append_assoc above (s ∷ []) ts) good in
+    let first = or-none (fault_of above s) (first_fault (above ++ (s ∷ [])) ts) none in
+    let more : fault_of ((above ++ (s ∷ [])) ++ ts) t ≡ 0 = rw (append_assoc above (s ∷ []) ts) good in
     rw first.0 (first-snoc ts (above ++ (s ∷ [])) t first.1 more)
 
 -- ---- what stands above, line by line
 
 SizedPart : Part → Type 0
-SizedPart p = sized (wholePiece p.times) ≡ true
+SizedPart p = sized (whole_piece p.times) ≡ true
 
 record Sound (a : Above) : Type 0 where
-  machine-sized : belowMachine ≤ a.stage → sizedMachine a.machine ≡ true
-  costs-sized : amongParts ≤ a.stage → sizedCosts a.costs ≡ true
+  machine-sized : below_machine ≤ a.stage → sized_machine a.machine ≡ true
+  costs-sized : among_parts ≤ a.stage → sized_costs a.costs ≡ true
   parts-sized : Each SizedPart a.parts
-  tasks-good : firstFault [] a.tasks ≡ 0
+  tasks-good : first_fault [] a.tasks ≡ 0
 
 formed-task : (l : List ℕ) → (line_of l).word ≡ Word.Fit → formed (line_of l).task ≡ true
-unfolding isName
+unfolding is_name
 formed-task l word = let s = says-fit l word in ap (λ (k : Line). formed k.task) s.line ∙ s.called
 
-module _ (a : Above) (l : List ℕ) (so_far : Sound a) (none : lineFault a (line_of l) ≡ 0) where
-  task-good : (line_of l).word ≡ Word.Fit → firstFault [] (a.tasks ++ (task_of (line_of l).task (partNamed (line_of l).part.name a.parts) ∷ [])) ≡ 0
+module _ (a : Above) (l : List ℕ) (so_far : Sound a) (none : line_fault a (line_of l) ≡ 0) where
+  task-good : (line_of l).word ≡ Word.Fit → first_fault [] (a.tasks ++ (task_of (line_of l).task (part_named (line_of l).part.name a.parts) ∷ [])) ≡ 0
   unfolding SizedPart
   task-good word =
       let kept = line-fit a (line_of l) none word in
       let part = found SizedPart 1 (line_of l).part.name a.parts so_far.parts-sized kept.known in
-      let fits : sized (wholePiece (partNamed (line_of l).part.name a.parts).times) ≡ true = rw part.is part.holds in
-      first-snoc a.tasks [] (task_of (line_of l).task (partNamed (line_of l).part.name a.parts)) so_far.tasks-good
-      (fault-free a.tasks (task_of (line_of l).task (partNamed (line_of l).part.name a.parts)) (formed-task l word) fits kept.new)
+      let fits : sized (whole_piece (part_named (line_of l).part.name a.parts).times) ≡ true = rw part.is part.holds in
+      first-snoc a.tasks [] (task_of (line_of l).task (part_named (line_of l).part.name a.parts)) so_far.tasks-good
+      (fault-free a.tasks (task_of (line_of l).task (part_named (line_of l).part.name a.parts)) (formed-task l word) fits kept.new)
 
   sound-step : Sound (after a (line_of l))
   unfolding after SizedPart
   sound-step = by_word (line_of l).word refl
     where
-      by_word : (w : Word) → (line_of l).word ≡ w → Sound (wordAfter w a (line_of l))
+      by_word : (w : Word) → (line_of l).word ≡ w → Sound (word_after w a (line_of l))
       by_word Word.Machine word =
           record {
             machine-sized = λ s. (line-machine a (line_of l) none word).1;
@@ -109,14 +109,14 @@ module _ (a : Above) (l : List ℕ) (so_far : Sound a) (none : lineFault a (line
 abbrev Kept : List (List ℕ) → Above → Type 0
 Kept ls a = Sound a
 
-whole-sound : (bytes : List ℕ) (b : Above) → outcomeOf bytes ≡ whole b → Sound b × (amongParts ≤ b.stage)
+whole-sound : (bytes : List ℕ) (b : Above) → outcome_of bytes ≡ whole b → Sound b × (among_parts ≤ b.stage)
 whole-sound bytes b e =
     read_keeps Kept (record { machine-sized = λ s. absurd (omega arith); costs-sized = λ s. absurd (omega arith); parts-sized = tt; tasks-good = refl })
     (λ ls a l so_far none. sound-step a l so_far none) bytes b e
 
 pub breaks-no-rule : (bytes : List ℕ) → (read_of bytes).number ≡ 0
-    → stateFault (read_of bytes).sheet.machine (read_of bytes).sheet.costs (read_of bytes).sheet.tasks.count (read_of bytes).sheet.tasks.list ≡ 0
-unfolding stateFault
+    → state_fault (read_of bytes).sheet.machine (read_of bytes).sheet.costs (read_of bytes).sheet.tasks.count (read_of bytes).sheet.tasks.list ≡ 0
+unfolding state_fault
 breaks-no-rule bytes none =
     let w = read_whole bytes none in
     let sound = whole-sound bytes w.0 w.1 in
@@ -125,7 +125,7 @@ breaks-no-rule bytes none =
       read-shown bytes w.0 w.1,
       sound.0.machine-sized (omega (arith, sound.1)),
       sound.0.costs-sized sound.1,
-      le-leb (length w.0.tasks) tasksMost short,
-      padded-take noTask tasksMost w.0.tasks short,
+      le-leb (length w.0.tasks) tasks_most short,
+      padded-take no_task tasks_most w.0.tasks short,
     )
     sound.0.tasks-good

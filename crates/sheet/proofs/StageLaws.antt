@@ -15,65 +15,65 @@ use native.Mathlib.Omega.{arith}
 use borrow.Author.Tests.{eqb-true, eqb-false}
 use lib.Dec.{leb, eqb}
 use Rattle.demand.specs.Tables.{Rule, ◌if◌carrying◌, Not}
-use Rattle.demand.proofs.TableLaws.{Comes, here, next as goOn, Breaks, breaks-leb, breaks-eqb}
+use Rattle.demand.proofs.TableLaws.{Comes, here, next as go_on, Breaks, breaks-leb, breaks-eqb}
 use Rattle.task.specs.Tasks.{task_of, rule}
 use Rattle.lines.specs.declared.Word.{Word}
 use Rattle.lines.specs.declared.Line.{Line}
-use Rattle.sheet.specs.Sheet.{Above, atTop, belowMachine, amongParts, amongFits, top, wordFault, lineFault, partNamed, wordAfter, after}
+use Rattle.sheet.specs.Sheet.{Above, at_top, below_machine, among_parts, among_fits, top, word_fault, line_fault, part_named, word_after, after}
 use Rattle.sheet.proofs.FaultLaws.{line-machine, line-cost, line-part, line-fit}
 use Rattle.sheet.proofs.EndLaws.{cons-some}
 
 pub record Staged (a : Above) (n : ℕ) : Type 0 where
-  pub early : a.stage < amongParts → n ≡ a.stage + 1
-  pub late : amongParts ≤ a.stage → 3 ≤ n
-  pub unfitted : a.stage < amongFits → a.tasks ≡ []
-  pub fitted : amongFits ≤ a.stage → Not (a.tasks ≡ [])
+  pub early : a.stage < among_parts → n ≡ a.stage + 1
+  pub late : among_parts ≤ a.stage → 3 ≤ n
+  pub unfitted : a.stage < among_fits → a.tasks ≡ []
+  pub fitted : among_fits ≤ a.stage → Not (a.tasks ≡ [])
 
 breaks-same : {P Q : Type 0} {t : Bool} → (P → Q) → (Q → P) → Breaks P t → Breaks Q t
 breaks-same there back b = record { breaks = λ e. there (b.breaks e); fails = λ q. b.fails (back q) }
 
 module _ (a : Above) (n : ℕ) (s : Staged a n) where
   -- line 1 is at the top, and line 2 below `machine`
-  stage-line : (k : ℕ) → k < amongParts → a.stage ≡ k → n ≡ k + 1
+  stage-line : (k : ℕ) → k < among_parts → a.stage ≡ k → n ≡ k + 1
   stage-line k low is = let e : n ≡ a.stage + 1 = s.early (omega arith) in omega arith
 
-  line-stage : (k : ℕ) → k < amongParts → n ≡ k + 1 → a.stage ≡ k
+  line-stage : (k : ℕ) → k < among_parts → n ≡ k + 1 → a.stage ≡ k
   line-stage k low is =
-      elim (dec_lt a.stage amongParts) [
+      elim (dec_lt a.stage among_parts) [
         | yes few ↦ omega (arith, s.early few)
         | no many ↦ absurd (omega (arith, s.late (omega arith)))
       ]
 
-  pub breaks-at : (k : ℕ) → k < amongParts → Breaks (Not (n ≡ k + 1)) (eqb a.stage k)
+  pub breaks-at : (k : ℕ) → k < among_parts → Breaks (Not (n ≡ k + 1)) (eqb a.stage k)
   breaks-at k low = breaks-same (λ never is. never (line-stage k low is)) (λ never is. never (stage-line k low is)) (breaks-eqb a.stage k)
 
-  stage-early : a.stage < amongParts → n < 3
+  stage-early : a.stage < among_parts → n < 3
   stage-early few = omega (arith, s.early few)
 
-  line-early : n < 3 → a.stage < amongParts
-  line-early few = elim (dec_lt a.stage amongParts) [ yes low ↦ low | no high ↦ absurd (omega (arith, s.late (omega arith))) ]
+  line-early : n < 3 → a.stage < among_parts
+  line-early few = elim (dec_lt a.stage among_parts) [ yes low ↦ low | no high ↦ absurd (omega (arith, s.late (omega arith))) ]
 
-  pub breaks-early : Breaks (n < 3) (leb amongParts a.stage)
-  breaks-early = breaks-same stage-early line-early (breaks-leb amongParts a.stage)
+  pub breaks-early : Breaks (n < 3) (leb among_parts a.stage)
+  breaks-early = breaks-same stage-early line-early (breaks-leb among_parts a.stage)
 
   -- among the parts: not before the third line, and not where a task stands above
   pub comes-among : {rules : List Rule} {rest : ℕ} → Comes rules rest n
-      → Comes (8 if (n < 3) carrying n ∷ 8 if Not (a.tasks ≡ []) carrying n ∷ rules) (rule (eqb a.stage amongParts) 8 rest) n
-  comes-among {rules} {rest} more = by (eqb a.stage amongParts) refl
+      → Comes (8 if (n < 3) carrying n ∷ 8 if Not (a.tasks ≡ []) carrying n ∷ rules) (rule (eqb a.stage among_parts) 8 rest) n
+  comes-among {rules} {rest} more = by (eqb a.stage among_parts) refl
     where
-      by : (t : Bool) → eqb a.stage amongParts ≡ t
+      by : (t : Bool) → eqb a.stage among_parts ≡ t
           → Comes (8 if (n < 3) carrying n ∷ 8 if Not (a.tasks ≡ []) carrying n ∷ rules) (rule t 8 rest) n
       by true is =
-          let at = eqb-true a.stage amongParts is in
+          let at = eqb-true a.stage among_parts is in
           let enough : Not (n < 3) = λ few. omega (arith, line-early few) in
           let free : Not (Not (a.tasks ≡ [])) = λ some. some (s.unfitted (omega arith)) in
-          goOn enough (goOn free more)
+          go_on enough (go_on free more)
       by false other =
-          elim (dec_lt a.stage amongParts) [
+          elim (dec_lt a.stage among_parts) [
             | yes few ↦ here (stage-early few) refl refl
             | no many ↦
                 let enough : Not (n < 3) = λ few. omega (arith, line-early few) in
-                goOn enough (here (s.fitted (omega (arith, eqb-false a.stage amongParts other))) refl refl)
+                go_on enough (here (s.fitted (omega (arith, eqb-false a.stage among_parts other))) refl refl)
           ]
 
 -- ---- the lines from the top
@@ -85,13 +85,13 @@ snoc-some : {A : Type 0} (xs : List A) (x : A) → Not (xs ++ (x ∷ []) ≡ [])
 snoc-some [] x e = cons-some x [] e
 snoc-some (y ∷ xs) x e = cons-some y (xs ++ (x ∷ [])) e
 
-pub staged-step : (a : Above) (n : ℕ) (l : Line) → Staged a n → lineFault a l ≡ 0 → Staged (after a l) (n + 1)
-unfolding after lineFault
+pub staged-step : (a : Above) (n : ℕ) (l : Line) → Staged a n → line_fault a l ≡ 0 → Staged (after a l) (n + 1)
+unfolding after line_fault
 staged-step a n l s good = by l.word refl
   where
-    by : (w : Word) → l.word ≡ w → Staged (wordAfter w a l) (n + 1)
+    by : (w : Word) → l.word ≡ w → Staged (word_after w a l) (n + 1)
     by Word.Machine word =
-        let at = stage-line a n s atTop (omega arith) (line-machine a l good word).0 in
+        let at = stage-line a n s at_top (omega arith) (line-machine a l good word).0 in
         record {
           early = λ few. omega arith;
           late = λ many. absurd (omega arith);
@@ -99,7 +99,7 @@ staged-step a n l s good = by l.word refl
           fitted = λ many. absurd (omega arith);
         }
     by Word.Cost word =
-        let at = stage-line a n s belowMachine (omega arith) (line-cost a l good word).0 in
+        let at = stage-line a n s below_machine (omega arith) (line-cost a l good word).0 in
         record {
           early = λ few. absurd (omega arith);
           late = λ many. omega arith;
@@ -120,8 +120,8 @@ staged-step a n l s good = by l.word refl
           early = λ few. absurd (omega arith);
           late = λ many. omega (arith, s.late at);
           unfitted = λ few. absurd (omega arith);
-          fitted = λ many. snoc-some a.tasks (task_of l.task (partNamed l.part.name a.parts));
+          fitted = λ many. snoc-some a.tasks (task_of l.task (part_named l.part.name a.parts));
         }
     by Word.Other word =
-        let z : ◌≡◌ {A = ℕ} 8 0 = ap (λ (w : Word). wordFault w a l) (sym word) ∙ good in
+        let z : ◌≡◌ {A = ℕ} 8 0 = ap (λ (w : Word). word_fault w a l) (sym word) ∙ good in
         absurd (omega arith)

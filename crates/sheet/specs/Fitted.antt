@@ -8,7 +8,7 @@ use Rattle.std.specs.Prelude.{◌≡◌, ℕ}
 use mathlib.Core.List.{List, [], ◌∷◌, ◌++◌, drop_last}
 use Rattle.task.specs.declared.Task.{Task}
 use Rattle.lines.specs.Lines.{bytes_of, newline, up_to, beyond, fields, name_of}
-use Rattle.lines.specs.Forms.{timesOf, values}
+use Rattle.lines.specs.Forms.{times_of, values}
 
 -- all runs but the last: that stands behind the last newline
 unfoldable pub lines_of : List ℕ → List (List ℕ)
@@ -19,12 +19,12 @@ pub record Fitted (ls : List (List ℕ)) (t : Task) : Type 0 where
   pub between : List (List ℕ)
   pub below : List (List ℕ)
   pub part-line : List ℕ
-  pub fit_line : List ℕ
+  pub fit-line : List ℕ
   pub part-name : List ℕ
   pub part-numbers : List (List ℕ)
   pub task-name : List ℕ
-  pub order : ls ≡ above ++ (part-line ∷ (between ++ (fit_line ∷ below)))
+  pub order : ls ≡ above ++ (part-line ∷ (between ++ (fit-line ∷ below)))
   pub part-reads : fields part-line ≡ bytes_of "part" ∷ part-name ∷ part-numbers
-  pub fit-reads : fields fit_line ≡ bytes_of "fit" ∷ task-name ∷ part-name ∷ []
+  pub fit-reads : fields fit-line ≡ bytes_of "fit" ∷ task-name ∷ part-name ∷ []
   pub named : t.name ≡ name_of task-name
-  pub timed : t.times ≡ timesOf (values part-numbers)
+  pub timed : t.times ≡ times_of (values part-numbers)

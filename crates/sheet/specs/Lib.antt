@@ -2,4 +2,4 @@
 pub mod Sheet
 pub mod Fitted
 pub mod Refusals
-pub mod ways
+pub mod Ways

@@ -4,25 +4,25 @@
 --
 --   Said                  what lines say together: a machine, costs, parts and tasks
 --   unsaid                where there is no line
---   lineTable a n s       line n, which says s, below lines that say a and are good: so line 1 is `machine`, and line 2 is `cost`
---   lineBelow a s         what they say with it
---   saidBy bytes          what all lines say together
---   linesTable bytes      all lines from the top, then a line that was cut, then a missing one
---   readTable bytes       9, then the lines
+--   line_table a n s       line n, which says s, below lines that say a and are good: so line 1 is `machine`, and line 2 is `cost`
+--   line_below a s         what they say with it
+--   said_by bytes          what all lines say together
+--   lines_table bytes      all lines from the top, then a line that was cut, then a missing one
+--   read_table bytes       9, then the lines
 use Rattle.std.specs.Prelude.{◌≡◌, ℕ, ◌+◌, ◌≤◌, ◌<◌, length}
 use mathlib.Core.List.{List, [], ◌∷◌, ◌++◌, map, get_last_d}
 use Rattle.demand.specs.declared.Costs.{Costs}
 use Rattle.demand.specs.Sizes.{Sized, SizedCosts}
-use Rattle.demand.specs.Charge.{noCosts}
-use Rattle.demand.specs.Tables.{Rule, ◌if◌carrying◌, Not, downEach, below}
+use Rattle.demand.specs.Charge.{no_costs}
+use Rattle.demand.specs.Tables.{Rule, ◌if◌carrying◌, Not, down_each, below}
 use Rattle.task.specs.declared.Part.{Part}
 use Rattle.task.specs.declared.Task.{Task}
 use Rattle.task.specs.declared.Machine.{Machine}
-use Rattle.task.specs.Tasks.{tasksMost, wholePiece, noMachine, task_of, SizedMachine}
+use Rattle.task.specs.Tasks.{tasks_most, whole_piece, no_machine, task_of, SizedMachine}
 use Rattle.task.specs.Refusals.{TaskNamed, PartNamed}
 use Rattle.lines.specs.Lines.{newline}
 use Rattle.lines.specs.Says.{Saying, machine, cost, part, fit, nothing, says_of}
-use Rattle.sheet.specs.Sheet.{partNamed, sheetMost}
+use Rattle.sheet.specs.Sheet.{part_named, sheet_most}
 use Rattle.sheet.specs.Fitted.{lines_of}
 
 pub record Said : Type 0 where
@@ -32,58 +32,58 @@ pub record Said : Type 0 where
   pub tasks : List Task
 
 abbrev pub unsaid : Said
-unsaid = record { machine = noMachine; costs = noCosts; parts = []; tasks = [] }
+unsaid = record { machine = no_machine; costs = no_costs; parts = []; tasks = [] }
 
 -- ---- one line
 
-abbrev pub lineTable : Said → ℕ → Saying → List Rule
-lineTable a n (machine m) =
+abbrev pub line_table : Said → ℕ → Saying → List Rule
+line_table a n (machine m) =
     8 if Not (n ≡ 1) carrying n
     ∷ 1 if Not (SizedMachine m) carrying n
     ∷ []
-lineTable a n (cost c) =
+line_table a n (cost c) =
     8 if Not (n ≡ 2) carrying n
     ∷ 2 if Not (SizedCosts c) carrying n
     ∷ []
-lineTable a n (part p) =
+line_table a n (part p) =
     8 if (n < 3) carrying n
     ∷ 8 if Not (a.tasks ≡ []) carrying n
-    ∷ 3 if Not (Sized (wholePiece p.times)) carrying n
+    ∷ 3 if Not (Sized (whole_piece p.times)) carrying n
     ∷ 4 if PartNamed p.name a.parts carrying n
-    ∷ 6 if (tasksMost ≤ length a.parts) carrying n
+    ∷ 6 if (tasks_most ≤ length a.parts) carrying n
     ∷ []
-lineTable a n (fit t p) =
+line_table a n (fit t p) =
     8 if (n < 3) carrying n
     ∷ 4 if TaskNamed t a.tasks carrying n
     ∷ 5 if Not (PartNamed p a.parts) carrying n
-    ∷ 6 if (tasksMost ≤ length a.tasks) carrying n
+    ∷ 6 if (tasks_most ≤ length a.tasks) carrying n
     ∷ []
 -- a line of no form is 8 wherever it stands
-lineTable a n nothing =
+line_table a n nothing =
     8 if Not ⊥ carrying n
     ∷ []
 
-abbrev pub lineBelow : Said → Saying → Said
-lineBelow a (machine m) = record { machine = m; costs = a.costs; parts = a.parts; tasks = a.tasks }
-lineBelow a (cost c) = record { machine = a.machine; costs = c; parts = a.parts; tasks = a.tasks }
-lineBelow a (part p) = record { machine = a.machine; costs = a.costs; parts = a.parts ++ (p ∷ []); tasks = a.tasks }
-lineBelow a (fit t p) =
-    record { machine = a.machine; costs = a.costs; parts = a.parts; tasks = a.tasks ++ (task_of t (partNamed p a.parts) ∷ []) }
-lineBelow a nothing = a
+abbrev pub line_below : Said → Saying → Said
+line_below a (machine m) = record { machine = m; costs = a.costs; parts = a.parts; tasks = a.tasks }
+line_below a (cost c) = record { machine = a.machine; costs = c; parts = a.parts; tasks = a.tasks }
+line_below a (part p) = record { machine = a.machine; costs = a.costs; parts = a.parts ++ (p ∷ []); tasks = a.tasks }
+line_below a (fit t p) =
+    record { machine = a.machine; costs = a.costs; parts = a.parts; tasks = a.tasks ++ (task_of t (part_named p a.parts) ∷ []) }
+line_below a nothing = a
 
 -- ---- the lines from the top
 
-unfoldable pub saidBy : List ℕ → Said
-saidBy bytes = below lineBelow unsaid (map says_of (lines_of bytes))
+unfoldable pub said_by : List ℕ → Said
+said_by bytes = below line_below unsaid (map says_of (lines_of bytes))
 
-unfoldable pub linesTable : List ℕ → List Rule
-linesTable bytes =
-    downEach lineTable lineBelow unsaid 1 (map says_of (lines_of bytes))
+unfoldable pub lines_table : List ℕ → List Rule
+lines_table bytes =
+    down_each line_table line_below unsaid 1 (map says_of (lines_of bytes))
     ++ (8 if Not (get_last_d bytes newline ≡ newline) carrying (1 + length (lines_of bytes))
     ∷ 8 if (length (lines_of bytes) < 2) carrying (1 + length (lines_of bytes))
     ∷ [])
 
-unfoldable pub readTable : List ℕ → List Rule
-readTable bytes =
-    9 if (sheetMost < length bytes) carrying 0
-    ∷ linesTable bytes
+unfoldable pub read_table : List ℕ → List Rule
+read_table bytes =
+    9 if (sheet_most < length bytes) carrying 0
+    ∷ lines_table bytes

@@ -1,9 +1,9 @@
 // What stands above a line, and what the line makes of it.
 ghost use Rattle.std.specs.Prelude.{not, ◌≡◌, [], leb, ltb, eqb};
 ghost use Rattle.demand.specs.Sizes.{sized};
-ghost use Rattle.task.specs.Tasks.{tasksMost, wholePiece, rule, tasksOf};
-ghost use Rattle.sheet.specs.Sheet.{Above, machineFault, costFault, lineFault, after};
-ghost use Rattle.sheet.specs.ways.ReaderHolds.{parts_of, head_of, Found};
+ghost use Rattle.task.specs.Tasks.{tasks_most, whole_piece, rule, tasks_of};
+ghost use Rattle.sheet.specs.Sheet.{Above, machine_fault, cost_fault, line_fault, after};
+ghost use Rattle.sheet.specs.Ways.ReaderHolds.{parts_of, head_of, Found};
 
 use crate::Head;
 use demand::Costs;
@@ -12,7 +12,7 @@ use task::{Machine, Parts, TASKS_MOST, Tasks, Times, no_task, whole_piece};
 
 // No task.
 pub fn no_tasks() -> Tasks
-    ensures { result ≡ tasksOf [] }
+    ensures { result ≡ tasks_of [] }
 {
     let none = no_task();
     Tasks {
@@ -35,7 +35,7 @@ pub fn no_parts() -> Parts
 
 // What is wrong with a `machine` line.
 pub fn machine_fault(stage: u64, machine: Machine) -> u64
-    ensures { result ≡ machineFault stage machine }
+    ensures { result ≡ machine_fault stage machine }
 {
     if stage != 0 {
         return 8;
@@ -48,7 +48,7 @@ pub fn machine_fault(stage: u64, machine: Machine) -> u64
 
 // What is wrong with a `cost` line.
 pub fn cost_fault(stage: u64, costs: Costs) -> u64
-    ensures { result ≡ costFault stage costs }
+    ensures { result ≡ cost_fault stage costs }
 {
     if stage != 1 {
         return 8;
@@ -61,7 +61,7 @@ pub fn cost_fault(stage: u64, costs: Costs) -> u64
 
 // What is wrong with a `part` line with these times, where its name has that place among so many parts.
 pub fn part_fault(stage: u64, times: Times, twin: usize, parts: usize) -> u64
-    ensures { result ≡ rule (eqb stage 2) 8 (rule (sized (wholePiece times)) 3 (rule (eqb twin 0) 4 (rule (ltb parts tasksMost) 6 0))) }
+    ensures { result ≡ rule (eqb stage 2) 8 (rule (sized (whole_piece times)) 3 (rule (eqb twin 0) 4 (rule (ltb parts tasks_most) 6 0))) }
 {
     if stage != 2 {
         return 8;
@@ -80,7 +80,7 @@ pub fn part_fault(stage: u64, times: Times, twin: usize, parts: usize) -> u64
 
 // What is wrong with a `fit` line, where its part has that place, and its task that place among so many tasks.
 pub fn fit_fault(stage: u64, source: usize, twin: usize, tasks: usize) -> u64
-    ensures { result ≡ rule (leb 2 stage) 8 (rule (eqb twin 0) 4 (rule (not (eqb source 0)) 5 (rule (ltb tasks tasksMost) 6 0))) }
+    ensures { result ≡ rule (leb 2 stage) 8 (rule (eqb twin 0) 4 (rule (not (eqb source 0)) 5 (rule (ltb tasks tasks_most) 6 0))) }
 {
     if stage < 2 {
         return 8;
@@ -106,7 +106,7 @@ pub fn line_fault(
     twin: usize,
     tasks: usize,
 ) -> u64
-    ensures { (a : Above) → a.stage ≡ stage → Found a line source parts twin tasks → result ≡ lineFault a line }
+    ensures { (a : Above) → a.stage ≡ stage → Found a line source parts twin tasks → result ≡ line_fault a line }
 {
     let word = line.word;
     let part = line.part;

@@ -6,7 +6,7 @@
 --   Plans sheet               what a sheet comes to: a refusal that its rules give, or a plan that has what the walk placed
 --   sheet-plans               so it comes
 --   diff-settled              two sheets
---   diff-answered, diff_left  so their answers come by their table
+--   diff-answered, diff-left  so their answers come by their table
 use mathlib.Core.Path.{◌≡◌, refl, sym, ap, subst, ◌∙◌}
 use mathlib.Core.List.{List, [], ◌∷◌, ◌++◌, map}
 use Prim.Native.Nat.{ℕ, zero, suc, ◌+◌, ◌^◌, ◌≤◌, ◌<◌}
@@ -16,7 +16,7 @@ use Rattle.demand.specs.Sizes.{Each}
 use Rattle.demand.specs.Tables.{Rule, Kept}
 use Rattle.demand.proofs.TableLaws.{Comes, none, here, next, comes-kept, comes-before, comes-behind}
 use Rattle.task.specs.declared.Task.{Task}
-use Rattle.task.specs.Tasks.{list_of, coresMost}
+use Rattle.task.specs.Tasks.{list_of, cores_most}
 use Rattle.walks.specs.Way.{fine}
 use Rattle.walks.specs.Halves.{Stand}
 use Rattle.plan.specs.declared.Plan.{Plan}
@@ -24,40 +24,40 @@ use Rattle.plan.specs.declared.Reply.{Reply}
 use Rattle.plan.specs.Walk.{walked}
 use Rattle.sheet.specs.declared.Sheet.{Sheet}
 use Rattle.sheet.specs.Sheet.{read_of}
-use Rattle.sheet.specs.Refusals.{readTable}
+use Rattle.sheet.specs.Refusals.{read_table}
 use Rattle.sheet.proofs.RefusalLaws.{read-comes, read_kept}
 use Rattle.sheet.proofs.SmallLaws.{read_small}
 use Rattle.listing.specs.Papers.{Paper, refused, written}
 use Rattle.listing.specs.Listing.{spelling}
-use Rattle.listing.specs.Placed.{byCore}
-use Rattle.listing.specs.Diff.{calledBy, standing, diffText, diffOf}
+use Rattle.listing.specs.Placed.{by_core}
+use Rattle.listing.specs.Diff.{called_by, standing, diff_text, diff_of}
 use Rattle.listing.proofs.PlacedLaws.{tasks-count}
 use Rattle.listing.proofs.DiffPlanLaws.{standing-placed}
 use Rattle.listing.proofs.DiffLengthLaws.{Short, diff-few, standing-few, standing-short}
-use Rattle.spardimple.specs.Sheets.{tasksIn, placed_of, planSheet}
-use Rattle.spardimple.specs.Diffs.{standingIn, diffTextOf, secondFrom, unlessFrom, replyFrom, planFrom, diffPaper, diffNumber, diffLeft}
-use Rattle.spardimple.specs.Refusals.{numberedFrom, planRules, diffTable, Answered, Leaves}
+use Rattle.spardimple.specs.Sheets.{tasks_in, placed_of, plan_sheet}
+use Rattle.spardimple.specs.Diffs.{standing_in, diff_text_of, second_from, unless_from, reply_from, plan_from, diff_paper, diff_number, diff_left}
+use Rattle.spardimple.specs.Refusals.{numbered_from, plan_rules, diff_table, Answered, Leaves}
 use Rattle.spardimple.proofs.SheetLaws.{reply-small}
-use Rattle.spardimple.proofs.PaperLaws.{walkIn, walksIn, Ends, ends-well, ends_stuck, said-ends, said-walk, tasks-said, good, names-short}
+use Rattle.spardimple.proofs.PaperLaws.{walk_in, walks_in, Ends, ends-well, ends_stuck, said-ends, said-walk, tasks-said, good, names-short}
 use Rattle.spardimple.proofs.WhyLaws.{Settled, settled-bad, settled-good, settled-answered, settled-left}
 
 -- ---- numbers with m added
 
-pub from_some : (m n k : ℕ) (rest : Paper) → (n ≡ 0 → ⊥) → unlessFrom m n k rest ≡ refused (m + n) k
+pub from_some : (m n k : ℕ) (rest : Paper) → (n ≡ 0 → ⊥) → unless_from m n k rest ≡ refused (m + n) k
 from_some m zero k rest some = absurd (some refl)
 from_some m (suc n) k rest some = refl
 
-pub from-none : (m n k : ℕ) (rest : Paper) → n ≡ 0 → unlessFrom m n k rest ≡ rest
-from-none m n k rest is = ap (λ (j : ℕ). unlessFrom m j k rest) is
+pub from-none : (m n k : ℕ) (rest : Paper) → n ≡ 0 → unless_from m n k rest ≡ rest
+from-none m n k rest is = ap (λ (j : ℕ). unless_from m j k rest) is
 
-numbered-comes : (m : ℕ) {rules : List Rule} {n k : ℕ} → Comes rules n k → (n ≡ 0 → ⊥) → Comes (numberedFrom m rules) (m + n) k
+numbered-comes : (m : ℕ) {rules : List Rule} {n k : ℕ} → Comes rules n k → (n ≡ 0 → ⊥) → Comes (numbered_from m rules) (m + n) k
 numbered-comes m none some = absurd (some refl)
 numbered-comes m {k = k} (here {r} {rules} {n} bad number carries) some =
     let e : suc (m + n) ≡ m + suc n = omega arith in
-    subst (λ (j : ℕ). Comes (numberedFrom m (r ∷ rules)) j k) e (here bad (omega (arith, number)) carries)
+    subst (λ (j : ℕ). Comes (numbered_from m (r ∷ rules)) j k) e (here bad (omega (arith, number)) carries)
 numbered-comes m (next fine-here rest) some = next fine-here (numbered-comes m rest some)
 
-numbered-kept : (m : ℕ) (rules : List Rule) → Kept rules → Kept (numberedFrom m rules)
+numbered-kept : (m : ℕ) (rules : List Rule) → Kept rules → Kept (numbered_from m rules)
 numbered-kept m [] kept = tt
 numbered-kept m (r ∷ rules) kept = (kept.0, numbered-kept m rules kept.1)
 
@@ -68,61 +68,61 @@ kept-join (r ∷ rules) more kept others = (kept.0, kept-join rules more kept.1 
 -- ---- one sheet
 
 pub data Plans (sheet : List ℕ) : Type 1 where
-  no-plan : (n k : ℕ) → (n ≡ 0 → ⊥) → k < 2 ^ 32 → Comes (planRules sheet) n k
-      → ((m : ℕ) (go : Plan → Paper) → planFrom m (read_of sheet) go ≡ refused (m + n) k) → Plans sheet
-  some-plan : (p : Plan) → Kept (planRules sheet) → ((m : ℕ) (go : Plan → Paper) → planFrom m (read_of sheet) go ≡ go p)
-      → p.tasks.count ≡ length (tasksIn sheet) → standing p ≡ standingIn sheet
-      → length (standingIn sheet) ≤ 79 → Each Short (standingIn sheet) → Plans sheet
+  no-plan : (n k : ℕ) → (n ≡ 0 → ⊥) → k < 2 ^ 32 → Comes (plan_rules sheet) n k
+      → ((m : ℕ) (go : Plan → Paper) → plan_from m (read_of sheet) go ≡ refused (m + n) k) → Plans sheet
+  some-plan : (p : Plan) → Kept (plan_rules sheet) → ((m : ℕ) (go : Plan → Paper) → plan_from m (read_of sheet) go ≡ go p)
+      → p.tasks.count ≡ length (tasks_in sheet) → standing p ≡ standing_in sheet
+      → length (standing_in sheet) ≤ 79 → Each Short (standing_in sheet) → Plans sheet
 
 module _ (sheet : List ℕ) where
   abbrev reply : Reply
-  reply = planSheet (read_of sheet).sheet
+  reply = plan_sheet (read_of sheet).sheet
 
   unread : ((read_of sheet).number ≡ 0 → ⊥) → Plans sheet
   unread some =
-      no-plan (read_of sheet).number (read_of sheet).carries some (omega (arith, (read_small sheet).1)) (comes-before some (read-comes sheet) (walksIn sheet))
-      (λ m go. from_some m (read_of sheet).number (read_of sheet).carries (replyFrom m reply go) some)
+      no-plan (read_of sheet).number (read_of sheet).carries some (omega (arith, (read_small sheet).1)) (comes-before some (read-comes sheet) (walks_in sheet))
+      (λ m go. from_some m (read_of sheet).number (read_of sheet).carries (reply_from m reply go) some)
 
   module _ (whole : (read_of sheet).number ≡ 0) where
     abbrev said : Sheet
     said = (read_of sheet).sheet
 
     -- the walk over what was read
-    module _ (s : Stand) (so : walkIn sheet ≡ fine s (placed_of sheet)) where
+    module _ (s : Stand) (so : walk_in sheet ≡ fine s (placed_of sheet)) where
       walk-read : walked said.machine said.costs (list_of said.tasks) ≡ fine s (placed_of sheet)
       walk-read = said-walk sheet whole ∙ so
 
-      stands : standing reply.plan ≡ standingIn sheet
+      stands : standing reply.plan ≡ standing_in sheet
       stands =
           standing-placed said.machine said.costs said.tasks.count said.tasks.list (good sheet whole) s (placed_of sheet) walk-read
-          ∙ ap (λ (ts : List Task). map (calledBy ts) (byCore coresMost (placed_of sheet))) (tasks-said sheet whole)
+          ∙ ap (λ (ts : List Task). map (called_by ts) (by_core cores_most (placed_of sheet))) (tasks-said sheet whole)
 
-      counts : reply.plan.tasks.count ≡ length (tasksIn sheet)
+      counts : reply.plan.tasks.count ≡ length (tasks_in sheet)
       counts =
           tasks-count said.machine said.costs said.tasks.count said.tasks.list (good sheet whole) s (placed_of sheet) walk-read
           ∙ ap (λ (ts : List Task). length ts) (tasks-said sheet whole)
 
-      few : length (standingIn sheet) ≤ 79
+      few : length (standing_in sheet) ≤ 79
       few =
-          subst (λ (ts : List Task). length (map (calledBy ts) (byCore coresMost (placed_of sheet))) ≤ 79) (tasks-said sheet whole)
+          subst (λ (ts : List Task). length (map (called_by ts) (by_core cores_most (placed_of sheet))) ≤ 79) (tasks-said sheet whole)
           (standing-few said.machine said.costs said.tasks.count said.tasks.list (good sheet whole) s (placed_of sheet) walk-read)
 
-      short : Each Short (standingIn sheet)
+      short : Each Short (standing_in sheet)
       short =
-          subst (λ (ts : List Task). Each Short (map (calledBy ts) (byCore coresMost (placed_of sheet)))) (tasks-said sheet whole)
+          subst (λ (ts : List Task). Each Short (map (called_by ts) (by_core cores_most (placed_of sheet)))) (tasks-said sheet whole)
           (standing-short said.machine said.costs said.tasks.count said.tasks.list (good sheet whole) s (placed_of sheet) walk-read
           (subst (Each (λ t. length (spelling t.name) ≤ 24)) (sym (tasks-said sheet whole)) (names-short sheet whole)))
 
     ended : Ends sheet → Plans sheet
     ended (ends-well s so kept is text) =
-        some-plan reply.plan (kept-join (readTable sheet) (walksIn sheet) ((read_kept sheet).0 whole) kept)
-        (λ m go. from-none m (read_of sheet).number (read_of sheet).carries (replyFrom m reply go) whole
+        some-plan reply.plan (kept-join (read_table sheet) (walks_in sheet) ((read_kept sheet).0 whole) kept)
+        (λ m go. from-none m (read_of sheet).number (read_of sheet).carries (reply_from m reply go) whole
         ∙ from-none m reply.number reply.carries (go reply.plan) is)
         (counts s so) (stands s so) (few s so) (short s so)
     ended (ends_stuck k so comes seven place) =
         let small = reply-small sheet (read_of sheet) refl whole reply refl in
-        no-plan 7 (suc k) (λ e. omega arith) (omega (arith, small.1)) (comes-behind (readTable sheet) ((read_kept sheet).0 whole) comes)
-        (λ m go. from-none m (read_of sheet).number (read_of sheet).carries (replyFrom m reply go) whole
+        no-plan 7 (suc k) (λ e. omega arith) (omega (arith, small.1)) (comes-behind (read_table sheet) ((read_kept sheet).0 whole) comes)
+        (λ m go. from-none m (read_of sheet).number (read_of sheet).carries (reply_from m reply go) whole
         ∙ (from_some m reply.number reply.carries (go reply.plan) (λ e. omega (arith, seven)) ∙ (λ i. refused (m + seven i) (place i))))
 
   pub sheet-plans : Plans sheet
@@ -136,41 +136,41 @@ module _ (sheet : List ℕ) where
 
 module _ (sheet sheet' : List ℕ) where
   abbrev rules : List Rule
-  rules = planRules sheet ++ numberedFrom secondFrom (planRules sheet')
+  rules = plan_rules sheet ++ numbered_from second_from (plan_rules sheet')
 
-  text-is : (p q : Plan) → p.tasks.count ≡ length (tasksIn sheet) → q.tasks.count ≡ length (tasksIn sheet') → standing p ≡ standingIn sheet
-      → standing q ≡ standingIn sheet' → diffOf p q ≡ diffTextOf sheet sheet'
-  unfolding diffOf diffTextOf
-  text-is p q tasks tasks' first second = λ i. diffText (tasks i) (tasks' i) (first i) (second i)
+  text-is : (p q : Plan) → p.tasks.count ≡ length (tasks_in sheet) → q.tasks.count ≡ length (tasks_in sheet') → standing p ≡ standing_in sheet
+      → standing q ≡ standing_in sheet' → diff_of p q ≡ diff_text_of sheet sheet'
+  unfolding diff_of diff_text_of
+  text-is p q tasks tasks' first second = λ i. diff_text (tasks i) (tasks' i) (first i) (second i)
 
-  text-few : length (standingIn sheet) ≤ 79 → Each Short (standingIn sheet) → length (standingIn sheet') ≤ 79 → Each Short (standingIn sheet')
-      → length (diffTextOf sheet sheet') < 2 ^ 32
-  unfolding diffTextOf
+  text-few : length (standing_in sheet) ≤ 79 → Each Short (standing_in sheet) → length (standing_in sheet') ≤ 79 → Each Short (standing_in sheet')
+      → length (diff_text_of sheet sheet') < 2 ^ 32
+  unfolding diff_text_of
   text-few few short few' short' =
-      omega (arith, diff-few (standingIn sheet) (standingIn sheet') short short' few few' (length (tasksIn sheet)) (length (tasksIn sheet')))
+      omega (arith, diff-few (standing_in sheet) (standing_in sheet') short short' few few' (length (tasks_in sheet)) (length (tasks_in sheet')))
 
-  pub diff-settled : Settled rules (diffPaper sheet sheet') (diffTextOf sheet sheet')
-  unfolding diffPaper
+  pub diff-settled : Settled rules (diff_paper sheet sheet') (diff_text_of sheet sheet')
+  unfolding diff_paper
   diff-settled = by (sheet-plans sheet) (sheet-plans sheet')
     where
-      by : Plans sheet → Plans sheet' → Settled rules (diffPaper sheet sheet') (diffTextOf sheet sheet')
+      by : Plans sheet → Plans sheet' → Settled rules (diff_paper sheet sheet') (diff_text_of sheet sheet')
       by (no-plan n k some small comes paper) other =
           let e : 0 + n ≡ n = omega arith in
-          settled-bad n k some small (comes-before some comes (numberedFrom secondFrom (planRules sheet')))
-          (paper 0 (λ p. planFrom secondFrom (read_of sheet') (λ q. written (diffOf p q))) ∙ ap (λ (j : ℕ). refused j k) e)
+          settled-bad n k some small (comes-before some comes (numbered_from second_from (plan_rules sheet')))
+          (paper 0 (λ p. plan_from second_from (read_of sheet') (λ q. written (diff_of p q))) ∙ ap (λ (j : ℕ). refused j k) e)
       by (some-plan p kept paper tasks stands few short) (no-plan n k some small comes paper') =
-          settled-bad (secondFrom + n) k (λ e. omega arith) small (comes-behind (planRules sheet) kept (numbered-comes secondFrom comes some))
-          (paper 0 (λ p. planFrom secondFrom (read_of sheet') (λ q. written (diffOf p q))) ∙ paper' secondFrom (λ q. written (diffOf p q)))
+          settled-bad (second_from + n) k (λ e. omega arith) small (comes-behind (plan_rules sheet) kept (numbered-comes second_from comes some))
+          (paper 0 (λ p. plan_from second_from (read_of sheet') (λ q. written (diff_of p q))) ∙ paper' second_from (λ q. written (diff_of p q)))
       by (some-plan p kept paper tasks stands few short) (some-plan q kept' paper' tasks' stands' few' short') =
-          settled-good (kept-join (planRules sheet) (numberedFrom secondFrom (planRules sheet')) kept (numbered-kept secondFrom (planRules sheet') kept'))
+          settled-good (kept-join (plan_rules sheet) (numbered_from second_from (plan_rules sheet')) kept (numbered-kept second_from (plan_rules sheet') kept'))
           (text-few few short few' short')
-          (paper 0 (λ p. planFrom secondFrom (read_of sheet') (λ q. written (diffOf p q)))
-          ∙ (paper' secondFrom (λ q. written (diffOf p q)) ∙ ap written (text-is p q tasks tasks' stands stands')))
+          (paper 0 (λ p. plan_from second_from (read_of sheet') (λ q. written (diff_of p q)))
+          ∙ (paper' second_from (λ q. written (diff_of p q)) ∙ ap written (text-is p q tasks tasks' stands stands')))
 
-  pub diff-answered : Answered (diffTable sheet sheet') (diffTextOf sheet sheet') (diffNumber sheet sheet')
-  unfolding diffTable diffNumber
-  diff-answered = settled-answered rules (diffTextOf sheet sheet') (diffPaper sheet sheet') diff-settled
+  pub diff-answered : Answered (diff_table sheet sheet') (diff_text_of sheet sheet') (diff_number sheet sheet')
+  unfolding diff_table diff_number
+  diff-answered = settled-answered rules (diff_text_of sheet sheet') (diff_paper sheet sheet') diff-settled
 
-  pub diff_left : Leaves (diffTable sheet sheet') (diffTextOf sheet sheet') (diffLeft sheet sheet')
-  unfolding diffTable diffLeft
-  diff_left = settled-left rules (diffTextOf sheet sheet') (diffPaper sheet sheet') diff-settled
+  pub diff-left : Leaves (diff_table sheet sheet') (diff_text_of sheet sheet') (diff_left sheet sheet')
+  unfolding diff_table diff_left
+  diff-left = settled-left rules (diff_text_of sheet sheet') (diff_paper sheet sheet') diff-settled

@@ -25,48 +25,48 @@ use Rattle.demand.proofs.Judgement.{passes-means}
 use Rattle.task.specs.declared.Task.{Task}
 use Rattle.task.specs.declared.Machine.{Machine}
 use Rattle.demand.specs.Tables.{Not, Kept}
-use Rattle.task.specs.Tasks.{coresMost, stateFault}
-use Rattle.task.specs.Refusals.{stateTable}
+use Rattle.task.specs.Tasks.{cores_most, state_fault}
+use Rattle.task.specs.Refusals.{state_table}
 use Rattle.task.proofs.RefusalLaws.{state-kept}
-use Rattle.walks.specs.Way.{Placed, Ending, fine, stuck, walkOver, onCore, row_of}
+use Rattle.walks.specs.Way.{Placed, Ending, fine, stuck, walk_over, on_core, row_of}
 use Rattle.walks.specs.Edits.{edited}
 use Rattle.walks.specs.Halves.{Stand}
 use Rattle.walks.proofs.ListLaws.{each-only}
 use Rattle.plan.specs.declared.Plan.{Plan}
 use Rattle.plan.specs.declared.Layout.{Layout}
 use Rattle.plan.specs.declared.Reply.{Reply}
-use Rattle.plan.specs.Walk.{placeWay, packed, walked}
-use Rattle.plan.specs.Layout.{none, tasksOn}
-use Rattle.plan.specs.Plan.{noPlan, finished, unlessFault, plan_of}
+use Rattle.plan.specs.Walk.{place_way, packed, walked}
+use Rattle.plan.specs.Layout.{none, tasks_on}
+use Rattle.plan.specs.Plan.{no_plan, finished, unless_fault, plan_of}
 use Rattle.plan.proofs.Theorems.{placed-sized, cores-pass, words-show}
-use Rattle.listing.specs.Listing.{listingOf}
-use Rattle.listing.specs.Placed.{placedListing}
+use Rattle.listing.specs.Listing.{listing_of}
+use Rattle.listing.specs.Placed.{placed_listing}
 use Rattle.listing.proofs.PlacedLaws.{plan-is as plan-finished, pieces-count, tasks-count}
 use Rattle.listing.proofs.Theorems.{listing-placed}
-use Rattle.edits.specs.Edits.{byName, TaskEdit, tasksHeld, editOf, Held}
+use Rattle.edits.specs.Edits.{by_name, TaskEdit, tasks_held, edit_of, Held}
 use Rattle.edits.proofs.AnswerLaws.{Made, plan-is, edit-made}
 use Rattle.edits.proofs.HeldMeaning.{held-exact}
 use Rattle.edits.proofs.HeldTheorems.{afresh-held}
 
-pub walk-order : (m : Machine) (c : Costs) (ts : List Task) → walked m c ts ≡ walkOver (placeWay m c ts) (packed ts)
+pub walk-order : (m : Machine) (c : Costs) (ts : List Task) → walked m c ts ≡ walk_over (place_way m c ts) (packed ts)
 unfolding walked
 walk-order m c ts = refl
 
-module _ (m : Machine) (c : Costs) (n : ℕ) (ts : List Task) (good : stateFault m c n ts ≡ 0) (s : Stand) (l : List (Placed ℕ))
+module _ (m : Machine) (c : Costs) (n : ℕ) (ts : List Task) (good : state_fault m c n ts ≡ 0) (s : Stand) (l : List (Placed ℕ))
     (so : walked m c (take n ts) ≡ fine s l) (q : ℕ) where
   sizes : Each Sized (row_of q l)
   sizes =
-      each_map (λ (e : Placed ℕ). Sized e.piece) Sized (λ e. e.piece) (λ e size. size) (onCore q l)
+      each_map (λ (e : Placed ℕ). Sized e.piece) Sized (λ e. e.piece) (λ e size. size) (on_core q l)
       (each-only (λ e. Sized e.piece) (λ e. eqb e.on q) l (placed-sized m c n ts good s l so))
 
   pub cores-bounded : Bounded (core_of c (row_of q l)) × KeepsUp (stall c) (core_of c (row_of q l))
   cores-bounded = (passes-means c (row_of q l) sizes).0 (cores-pass m c n ts good s l so q)
 
-pub ones-are : (s : Layout) (q : ℕ) → q < coresMost → tasksOn s q ≡ ones (get_or s.words q 0)
-unfolding tasksOn
-ones-are s q low = rw (lt-leb coresMost q low)
+pub ones-are : (s : Layout) (q : ℕ) → q < cores_most → tasks_on s q ≡ ones (get_or s.words q 0)
+unfolding tasks_on
+ones-are s q low = rw (lt-leb cores_most q low)
 
-pub held-ones : (s : Plan) (held : Held s) (q : ℕ) → q < coresMost → tasksOn s.layout q ≡ length (onCore q held.log)
+pub held-ones : (s : Plan) (held : Held s) (q : ℕ) → q < cores_most → tasks_on s.layout q ≡ length (on_core q held.log)
 held-ones s held q low =
     let m = s.machine in
     let c = s.costs in
@@ -80,7 +80,7 @@ held-ones s held q low =
 -- ---- plans that come, and accepted edits
 
 abbrev pub HeldOf : Machine → Costs → List Task → Plan → Type 0
-HeldOf m c ts s = Held s × (s.machine ≡ m) × (s.costs ≡ c) × (tasksHeld s ≡ ts)
+HeldOf m c ts s = Held s × (s.machine ≡ m) × (s.costs ≡ c) × (tasks_held s ≡ ts)
 
 made_holds : (m : Machine) (c : Costs) (ts : List Task) (s : Plan) → Made m c ts s → HeldOf m c ts s
 made_holds m c ts s made = (afresh-held s made.held, made.machine-is, made.costs-is, made.tasks-are)
@@ -88,38 +88,38 @@ made_holds m c ts s made = (afresh-held s made.held, made.machine-is, made.costs
 pub plan-made : (m : Machine) (c : Costs) (n : ℕ) (ts : List Task) → (plan_of m c n ts).number ≡ 0 → HeldOf m c (take n ts) (plan_of m c n ts).plan
 plan-made m c n ts number = made_holds m c (take n ts) (plan_of m c n ts).plan (plan-is m c n ts number)
 
-pub edit-yields : (e : TaskEdit) (s : Plan) → (editOf e s).number ≡ 0 → HeldOf s.machine s.costs (edited byName e (tasksHeld s)) (editOf e s).plan
-edit-yields e s taken = made_holds s.machine s.costs (edited byName e (tasksHeld s)) (editOf e s).plan (edit-made e s taken)
+pub edit-yields : (e : TaskEdit) (s : Plan) → (edit_of e s).number ≡ 0 → HeldOf s.machine s.costs (edited by_name e (tasks_held s)) (edit_of e s).plan
+edit-yields e s taken = made_holds s.machine s.costs (edited by_name e (tasks_held s)) (edit_of e s).plan (edit-made e s taken)
 
 -- ---- what a plan counts and lists, and what comes with a refusal
 
-pub plan-counted : (m : Machine) (c : Costs) (n : ℕ) (ts : List Task) → Kept (stateTable m c n ts) → (s : Stand) (l : List (Placed ℕ))
+pub plan-counted : (m : Machine) (c : Costs) (n : ℕ) (ts : List Task) → Kept (state_table m c n ts) → (s : Stand) (l : List (Placed ℕ))
     → walked m c (take n ts) ≡ fine s l
     → ((plan_of m c n ts).carries ≡ 0) × ((plan_of m c n ts).plan.tasks.count ≡ length (take n ts)) × ((plan_of m c n ts).plan.layout.count ≡ length l)
 plan-counted m c n ts sane s l so =
     let good = (state-kept m c n ts).1 sane in
     (ap (λ (r : Reply). r.carries) (plan-finished m c n ts good s l so), tasks-count m c n ts good s l so, pieces-count m c n ts good s l so)
 
-pub plan-listed : (m : Machine) (c : Costs) (n : ℕ) (ts : List Task) → Kept (stateTable m c n ts) → (s : Stand) (l : List (Placed ℕ))
-    → walked m c (take n ts) ≡ fine s l → listingOf (plan_of m c n ts).plan ≡ placedListing c (take n ts) l
+pub plan-listed : (m : Machine) (c : Costs) (n : ℕ) (ts : List Task) → Kept (state_table m c n ts) → (s : Stand) (l : List (Placed ℕ))
+    → walked m c (take n ts) ≡ fine s l → listing_of (plan_of m c n ts).plan ≡ placed_listing c (take n ts) l
 plan-listed m c n ts sane = listing-placed m c n ts ((state-kept m c n ts).1 sane)
 
-refused_none : (m : Machine) (c : Costs) (n : ℕ) (ts : List Task) → Not ((plan_of m c n ts).number ≡ 0) → (plan_of m c n ts).plan ≡ noPlan
+refused_none : (m : Machine) (c : Costs) (n : ℕ) (ts : List Task) → Not ((plan_of m c n ts).number ≡ 0) → (plan_of m c n ts).plan ≡ no_plan
 unfolding plan_of
-refused_none m c n ts some = by (stateFault m c n ts) (finished m c (take n ts) (walked m c (take n ts))) some (ended (walked m c (take n ts)))
+refused_none m c n ts some = by (state_fault m c n ts) (finished m c (take n ts) (walked m c (take n ts))) some (ended (walked m c (take n ts)))
   where
-    ended : (o : Ending Stand ℕ) → Not ((finished m c (take n ts) o).number ≡ 0) → (finished m c (take n ts) o).plan ≡ noPlan
+    ended : (o : Ending Stand ℕ) → Not ((finished m c (take n ts) o).number ≡ 0) → (finished m c (take n ts) o).plan ≡ no_plan
     ended (fine s l) never = absurd (never refl)
     ended (stuck k j) never = refl
 
-    by : (f : ℕ) (r : Reply) → Not ((unlessFault f r).number ≡ 0) → (Not (r.number ≡ 0) → r.plan ≡ noPlan) → (unlessFault f r).plan ≡ noPlan
+    by : (f : ℕ) (r : Reply) → Not ((unless_fault f r).number ≡ 0) → (Not (r.number ≡ 0) → r.plan ≡ no_plan) → (unless_fault f r).plan ≡ no_plan
     by zero r never rest = rest never
     by (suc f) r never rest = refl
 
 pub plan-none : (m : Machine) (c : Costs) (n : ℕ) (ts : List Task) → Not ((plan_of m c n ts).number ≡ 0)
     → ((plan_of m c n ts).plan.tasks.count ≡ 0) × ((plan_of m c n ts).plan.layout.count ≡ 0)
     × ((m' : Machine) (c' : Costs) (n' : ℕ) (ts' : List Task) → Not ((plan_of m' c' n' ts').number ≡ 0) → (plan_of m c n ts).plan ≡ (plan_of m' c' n' ts').plan)
-unfolding noPlan none
+unfolding no_plan none
 plan-none m c n ts some =
     let none_is = refused_none m c n ts some in (
       ap (λ (s : Plan). s.tasks.count) none_is,

@@ -18,23 +18,23 @@ use Rattle.demand.specs.declared.Piece.{Piece}
 use Rattle.demand.specs.declared.Costs.{Costs}
 use Rattle.demand.specs.declared.Run.{Run}
 use Rattle.demand.specs.declared.Refusal.TheVariants.{TooMany}
-use Rattle.demand.specs.Sizes.{runMost}
-use Rattle.demand.specs.Answer.{checkRun, answer_of}
+use Rattle.demand.specs.Sizes.{run_most}
+use Rattle.demand.specs.Answer.{check_run, answer_of}
 use Rattle.demand.proofs.RunLaws.{check-many, answer-bad}
-use Rattle.spardimple.specs.ways.CopiedRun.{CopiedIn, Copied}
+use Rattle.spardimple.specs.Ways.CopiedRun.{CopiedIn, Copied}
 
 pub record Filled (ps : List Piece) (i : ℕ) (r : Run) : Type 0 where
   pub counts : r.count ≡ length ps
-  pub room : length r.pieces ≡ runMost
-  pub first : i ≤ runMost → take i r.pieces ≡ take i ps
+  pub room : length r.pieces ≡ run_most
+  pub first : i ≤ run_most → take i r.pieces ≡ take i ps
 
 module _ (ps : List Piece) where
-  pub filled_none : (r : Run) → (r.count ≡ length ps) × (length r.pieces ≡ runMost) → Filled ps 0 r
+  pub filled_none : (r : Run) → (r.count ≡ length ps) × (length r.pieces ≡ run_most) → Filled ps 0 r
   filled_none r new = record { counts = new.0; room = new.1; first = λ _. refl }
 
   -- the array after one record more
-  pub first-put : (i : ℕ) (row : List Piece) (p d : Piece) → i < length ps → length row ≡ runMost → p ≡ get_or ps i d
-      → (i ≤ runMost → take i row ≡ take i ps) → i + 1 ≤ runMost → take (i + 1) (set row i p) ≡ take (i + 1) ps
+  pub first-put : (i : ℕ) (row : List Piece) (p d : Piece) → i < length ps → length row ≡ run_most → p ≡ get_or ps i d
+      → (i ≤ run_most → take i row ≡ take i ps) → i + 1 ≤ run_most → take (i + 1) (set row i p) ≡ take (i + 1) ps
   first-put i row p d inside room e first fits = rw (add-one, take-suc-set row i p (omega arith), take-suc ps i d inside, first (omega arith), e)
 
   pub filled_put : (i : ℕ) (r s : Run) (d : Piece) → i < length ps → Filled ps i r
@@ -49,12 +49,12 @@ module _ (ps : List Piece) where
   filled-holding r filled = record { counts = filled.counts; holds = λ few. filled.first few ∙ take-length ps }
 
   same-pieces : (c : Costs) (qs : List Piece) → take (length ps) qs ≡ ps → answer_of c (length ps) qs ≡ answer_of c (length ps) ps
-  unfolding answer_of checkRun
+  unfolding answer_of check_run
   same-pieces c qs e = rw (e ∙ sym (take-length ps))
 
   -- 79 at the most: the pieces are the same. More: 6, by their count alone.
   pub holds-answer : (c : Costs) (qs : List Piece) → CopiedIn ps qs → answer_of c (length ps) qs ≡ answer_of c (length ps) ps
-  holds-answer c qs holds = elim (dec_le (length ps) runMost) [
+  holds-answer c qs holds = elim (dec_le (length ps) run_most) [
     | yes few ↦ same-pieces c qs (holds few)
     | no many ↦ answer-bad c (length ps) qs TooMany (check-many c (length ps) qs (omega arith))
         ∙ sym (answer-bad c (length ps) ps TooMany (check-many c (length ps) ps (omega arith)))

@@ -23,13 +23,13 @@ use Rattle.demand.specs.declared.Answer.{Answer}
 use Rattle.demand.specs.declared.Answer.TheVariants.{Judged, Refused}
 use Rattle.demand.specs.Answer.{Told, told, answer_of}
 use Rattle.demand.proofs.AnswerLaws.{answer-carries}
-use Rattle.spardimple.specs.Bytes.{pieces_of, costsSpelt}
-use Rattle.spardimple.specs.Numbers.{number, Reply, toldReply, measured, replyOf, verdictNumber, malformed, said}
+use Rattle.spardimple.specs.Bytes.{pieces_of, costs_spelt}
+use Rattle.spardimple.specs.Numbers.{number, Reply, told_reply, measured, reply_of, verdict_number, malformed, said}
 
 -- ---- no two answers share a number
 
-abbrev backFrom : ℕ → ℕ → Reply
-backFrom which carries =
+abbrev back_from : ℕ → ℕ → Reply
+back_from which carries =
     cond (eqb which 108) malformed
     (cond (eqb which 0) (said (Judged Passes))
     (cond (eqb which 1) (said (Judged (Overloaded carries)))
@@ -39,9 +39,9 @@ backFrom which carries =
     (said (Refused (BadRecord carries))))))))
 
 unfoldable pub back : ℕ → Reply
-back n = backFrom (n / 2 ^ 32) (n % 2 ^ 32)
+back n = back_from (n / 2 ^ 32) (n % 2 ^ 32)
 
-told_back : (r : Reply) → backFrom (toldReply r).which (toldReply r).carries ≡ r
+told_back : (r : Reply) → back_from (told_reply r).which (told_reply r).carries ≡ r
 told_back malformed = refl
 told_back (said (Judged Passes)) = refl
 told_back (said (Judged (Overloaded t))) = refl
@@ -68,11 +68,11 @@ told-one t u small less e =
     let same = one_number t.which t.carries u.which u.carries small less e in
     λ i. record { which = same.0 i; carries = same.1 i }
 
-pub number-back : (r : Reply) → (toldReply r).carries < 2 ^ 32 → back (number (toldReply r)) ≡ r
+pub number-back : (r : Reply) → (told_reply r).carries < 2 ^ 32 → back (number (told_reply r)) ≡ r
 unfolding back
-number-back r fits = (λ i. backFrom (number-which (toldReply r) fits i) (number-carries (toldReply r) fits i)) ∙ told_back r
+number-back r fits = (λ i. back_from (number-which (told_reply r) fits i) (number-carries (told_reply r) fits i)) ∙ told_back r
 
-pub number-one : (r s : Reply) → (toldReply r).carries < 2 ^ 32 → (toldReply s).carries < 2 ^ 32 → number (toldReply r) ≡ number (toldReply s) → r ≡ s
+pub number-one : (r s : Reply) → (told_reply r).carries < 2 ^ 32 → (told_reply s).carries < 2 ^ 32 → number (told_reply r) ≡ number (told_reply s) → r ≡ s
 number-one r s small less e = sym (number-back r small) ∙ (ap back e ∙ number-back s less)
 
 pub answer-one : (a b : Answer) → (told a).carries < 2 ^ 32 → (told b).carries < 2 ^ 32 → number (told a) ≡ number (told b) → a ≡ b
@@ -81,36 +81,36 @@ answer-one a b small less e = let same : said a ≡ said b = number-one (said a)
 -- ---- the refusals in their order
 
 module _ (rs cs : List ℕ) where
-  pub reply-true : measured rs cs ≡ true → replyOf rs cs ≡ said (answer_of (costsSpelt cs) (length (pieces_of rs)) (pieces_of rs))
-  unfolding replyOf
+  pub reply-true : measured rs cs ≡ true → reply_of rs cs ≡ said (answer_of (costs_spelt cs) (length (pieces_of rs)) (pieces_of rs))
+  unfolding reply_of
   reply-true e = simp e
 
-  pub reply-false : measured rs cs ≡ false → replyOf rs cs ≡ malformed
-  unfolding replyOf
+  pub reply-false : measured rs cs ≡ false → reply_of rs cs ≡ malformed
+  unfolding reply_of
   reply-false e = simp e
 
-  pub reply-records : (length rs % 28 ≡ 0 → ⊥) → replyOf rs cs ≡ malformed
+  pub reply-records : (length rs % 28 ≡ 0 → ⊥) → reply_of rs cs ≡ malformed
   unfolding measured
   reply-records odd = reply-false (simp (ne_eqb (length rs % 28) 0 odd))
 
-  pub reply-costs : length rs % 28 ≡ 0 → (length cs ≡ 36 → ⊥) → replyOf rs cs ≡ malformed
+  pub reply-costs : length rs % 28 ≡ 0 → (length cs ≡ 36 → ⊥) → reply_of rs cs ≡ malformed
   unfolding measured
   reply-costs whole odd = reply-false (simp (eq-eqb (length rs % 28) 0 whole, ne_eqb (length cs) 36 odd))
 
-  pub reply-formed : length rs % 28 ≡ 0 → length cs ≡ 36 → replyOf rs cs ≡ said (answer_of (costsSpelt cs) (length (pieces_of rs)) (pieces_of rs))
+  pub reply-formed : length rs % 28 ≡ 0 → length cs ≡ 36 → reply_of rs cs ≡ said (answer_of (costs_spelt cs) (length (pieces_of rs)) (pieces_of rs))
   unfolding measured
   reply-formed whole nine = reply-true (simp (eq-eqb (length rs % 28) 0 whole, eq-eqb (length cs) 36 nine))
 
   -- the number of a reply that is known
-  pub number-reply : (r : Reply) → replyOf rs cs ≡ r → verdictNumber rs cs ≡ number (toldReply r)
-  unfolding verdictNumber
-  number-reply r e = ap (λ (x : Reply). number (toldReply x)) e
+  pub number-reply : (r : Reply) → reply_of rs cs ≡ r → verdict_number rs cs ≡ number (told_reply r)
+  unfolding verdict_number
+  number-reply r e = ap (λ (x : Reply). number (told_reply x)) e
 
 -- ---- any lent bytes
 
-pub reply-carries : (rs cs : List ℕ) → (toldReply (replyOf rs cs)).carries < 2 ^ 32
+pub reply-carries : (rs cs : List ℕ) → (told_reply (reply_of rs cs)).carries < 2 ^ 32
 reply-carries rs cs = look (measured rs cs) refl
   where
-    look : (b : Bool) → measured rs cs ≡ b → (toldReply (replyOf rs cs)).carries < 2 ^ 32
-    look true e = rw (reply-true rs cs e) (omega (arith, answer-carries (costsSpelt cs) (length (pieces_of rs)) (pieces_of rs)))
+    look : (b : Bool) → measured rs cs ≡ b → (told_reply (reply_of rs cs)).carries < 2 ^ 32
+    look true e = rw (reply-true rs cs e) (omega (arith, answer-carries (costs_spelt cs) (length (pieces_of rs)) (pieces_of rs)))
     look false e = rw (reply-false rs cs e) (omega arith)

@@ -22,7 +22,7 @@ use native.Mathlib.Omega.{arith}
 use lib.Dec.{leb}
 use lib.ListN.{length, take, drop, length-take}
 use lib.Seq.{take-length}
-use Rattle.demand.specs.Sizes.{sizedCosts, Each}
+use Rattle.demand.specs.Sizes.{sized_costs, Each}
 use Rattle.demand.specs.Answer.{Told}
 use Rattle.demand.specs.Tables.{Rule, Kept}
 use Rattle.demand.proofs.Sums.{each-imp}
@@ -30,14 +30,14 @@ use Rattle.demand.proofs.PaddedLaws.{padded-length}
 use Rattle.demand.proofs.TableLaws.{Comes, comes-kept}
 use Rattle.task.specs.declared.Task.{Task}
 use Rattle.task.specs.declared.Tasks.{Tasks}
-use Rattle.task.specs.Names.{nameMost}
-use Rattle.task.specs.Tasks.{tasksMost, list_of, sizedMachine, rule, firstFault, stateFault}
+use Rattle.task.specs.Names.{name_most}
+use Rattle.task.specs.Tasks.{tasks_most, list_of, sized_machine, rule, first_fault, state_fault}
 use Rattle.walks.specs.Way.{Placed, Ending, fine, stuck}
 use Rattle.walks.specs.Halves.{Stand}
 use Rattle.plan.specs.declared.Reply.{Reply}
 use Rattle.plan.specs.Walk.{walked}
-use Rattle.plan.specs.Plan.{finished, refused as refusedPlan}
-use Rattle.plan.specs.Refusals.{walkTable}
+use Rattle.plan.specs.Plan.{finished, refused as refused_plan}
+use Rattle.plan.specs.Refusals.{walk_table}
 use Rattle.plan.proofs.Theorems.{plan-or-stuck}
 use Rattle.plan.proofs.RefusalLaws.{walk-comes}
 use Rattle.lines.specs.Lines.{name_of}
@@ -48,124 +48,124 @@ use Rattle.sheet.proofs.ArrowLaws.{first-arrow}
 use Rattle.sheet.proofs.RuleLaws.{breaks-no-rule}
 use Rattle.sheet.proofs.RefusalLaws.{read-said, read-array}
 use Rattle.sheet.proofs.SmallLaws.{read_small}
-use Rattle.listing.specs.Listing.{Entry, spelling, listingOf}
-use Rattle.listing.specs.Placed.{placedEntries, placedListing}
+use Rattle.listing.specs.Listing.{Entry, spelling, listing_of}
+use Rattle.listing.specs.Placed.{placed_entries, placed_listing}
 use Rattle.listing.proofs.TextLaws.{over-short, over-fits}
 use Rattle.listing.proofs.PlainLaws.{listing-few}
 use Rattle.listing.proofs.Theorems.{listing-placed, listing-determines}
-use Rattle.spardimple.specs.Sheets.{machineIn, costsIn, tasksIn, placedBy, placed_of, text_of}
+use Rattle.spardimple.specs.Sheets.{machine_in, costs_in, tasks_in, placed_by, placed_of, text_of}
 use Rattle.listing.specs.Papers.{Paper, refused, written, left}
-use Rattle.spardimple.specs.Sheets.{planSheet, paperOf, refusal, toldPaper, listingLeft}
+use Rattle.spardimple.specs.Sheets.{plan_sheet, paper_of, refusal, told_paper, listing_left}
 use Rattle.spardimple.proofs.SheetLaws.{paper-unread, paper-stuck, paper-written, reply-small, told-long, told-short}
 
 -- ---- what a sheet that is read says
 
-abbrev pub walkIn : List ℕ → Ending Stand ℕ
-walkIn sheet = walked (machineIn sheet) (costsIn sheet) (tasksIn sheet)
+abbrev pub walk_in : List ℕ → Ending Stand ℕ
+walk_in sheet = walked (machine_in sheet) (costs_in sheet) (tasks_in sheet)
 
-abbrev pub walksIn : List ℕ → List Rule
-walksIn sheet = walkTable (machineIn sheet) (costsIn sheet) (tasksIn sheet)
+abbrev pub walks_in : List ℕ → List Rule
+walks_in sheet = walk_table (machine_in sheet) (costs_in sheet) (tasks_in sheet)
 
-abbrev plansIn : List ℕ → Reply
-plansIn sheet = planSheet (read_of sheet).sheet
+abbrev plans_in : List ℕ → Reply
+plans_in sheet = plan_sheet (read_of sheet).sheet
 
 pub data Ends (sheet : List ℕ) : Type 1 where
-  ends-well : (s : Stand) → walkIn sheet ≡ fine s (placed_of sheet) → Kept (walksIn sheet) → (plansIn sheet).number ≡ 0
-      → listingOf (plansIn sheet).plan ≡ text_of sheet → Ends sheet
-  ends_stuck : (k : ℕ) → walkIn sheet ≡ stuck k 7 → Comes (walksIn sheet) 7 (suc k) → (plansIn sheet).number ≡ 7 → (plansIn sheet).carries ≡ suc k → Ends sheet
+  ends-well : (s : Stand) → walk_in sheet ≡ fine s (placed_of sheet) → Kept (walks_in sheet) → (plans_in sheet).number ≡ 0
+      → listing_of (plans_in sheet).plan ≡ text_of sheet → Ends sheet
+  ends_stuck : (k : ℕ) → walk_in sheet ≡ stuck k 7 → Comes (walks_in sheet) 7 (suc k) → (plans_in sheet).number ≡ 7 → (plans_in sheet).carries ≡ suc k → Ends sheet
 
 module _ (sheet : List ℕ) (whole : (read_of sheet).number ≡ 0) where
-  abbrev pub sheetRead : Sheet
-  sheetRead = (read_of sheet).sheet
+  abbrev pub sheet_read : Sheet
+  sheet_read = (read_of sheet).sheet
 
-  pub machine-said : sheetRead.machine ≡ machineIn sheet
+  pub machine-said : sheet_read.machine ≡ machine_in sheet
   machine-said = (read-said sheet whole).0
 
-  pub costs-said : sheetRead.costs ≡ costsIn sheet
+  pub costs-said : sheet_read.costs ≡ costs_in sheet
   costs-said = (read-said sheet whole).1
 
-  pub tasks-said : list_of sheetRead.tasks ≡ tasksIn sheet
+  pub tasks-said : list_of sheet_read.tasks ≡ tasks_in sheet
   tasks-said = (read-said sheet whole).2
 
-  pub good : stateFault sheetRead.machine sheetRead.costs sheetRead.tasks.count sheetRead.tasks.list ≡ 0
+  pub good : state_fault sheet_read.machine sheet_read.costs sheet_read.tasks.count sheet_read.tasks.list ≡ 0
   good = breaks-no-rule sheet whole
 
-  pub counted : sheetRead.tasks.count ≡ length (tasksIn sheet)
+  pub counted : sheet_read.tasks.count ≡ length (tasks_in sheet)
   counted = ap (λ (q : Tasks). q.count) (read-array sheet whole)
 
-  pub said-sane : stateFault (machineIn sheet) (costsIn sheet) (length (tasksIn sheet)) (tasksIn sheet) ≡ 0
-  unfolding stateFault
+  pub said-sane : state_fault (machine_in sheet) (costs_in sheet) (length (tasks_in sheet)) (tasks_in sheet) ≡ 0
+  unfolding state_fault
   said-sane =
-      let items : take (length (tasksIn sheet)) (tasksIn sheet) ≡ list_of sheetRead.tasks = take-length (tasksIn sheet) ∙ sym tasks-said in
-      (λ i. rule (sizedMachine (sym machine-said i)) 1
-      (rule (sizedCosts (sym costs-said i)) 2 (rule (leb (sym counted i) tasksMost) 6 (firstFault [] (items i))))) ∙ good
+      let items : take (length (tasks_in sheet)) (tasks_in sheet) ≡ list_of sheet_read.tasks = take-length (tasks_in sheet) ∙ sym tasks-said in
+      (λ i. rule (sized_machine (sym machine-said i)) 1
+      (rule (sized_costs (sym costs-said i)) 2 (rule (leb (sym counted i) tasks_most) 6 (first_fault [] (items i))))) ∙ good
 
   -- the walk over what was read
-  abbrev pub walkRead : Ending Stand ℕ
-  walkRead = walked sheetRead.machine sheetRead.costs (list_of sheetRead.tasks)
+  abbrev pub walk_read : Ending Stand ℕ
+  walk_read = walked sheet_read.machine sheet_read.costs (list_of sheet_read.tasks)
 
-  pub said-walk : walkRead ≡ walkIn sheet
+  pub said-walk : walk_read ≡ walk_in sheet
   said-walk = λ i. walked (machine-said i) (costs-said i) (tasks-said i)
 
-  said-comes : Comes (walksIn sheet) (plansIn sheet).number (plansIn sheet).carries
+  said-comes : Comes (walks_in sheet) (plans_in sheet).number (plans_in sheet).carries
   said-comes =
-      subst (λ (rules : List Rule). Comes rules (plansIn sheet).number (plansIn sheet).carries)
-      (λ i. walkTable (machine-said i) (costs-said i) (tasks-said i))
-      (walk-comes sheetRead.machine sheetRead.costs sheetRead.tasks.count sheetRead.tasks.list good)
+      subst (λ (rules : List Rule). Comes rules (plans_in sheet).number (plans_in sheet).carries)
+      (λ i. walk_table (machine-said i) (costs-said i) (tasks-said i))
+      (walk-comes sheet_read.machine sheet_read.costs sheet_read.tasks.count sheet_read.tasks.list good)
 
-  text-is : (s : Stand) (l : List (Placed ℕ)) → walkRead ≡ fine s l → listingOf (plansIn sheet).plan ≡ text_of sheet
+  text-is : (s : Stand) (l : List (Placed ℕ)) → walk_read ≡ fine s l → listing_of (plans_in sheet).plan ≡ text_of sheet
   unfolding text_of
   text-is s l so =
-      let placed : placed_of sheet ≡ l = ap placedBy (sym said-walk ∙ so) in
-      listing-placed sheetRead.machine sheetRead.costs sheetRead.tasks.count sheetRead.tasks.list good s l so
-      ∙ (λ i. placedListing (costs-said i) (tasks-said i) (sym placed i))
+      let placed : placed_of sheet ≡ l = ap placed_by (sym said-walk ∙ so) in
+      listing-placed sheet_read.machine sheet_read.costs sheet_read.tasks.count sheet_read.tasks.list good s l so
+      ∙ (λ i. placed_listing (costs-said i) (tasks-said i) (sym placed i))
 
   pub said-ends : Ends sheet
-  said-ends = by (plan-or-stuck sheetRead.machine sheetRead.costs sheetRead.tasks.count sheetRead.tasks.list good)
+  said-ends = by (plan-or-stuck sheet_read.machine sheet_read.costs sheet_read.tasks.count sheet_read.tasks.list good)
     where
-      by : ((s : Stand) × (l : List (Placed ℕ)) × (walkRead ≡ fine s l)
-          × (plansIn sheet ≡ finished sheetRead.machine sheetRead.costs (list_of sheetRead.tasks) (fine s l)))
-          ⊎ ((k : ℕ) × (walkRead ≡ stuck k 7) × (plansIn sheet ≡ refusedPlan 7 (suc k))) → Ends sheet
+      by : ((s : Stand) × (l : List (Placed ℕ)) × (walk_read ≡ fine s l)
+          × (plans_in sheet ≡ finished sheet_read.machine sheet_read.costs (list_of sheet_read.tasks) (fine s l)))
+          ⊎ ((k : ℕ) × (walk_read ≡ stuck k 7) × (plans_in sheet ≡ refused_plan 7 (suc k))) → Ends sheet
       by (inl h) =
-          let so : walkIn sheet ≡ fine h.0 h.1 = sym said-walk ∙ h.2 in
-          let none : (plansIn sheet).number ≡ 0 = ap (λ (r : Reply). r.number) h.3 in
-          ends-well h.0 (so ∙ ap (fine h.0) (sym (ap placedBy so))) ((comes-kept said-comes).0 none) none (text-is h.0 h.1 h.2)
+          let so : walk_in sheet ≡ fine h.0 h.1 = sym said-walk ∙ h.2 in
+          let none : (plans_in sheet).number ≡ 0 = ap (λ (r : Reply). r.number) h.3 in
+          ends-well h.0 (so ∙ ap (fine h.0) (sym (ap placed_by so))) ((comes-kept said-comes).0 none) none (text-is h.0 h.1 h.2)
       by (inr h) =
-          let seven : (plansIn sheet).number ≡ 7 = ap (λ (r : Reply). r.number) h.2 in
-          let place : (plansIn sheet).carries ≡ suc h.0 = ap (λ (r : Reply). r.carries) h.2 in
+          let seven : (plans_in sheet).number ≡ 7 = ap (λ (r : Reply). r.number) h.2 in
+          let place : (plans_in sheet).carries ≡ suc h.0 = ap (λ (r : Reply). r.carries) h.2 in
           ends_stuck h.0 (sym said-walk ∙ h.1)
-          (subst (λ (n : ℕ). Comes (walksIn sheet) n (suc h.0)) seven (subst (Comes (walksIn sheet) (plansIn sheet).number) place said-comes))
+          (subst (λ (n : ℕ). Comes (walks_in sheet) n (suc h.0)) seven (subst (Comes (walks_in sheet) (plans_in sheet).number) place said-comes))
           seven place
 
 -- ---- how long a listing is
 
 -- the walk, over the tasks as the laws of a plan cut them
-walk-cut : (sheet : List ℕ) (s : Stand) → walkIn sheet ≡ fine s (placed_of sheet)
-    → walked (machineIn sheet) (costsIn sheet) (take (length (tasksIn sheet)) (tasksIn sheet)) ≡ fine s (placed_of sheet)
-walk-cut sheet s so = ap (walked (machineIn sheet) (costsIn sheet)) (take-length (tasksIn sheet)) ∙ so
+walk-cut : (sheet : List ℕ) (s : Stand) → walk_in sheet ≡ fine s (placed_of sheet)
+    → walked (machine_in sheet) (costs_in sheet) (take (length (tasks_in sheet)) (tasks_in sheet)) ≡ fine s (placed_of sheet)
+walk-cut sheet s so = ap (walked (machine_in sheet) (costs_in sheet)) (take-length (tasks_in sheet)) ∙ so
 
 name-short : (f : List ℕ) → length (spelling (name_of f)) ≤ 24
 unfolding name_of
-name-short f = omega (arith, length-take (length f) (name_of f).bytes, padded-length 0 nameMost f)
+name-short f = omega (arith, length-take (length f) (name_of f).bytes, padded-length 0 name_most f)
 
 module _ (sheet : List ℕ) (whole : (read_of sheet).number ≡ 0) where
   abbrev pub Short : Task → Type 0
   Short t = length (spelling t.name) ≤ 24
 
-  pub names-short : Each Short (tasksIn sheet)
+  pub names-short : Each Short (tasks_in sheet)
   names-short =
       subst (Each Short) (tasks-said sheet whole)
       (each-imp (Fitted (lines_of sheet)) Short (λ t fitted. rw fitted.named (name-short fitted.task-name))
       (list_of (read_of sheet).sheet.tasks) (first-arrow sheet whole))
 
-  pub text-few : (s : Stand) → walkIn sheet ≡ fine s (placed_of sheet) → length (text_of sheet) ≤ 20000
+  pub text-few : (s : Stand) → walk_in sheet ≡ fine s (placed_of sheet) → length (text_of sheet) ≤ 20000
   unfolding text_of
   text-few s so =
-      let c = costsIn sheet in
-      let ts = tasksIn sheet in
+      let c = costs_in sheet in
+      let ts = tasks_in sheet in
       let all = take-length ts in
-      subst (λ (us : List Task). length (placedListing c us (placed_of sheet)) ≤ 20000) all
-      (listing-few (machineIn sheet) c (length ts) ts (said-sane sheet whole) s (placed_of sheet) (walk-cut sheet s so)
+      subst (λ (us : List Task). length (placed_listing c us (placed_of sheet)) ≤ 20000) all
+      (listing-few (machine_in sheet) c (length ts) ts (said-sane sheet whole) s (placed_of sheet) (walk-cut sheet s so)
       (subst (Each Short) (sym all) names-short))
 
 -- ---- what a sheet comes to
@@ -173,35 +173,35 @@ module _ (sheet : List ℕ) (whole : (read_of sheet).number ≡ 0) where
 -- a claim on every paper that a sheet can come to
 pub paper-cases : (sheet : List ℕ) (P : Paper → Type 0)
     → (((read_of sheet).number ≡ 0 → ⊥) → P (refused (read_of sheet).number (read_of sheet).carries))
-    → ((read_of sheet).number ≡ 0 → (k : ℕ) → suc k ≤ 64 → walkIn sheet ≡ stuck k 7 → Comes (walksIn sheet) 7 (suc k) → P (refused 7 (suc k)))
-    → ((read_of sheet).number ≡ 0 → (s : Stand) → walkIn sheet ≡ fine s (placed_of sheet) → Kept (walksIn sheet) → P (written (text_of sheet)))
-    → P (paperOf sheet)
+    → ((read_of sheet).number ≡ 0 → (k : ℕ) → suc k ≤ 64 → walk_in sheet ≡ stuck k 7 → Comes (walks_in sheet) 7 (suc k) → P (refused 7 (suc k)))
+    → ((read_of sheet).number ≡ 0 → (s : Stand) → walk_in sheet ≡ fine s (placed_of sheet) → Kept (walks_in sheet) → P (written (text_of sheet)))
+    → P (paper_of sheet)
 paper-cases sheet P unread stuck_at listed = by (read_of sheet).number refl
   where
-    ends : (read_of sheet).number ≡ 0 → Ends sheet → P (paperOf sheet)
+    ends : (read_of sheet).number ≡ 0 → Ends sheet → P (paper_of sheet)
     ends whole (ends-well s so kept none text) =
-        subst P (sym (paper-written sheet (read_of sheet) refl whole (plansIn sheet) refl none ∙ ap written text)) (listed whole s so kept)
+        subst P (sym (paper-written sheet (read_of sheet) refl whole (plans_in sheet) refl none ∙ ap written text)) (listed whole s so kept)
     ends whole (ends_stuck k so comes seven place) =
-        let small = reply-small sheet (read_of sheet) refl whole (plansIn sheet) refl in
-        subst P (sym (paper-stuck sheet (read_of sheet) refl whole (plansIn sheet) refl (λ e. omega arith) ∙ (λ i. refused (seven i) (place i))))
+        let small = reply-small sheet (read_of sheet) refl whole (plans_in sheet) refl in
+        subst P (sym (paper-stuck sheet (read_of sheet) refl whole (plans_in sheet) refl (λ e. omega arith) ∙ (λ i. refused (seven i) (place i))))
         (stuck_at whole k (omega (arith, small.1)) so comes)
 
-    by : (n : ℕ) → (read_of sheet).number ≡ n → P (paperOf sheet)
+    by : (n : ℕ) → (read_of sheet).number ≡ n → P (paper_of sheet)
     by zero e = ends e (said-ends sheet e)
     by (suc n) e = subst P (sym (paper-unread sheet (read_of sheet) refl (λ z. omega arith))) (unread (λ z. omega arith))
 
 -- a claim on what is told of a listing, where the buffer is long enough and where not
 pub told-cases : (text : List ℕ) (room : ℕ) (P : Told → Type 0) → P (record { which = 0; carries = length text }) → P (refusal 10 (length text))
-    → P (toldPaper (written text) room)
+    → P (told_paper (written text) room)
 told-cases text room P long short = by (leb (length text) room)
   where
     by : (b : Bool) → P (cond b (record { which = 0; carries = length text }) (refusal 10 (length text)))
     by true = long
     by false = short
 
-pub paper-carries : (sheet : List ℕ) (room : ℕ) → (toldPaper (paperOf sheet) room).carries < 2 ^ 32
+pub paper-carries : (sheet : List ℕ) (room : ℕ) → (told_paper (paper_of sheet) room).carries < 2 ^ 32
 paper-carries sheet room =
-    paper-cases sheet (λ p. (toldPaper p room).carries < 2 ^ 32)
+    paper-cases sheet (λ p. (told_paper p room).carries < 2 ^ 32)
     (λ bad. omega (arith, (read_small sheet).1))
     (λ whole k small so comes. omega arith)
     (λ whole s so kept. (let few = text-few sheet whole s so in
@@ -209,65 +209,65 @@ paper-carries sheet room =
 
 -- ---- where the walk sticks
 
-abbrev stuckAt : Ending Stand ℕ → ℕ
-stuckAt (fine s l) = 0
-stuckAt (stuck k n) = suc k
+abbrev stuck_at : Ending Stand ℕ → ℕ
+stuck_at (fine s l) = 0
+stuck_at (stuck k n) = suc k
 
-pub paper-seven : (sheet : List ℕ) (room k : ℕ) → (read_of sheet).number ≡ 0 → (toldPaper (paperOf sheet) room ≡ refusal 7 (suc k)) ↔ (walkIn sheet ≡ stuck k 7)
+pub paper-seven : (sheet : List ℕ) (room k : ℕ) → (read_of sheet).number ≡ 0 → (told_paper (paper_of sheet) room ≡ refusal 7 (suc k)) ↔ (walk_in sheet ≡ stuck k 7)
 paper-seven sheet room k whole =
-    paper-cases sheet (λ p. (toldPaper p room ≡ refusal 7 (suc k)) ↔ (walkIn sheet ≡ stuck k 7))
+    paper-cases sheet (λ p. (told_paper p room ≡ refusal 7 (suc k)) ↔ (walk_in sheet ≡ stuck k 7))
     (λ bad. absurd (bad whole))
     (λ w j small so comes. (
       (λ told. (let place : suc j ≡ suc k = ap (λ (t : Told). t.carries) told in let same : j ≡ k = omega arith in
           so ∙ ap (λ (i : ℕ). stuck i 7) same)),
-      (λ is. ap (refusal 7) (ap stuckAt (sym so ∙ is))),
+      (λ is. ap (refusal 7) (ap stuck_at (sym so ∙ is))),
     ))
     (λ w s so kept. (
-      told-cases (text_of sheet) room (λ t. t ≡ refusal 7 (suc k) → walkIn sheet ≡ stuck k 7)
+      told-cases (text_of sheet) room (λ t. t ≡ refusal 7 (suc k) → walk_in sheet ≡ stuck k 7)
           (λ told. absurd (let which : ◌≡◌ {A = ℕ} 0 107 = ap (λ (t : Told). t.which) told in omega arith))
           (λ told. absurd (let which : ◌≡◌ {A = ℕ} 110 107 = ap (λ (t : Told). t.which) told in omega arith)),
-      (λ is. absurd (let place : 0 ≡ suc k = ap stuckAt (sym so ∙ is) in omega arith)),
+      (λ is. absurd (let place : 0 ≡ suc k = ap stuck_at (sym so ∙ is) in omega arith)),
     ))
 
 -- ---- sheets with one listing
 
-abbrev entriesIn : List ℕ → List Task → List Entry
-entriesIn sheet ts = placedEntries (costsIn sheet) ts (placed_of sheet)
+abbrev entries_in : List ℕ → List Task → List Entry
+entries_in sheet ts = placed_entries (costs_in sheet) ts (placed_of sheet)
 
 pub text-one : (sheet sheet' : List ℕ) → (read_of sheet).number ≡ 0 → (read_of sheet').number ≡ 0 → (s s' : Stand)
-    → walkIn sheet ≡ fine s (placed_of sheet) → walkIn sheet' ≡ fine s' (placed_of sheet') → text_of sheet ≡ text_of sheet'
-    → placedEntries (costsIn sheet) (tasksIn sheet) (placed_of sheet) ≡ placedEntries (costsIn sheet') (tasksIn sheet') (placed_of sheet')
+    → walk_in sheet ≡ fine s (placed_of sheet) → walk_in sheet' ≡ fine s' (placed_of sheet') → text_of sheet ≡ text_of sheet'
+    → placed_entries (costs_in sheet) (tasks_in sheet) (placed_of sheet) ≡ placed_entries (costs_in sheet') (tasks_in sheet') (placed_of sheet')
 unfolding text_of
 text-one sheet sheet' whole whole' s s' so so' same =
-    let ts = tasksIn sheet in
-    let ts' = tasksIn sheet' in
+    let ts = tasks_in sheet in
+    let ts' = tasks_in sheet' in
     let all = take-length ts in
     let all' = take-length ts' in
-    let cut = ap (λ (us : List Task). placedListing (costsIn sheet) us (placed_of sheet)) all
-    ∙ (same ∙ ap (λ (us : List Task). placedListing (costsIn sheet') us (placed_of sheet')) (sym all')) in
-    sym (ap (entriesIn sheet) all)
-    ∙ (listing-determines (machineIn sheet) (costsIn sheet) (length ts) ts (said-sane sheet whole) s (placed_of sheet) (walk-cut sheet s so)
-    (machineIn sheet') (costsIn sheet') (length ts') ts' (said-sane sheet' whole') s' (placed_of sheet') (walk-cut sheet' s' so') cut
-    ∙ ap (entriesIn sheet') all')
+    let cut = ap (λ (us : List Task). placed_listing (costs_in sheet) us (placed_of sheet)) all
+    ∙ (same ∙ ap (λ (us : List Task). placed_listing (costs_in sheet') us (placed_of sheet')) (sym all')) in
+    sym (ap (entries_in sheet) all)
+    ∙ (listing-determines (machine_in sheet) (costs_in sheet) (length ts) ts (said-sane sheet whole) s (placed_of sheet) (walk-cut sheet s so)
+    (machine_in sheet') (costs_in sheet') (length ts') ts' (said-sane sheet' whole') s' (placed_of sheet') (walk-cut sheet' s' so') cut
+    ∙ ap (entries_in sheet') all')
 
 -- ---- the buffer
 
-pub buffer-refused : (sheet old : List ℕ) → ((toldPaper (paperOf sheet) (length old)).which ≡ 0 → ⊥) → listingLeft sheet old ≡ old
-unfolding listingLeft
-buffer-refused sheet old no' = by (paperOf sheet) no'
+pub buffer-refused : (sheet old : List ℕ) → ((told_paper (paper_of sheet) (length old)).which ≡ 0 → ⊥) → listing_left sheet old ≡ old
+unfolding listing_left
+buffer-refused sheet old no' = by (paper_of sheet) no'
   where
-    by : (p : Paper) → ((toldPaper p (length old)).which ≡ 0 → ⊥) → left p old ≡ old
+    by : (p : Paper) → ((told_paper p (length old)).which ≡ 0 → ⊥) → left p old ≡ old
     by (refused n k) no'' = refl
     by (written text) no'' = elim (dec_lt (length old) (length text)) [
       | yes short ↦ over-short text old short
       | no fits ↦ absurd (no'' (ap (λ (t : Told). t.which) (told-long text (length old) (omega arith))))
     ]
 
-pub buffer-written : (sheet old : List ℕ) → (toldPaper (paperOf sheet) (length old)).which ≡ 0
-    → listingLeft sheet old ≡ text_of sheet ++ drop (length (text_of sheet)) old
-unfolding listingLeft
+pub buffer-written : (sheet old : List ℕ) → (told_paper (paper_of sheet) (length old)).which ≡ 0
+    → listing_left sheet old ≡ text_of sheet ++ drop (length (text_of sheet)) old
+unfolding listing_left
 buffer-written sheet old =
-    paper-cases sheet (λ p. (toldPaper p (length old)).which ≡ 0 → left p old ≡ text_of sheet ++ drop (length (text_of sheet)) old)
+    paper-cases sheet (λ p. (told_paper p (length old)).which ≡ 0 → left p old ≡ text_of sheet ++ drop (length (text_of sheet)) old)
     (λ bad so. absurd (omega arith))
     (λ whole k small at comes so. absurd (omega arith))
     (λ whole s at kept so. elim (dec_lt (length old) (length (text_of sheet))) [

@@ -22,94 +22,94 @@ use Rattle.demand.specs.declared.Costs.{Costs}
 use Rattle.demand.specs.Answer.{Told}
 use Rattle.task.specs.declared.Task.{Task}
 use Rattle.task.specs.declared.Machine.{Machine}
-use Rattle.task.specs.Tasks.{stateFault}
+use Rattle.task.specs.Tasks.{state_fault}
 use Rattle.task.proofs.TaskLaws.{state-sane}
 use Rattle.plan.specs.declared.Reply.{Reply}
 use Rattle.walks.specs.Way.{Placed, fine, stuck}
 use Rattle.walks.specs.Halves.{Stand}
 use Rattle.plan.specs.Walk.{walked}
-use Rattle.plan.specs.Plan.{finished, plan_of, refused as refusedPlan}
+use Rattle.plan.specs.Plan.{finished, plan_of, refused as refused_plan}
 use Rattle.plan.proofs.Theorems.{plan-or-stuck, no-room-place}
 use Rattle.sheet.specs.declared.Read.{Read}
 use Rattle.sheet.specs.Sheet.{read_of}
 use Rattle.sheet.proofs.RuleLaws.{breaks-no-rule}
 use Rattle.listing.specs.Text.{over}
-use Rattle.listing.specs.Listing.{listingOf}
+use Rattle.listing.specs.Listing.{listing_of}
 use Rattle.spardimple.specs.Numbers.{number}
 use Rattle.listing.specs.Papers.{Paper, refused, written}
-use Rattle.spardimple.specs.Sheets.{unless, planSheet, listed, planned, paperOf}
+use Rattle.spardimple.specs.Sheets.{unless, plan_sheet, listed, planned, paper_of}
 use Rattle.listing.specs.Papers.{left}
-use Rattle.spardimple.specs.Sheets.{refusal, toldPaper, listingNumber, listingLeft}
+use Rattle.spardimple.specs.Sheets.{refusal, told_paper, listing_number, listing_left}
 
 unless-some : (n k : ℕ) (rest : Paper) → (n ≡ 0 → ⊥) → unless n k rest ≡ refused n k
 unless-some zero k rest some = absurd (some refl)
 unless-some (suc n) k rest some = refl
 
 -- the plan of a state that breaks no rule comes, or the walk sticks at one of its tasks
-plan-small : (m : Machine) (c : Costs) (n : ℕ) (ts : List Task) → stateFault m c n ts ≡ 0 → ((plan_of m c n ts).number ≤ 7) × ((plan_of m c n ts).carries ≤ 64)
+plan-small : (m : Machine) (c : Costs) (n : ℕ) (ts : List Task) → state_fault m c n ts ≡ 0 → ((plan_of m c n ts).number ≤ 7) × ((plan_of m c n ts).carries ≤ 64)
 plan-small m c n ts good = by (plan-or-stuck m c n ts good)
   where
     by : ((s : Stand) × (l : List (Placed ℕ)) × (walked m c (take n ts) ≡ fine s l) × (plan_of m c n ts ≡ finished m c (take n ts) (fine s l)))
-        ⊎ ((k : ℕ) × (walked m c (take n ts) ≡ stuck k 7) × (plan_of m c n ts ≡ refusedPlan 7 (suc k)))
+        ⊎ ((k : ℕ) × (walked m c (take n ts) ≡ stuck k 7) × (plan_of m c n ts ≡ refused_plan 7 (suc k)))
         → ((plan_of m c n ts).number ≤ 7) × ((plan_of m c n ts).carries ≤ 64)
     by (inl h) = rw h.3 (omega arith, omega arith)
     by (inr h) = rw h.2 (omega arith, omega (arith, no-room-place m c n ts good h.0 h.1, length-take n ts, (state-sane m c n ts good).few))
 
 module _ (sheet : List ℕ) (r : Read) (is : r ≡ read_of sheet) where
-  pub paper-unread : (r.number ≡ 0 → ⊥) → paperOf sheet ≡ refused r.number r.carries
-  unfolding paperOf
-  paper-unread some = ap planned (sym is) ∙ unless-some r.number r.carries (listed (planSheet r.sheet)) some
+  pub paper-unread : (r.number ≡ 0 → ⊥) → paper_of sheet ≡ refused r.number r.carries
+  unfolding paper_of
+  paper-unread some = ap planned (sym is) ∙ unless-some r.number r.carries (listed (plan_sheet r.sheet)) some
 
-  module _ (whole : r.number ≡ 0) (q : Reply) (by-plan : q ≡ planSheet r.sheet) where
-    read : paperOf sheet ≡ listed q
-    unfolding paperOf
-    read = ap planned (sym is) ∙ (ap (λ (n : ℕ). unless n r.carries (listed (planSheet r.sheet))) whole ∙ ap listed (sym by-plan))
+  module _ (whole : r.number ≡ 0) (q : Reply) (by-plan : q ≡ plan_sheet r.sheet) where
+    read : paper_of sheet ≡ listed q
+    unfolding paper_of
+    read = ap planned (sym is) ∙ (ap (λ (n : ℕ). unless n r.carries (listed (plan_sheet r.sheet))) whole ∙ ap listed (sym by-plan))
 
-    pub paper-stuck : (q.number ≡ 0 → ⊥) → paperOf sheet ≡ refused q.number q.carries
-    paper-stuck some = read ∙ unless-some q.number q.carries (written (listingOf q.plan)) some
+    pub paper-stuck : (q.number ≡ 0 → ⊥) → paper_of sheet ≡ refused q.number q.carries
+    paper-stuck some = read ∙ unless-some q.number q.carries (written (listing_of q.plan)) some
 
-    pub paper-written : q.number ≡ 0 → paperOf sheet ≡ written (listingOf q.plan)
-    paper-written none = read ∙ ap (λ (n : ℕ). unless n q.carries (written (listingOf q.plan))) none
+    pub paper-written : q.number ≡ 0 → paper_of sheet ≡ written (listing_of q.plan)
+    paper-written none = read ∙ ap (λ (n : ℕ). unless n q.carries (written (listing_of q.plan))) none
 
     pub reply-small : (q.number ≤ 7) × (q.carries ≤ 64)
     reply-small =
         let good = breaks-no-rule sheet (ap (λ (t : Read). t.number) (sym is) ∙ whole) in
-        subst (λ (t : Reply). (t.number ≤ 7) × (t.carries ≤ 64)) (sym (by-plan ∙ ap (λ (t : Read). planSheet t.sheet) is))
+        subst (λ (t : Reply). (t.number ≤ 7) × (t.carries ≤ 64)) (sym (by-plan ∙ ap (λ (t : Read). plan_sheet t.sheet) is))
         (plan-small (read_of sheet).sheet.machine (read_of sheet).sheet.costs (read_of sheet).sheet.tasks.count (read_of sheet).sheet.tasks.list good)
 
 -- ---- what is given back, and what the buffer holds
 
-pub told-long : (text : List ℕ) (room : ℕ) → length text ≤ room → toldPaper (written text) room ≡ record { which = 0; carries = length text }
+pub told-long : (text : List ℕ) (room : ℕ) → length text ≤ room → told_paper (written text) room ≡ record { which = 0; carries = length text }
 told-long text room fits = ap (λ (b : Bool). cond b (record { which = 0; carries = length text }) (refusal 10 (length text))) (le-leb (length text) room fits)
 
-pub told-short : (text : List ℕ) (room : ℕ) → room < length text → toldPaper (written text) room ≡ refusal 10 (length text)
+pub told-short : (text : List ℕ) (room : ℕ) → room < length text → told_paper (written text) room ≡ refusal 10 (length text)
 told-short text room short =
     ap (λ (b : Bool). cond b (record { which = 0; carries = length text }) (refusal 10 (length text))) (lt-leb (length text) room short)
 
-module _ (sheet : List ℕ) (n k : ℕ) (is : paperOf sheet ≡ refused n k) where
-  pub given-refused : (room : ℕ) → 2 ^ 32 * (100 + n) + k ≡ listingNumber sheet room
-  unfolding listingNumber number
-  given-refused room = ap (λ (p : Paper). number (toldPaper p room)) (sym is)
+module _ (sheet : List ℕ) (n k : ℕ) (is : paper_of sheet ≡ refused n k) where
+  pub given-refused : (room : ℕ) → 2 ^ 32 * (100 + n) + k ≡ listing_number sheet room
+  unfolding listing_number number
+  given-refused room = ap (λ (p : Paper). number (told_paper p room)) (sym is)
 
-  pub left-refused : (old : List ℕ) → old ≡ listingLeft sheet old
-  unfolding listingLeft
+  pub left-refused : (old : List ℕ) → old ≡ listing_left sheet old
+  unfolding listing_left
   left-refused old = ap (λ (p : Paper). left p old) (sym is)
 
-module _ (sheet text : List ℕ) (is : paperOf sheet ≡ written text) where
-  told : (room : ℕ) (t : Told) → toldPaper (written text) room ≡ t → number t ≡ listingNumber sheet room
-  unfolding listingNumber
-  told room t so = ap number (sym so) ∙ ap (λ (p : Paper). number (toldPaper p room)) (sym is)
+module _ (sheet text : List ℕ) (is : paper_of sheet ≡ written text) where
+  told : (room : ℕ) (t : Told) → told_paper (written text) room ≡ t → number t ≡ listing_number sheet room
+  unfolding listing_number
+  told room t so = ap number (sym so) ∙ ap (λ (p : Paper). number (told_paper p room)) (sym is)
 
-  pub given-long : (room : ℕ) → length text ≤ room → 2 ^ 32 * 0 + length text ≡ listingNumber sheet room
+  pub given-long : (room : ℕ) → length text ≤ room → 2 ^ 32 * 0 + length text ≡ listing_number sheet room
   unfolding number
   given-long room fits = told room (record { which = 0; carries = length text }) (told-long text room fits)
 
-  pub given-short : (room : ℕ) → room < length text → 2 ^ 32 * 110 + length text ≡ listingNumber sheet room
+  pub given-short : (room : ℕ) → room < length text → 2 ^ 32 * 110 + length text ≡ listing_number sheet room
   unfolding number
   given-short room short = told room (refusal 10 (length text)) (told-short text room short)
 
-  pub left-written : (old : List ℕ) → over text old ≡ listingLeft sheet old
-  unfolding listingLeft
+  pub left-written : (old : List ℕ) → over text old ≡ listing_left sheet old
+  unfolding listing_left
   left-written old = ap (λ (p : Paper). left p old) (sym is)
 
 -- the buffer keeps its length

@@ -6,4 +6,4 @@ pub mod Whys
 pub mod Diffs
 pub mod Refusals
 pub mod Spelling
-pub mod ways
+pub mod Ways

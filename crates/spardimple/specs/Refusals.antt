@@ -1,59 +1,59 @@
 -- The refusals of lent bytes and of a sheet with its buffer, as tables: document 01, "Verdict on a core" and "Refusal numbers".
--- `proofs/RefusalLaws.antt` has that `verdictNumber` and `listingNumber` answer by them.
+-- `proofs/RefusalLaws.antt` has that `verdict_number` and `listing_number` answer by them.
 --
---   lentTable rs cs          "A length that isn't a multiple of .. 28 bytes, or costs that aren't .. 36 bytes, is 8, checked first"; then the records' rules
---   whyRecordsTable rs cs room      the same, then 10 for the listing that says why (document 02, E1)
---   whyCoreTable sheet core room    the sheet's own rules, then 1 where the machine has no such core, then 10
---   planRules sheet          a sheet's rules before 10; numberedFrom m rules: the same rules, with m added to their numbers
---   diffTable sheet sheet' room     both sheets' own rules and walks, the second's numbers with 1000 added, then 10 (document 02, E3)
+--   lent_table rs cs          "A length that isn't a multiple of .. 28 bytes, or costs that aren't .. 36 bytes, is 8, checked first"; then the records' rules
+--   why_records_table rs cs room      the same, then 10 for the listing that says why (document 02, E1)
+--   why_core_table sheet core room    the sheet's own rules, then 1 where the machine has no such core, then 10
+--   plan_rules sheet          a sheet's rules before 10; numbered_from m rules: the same rules, with m added to their numbers
+--   diff_table sheet sheet' room     both sheets' own rules and walks, the second's numbers with 1000 added, then 10 (document 02, E3)
 --   Answered t text a        what a function that writes a text answers by the table t: what can come at all, each refusal exactly where the table gives it, and the
 --                            text's length exactly where no rule is broken
 --   Leaves t text h          what it leaves in the buffer: what it held, where it refuses; else the text at its front, and the bytes beyond it as they were
---   sheetTable sheet room    "9 first, then the first bad line from the top .. Then 7, then 10", with the length needed
+--   sheet_table sheet room    "9 first, then the first bad line from the top .. Then 7, then 10", with the length needed
 use Rattle.std.specs.Prelude.{◌≡◌, ◌⊎◌, ◌↔◌, List, [], ◌∷◌, ◌++◌, ℕ, ◌+◌, ◌*◌, ◌^◌, ◌≤◌, ◌<◌, ◌%◌, length, drop}
 use Rattle.demand.specs.Tables.{Rule, ◌if◌carrying◌, Not, Gives, Kept}
-use Rattle.demand.specs.Refusals.{recordTable}
-use Rattle.plan.specs.Refusals.{walkTable}
-use Rattle.sheet.specs.Refusals.{readTable}
-use Rattle.spardimple.specs.Bytes.{pieces_of, costsSpelt}
-use Rattle.spardimple.specs.Sheets.{machineIn, costsIn, tasksIn, text_of}
-use Rattle.spardimple.specs.Whys.{whyRecordsText, whyCoreText}
-use Rattle.spardimple.specs.Diffs.{diffTextOf, secondFrom}
+use Rattle.demand.specs.Refusals.{record_table}
+use Rattle.plan.specs.Refusals.{walk_table}
+use Rattle.sheet.specs.Refusals.{read_table}
+use Rattle.spardimple.specs.Bytes.{pieces_of, costs_spelt}
+use Rattle.spardimple.specs.Sheets.{machine_in, costs_in, tasks_in, text_of}
+use Rattle.spardimple.specs.Whys.{why_records_text, why_core_text}
+use Rattle.spardimple.specs.Diffs.{diff_text_of, second_from}
 
-unfoldable pub lentTable : (rs cs : List ℕ) → List Rule
-lentTable rs cs =
+unfoldable pub lent_table : (rs cs : List ℕ) → List Rule
+lent_table rs cs =
     8 if Not (length rs % 28 ≡ 0) carrying 0
     ∷ 8 if Not (length cs ≡ 36) carrying 0
-    ∷ recordTable (costsSpelt cs) (length (pieces_of rs)) (pieces_of rs)
+    ∷ record_table (costs_spelt cs) (length (pieces_of rs)) (pieces_of rs)
 
 -- then 10, where a text is asked for in a buffer of so many bytes
-abbrev pub roomTable : (text : List ℕ) → (room : ℕ) → List Rule
-roomTable text room = 10 if (room < length text) carrying length text ∷ []
+abbrev pub room_table : (text : List ℕ) → (room : ℕ) → List Rule
+room_table text room = 10 if (room < length text) carrying length text ∷ []
 
-unfoldable pub whyRecordsTable : (rs cs : List ℕ) → (room : ℕ) → List Rule
-whyRecordsTable rs cs room = lentTable rs cs ++ roomTable (whyRecordsText rs cs) room
+unfoldable pub why_records_table : (rs cs : List ℕ) → (room : ℕ) → List Rule
+why_records_table rs cs room = lent_table rs cs ++ room_table (why_records_text rs cs) room
 
-unfoldable pub whyCoreTable : (sheet : List ℕ) → (core room : ℕ) → List Rule
-whyCoreTable sheet core room =
-    (readTable sheet ++ (1 if Not ((1 ≤ core) × (core ≤ (machineIn sheet).cores)) carrying 0
+unfoldable pub why_core_table : (sheet : List ℕ) → (core room : ℕ) → List Rule
+why_core_table sheet core room =
+    (read_table sheet ++ (1 if Not ((1 ≤ core) × (core ≤ (machine_in sheet).cores)) carrying 0
     ∷ []))
-    ++ roomTable (whyCoreText sheet core) room
+    ++ room_table (why_core_text sheet core) room
 
 -- a sheet's rules before 10
-abbrev pub planRules : (sheet : List ℕ) → List Rule
-planRules sheet = readTable sheet ++ walkTable (machineIn sheet) (costsIn sheet) (tasksIn sheet)
+abbrev pub plan_rules : (sheet : List ℕ) → List Rule
+plan_rules sheet = read_table sheet ++ walk_table (machine_in sheet) (costs_in sheet) (tasks_in sheet)
 
 -- what a sheet says, and what is listed of it, are looked at only where no rule before is broken
-unfoldable pub sheetTable : (sheet : List ℕ) → (room : ℕ) → List Rule
-sheetTable sheet room = planRules sheet ++ roomTable (text_of sheet) room
+unfoldable pub sheet_table : (sheet : List ℕ) → (room : ℕ) → List Rule
+sheet_table sheet room = plan_rules sheet ++ room_table (text_of sheet) room
 
 -- the same rules, with m added to their numbers
-abbrev pub numberedFrom : ℕ → List Rule → List Rule
-numberedFrom m [] = []
-numberedFrom m (r ∷ rules) = (m + r.number) if r.Broken carrying r.carries ∷ numberedFrom m rules
+abbrev pub numbered_from : ℕ → List Rule → List Rule
+numbered_from m [] = []
+numbered_from m (r ∷ rules) = (m + r.number) if r.Broken carrying r.carries ∷ numbered_from m rules
 
-unfoldable pub diffTable : (sheet sheet' : List ℕ) → (room : ℕ) → List Rule
-diffTable sheet sheet' room = (planRules sheet ++ numberedFrom secondFrom (planRules sheet')) ++ roomTable (diffTextOf sheet sheet') room
+unfoldable pub diff_table : (sheet sheet' : List ℕ) → (room : ℕ) → List Rule
+diff_table sheet sheet' room = (plan_rules sheet ++ numbered_from second_from (plan_rules sheet')) ++ room_table (diff_text_of sheet sheet') room
 
 -- ---- what a function that writes a text into a lent buffer promises
 

@@ -1,9 +1,9 @@
 // Records and costs out of lent bytes: four bytes a number, lowest first.
 ghost use Rattle.std.specs.Prelude.{◌≡◌, ◌+◌, ◌*◌, ◌≤◌, ◌<◌, length};
-ghost use Rattle.demand.specs.Records.{recordsOf};
-ghost use Rattle.demand.specs.Sizes.{runMost};
-ghost use Rattle.spardimple.specs.Bytes.{number_at, pieces_of, costsSpelt};
-ghost use Rattle.spardimple.specs.ways.CopiedRun.{CopiedIn};
+ghost use Rattle.demand.specs.Records.{records_of};
+ghost use Rattle.demand.specs.Sizes.{run_most};
+ghost use Rattle.spardimple.specs.Bytes.{number_at, pieces_of, costs_spelt};
+ghost use Rattle.spardimple.specs.Ways.CopiedRun.{CopiedIn};
 
 use demand::{Costs, RUN_MOST, RUN_NUMBERS};
 
@@ -37,15 +37,15 @@ pub fn number_at(s: &[u8], k: usize) -> u64
 
 // n, where so many records fit into a run; else none is read.
 pub fn room_for(n: usize) -> usize
-    ensures { (result ≤ runMost) × (result ≤ n) × (n ≤ runMost → result ≡ n) }
+    ensures { (result ≤ run_most) × (result ≤ n) × (n ≤ run_most → result ≡ n) }
 {
     if n <= RUN_MOST { n } else { 0 }
 }
 
 // The numbers of the records that the bytes spell, copied where there is room for all. What the numbers of a record say is for its reader.
 pub fn read_records<'a>(records: &'a mut [u64; RUN_NUMBERS], s: &'a [u8])
-    requires { length records.old ≡ 7 * runMost }
-    ensures { CopiedIn (pieces_of s.now) (recordsOf records.new) }
+    requires { length records.old ≡ 7 * run_most }
+    ensures { CopiedIn (pieces_of s.now) (records_of records.new) }
 {
     let most = 7 * room_for(s.len() / 28);
     let mut i: usize = 0;
@@ -58,7 +58,7 @@ pub fn read_records<'a>(records: &'a mut [u64; RUN_NUMBERS], s: &'a [u8])
 // The nine costs that the bytes spell, in the sheet's order.
 pub fn read_costs(s: &[u8]) -> Costs
     requires { length s.now ≡ 36 }
-    ensures { result ≡ costsSpelt s.now }
+    ensures { result ≡ costs_spelt s.now }
 {
     Costs {
         relo: number_at(s, 0),

@@ -8,10 +8,10 @@ mod runs;
 
 ghost use Rattle.std.specs.Prelude.{◌≡◌, length};
 ghost use Rattle.demand.specs.Answer.{answer_of};
-ghost use Rattle.spardimple.specs.Numbers.{verdictNumber};
-ghost use Rattle.spardimple.specs.Sheets.{listingNumber, listingLeft};
-ghost use Rattle.spardimple.specs.Diffs.{diffNumber, diffLeft};
-ghost use Rattle.spardimple.specs.Whys.{whyRecordsNumber, whyRecordsLeft, whyCoreNumber, whyCoreLeft, demandNumber};
+ghost use Rattle.spardimple.specs.Numbers.{verdict_number};
+ghost use Rattle.spardimple.specs.Sheets.{listing_number, listing_left};
+ghost use Rattle.spardimple.specs.Diffs.{diff_number, diff_left};
+ghost use Rattle.spardimple.specs.Whys.{why_records_number, why_records_left, why_core_number, why_core_left, demand_number};
 
 use bytes::{read_costs, read_records};
 use demand::{Answer, Costs, Figure, Found, Piece, RUN_NUMBERS};
@@ -33,7 +33,7 @@ pub fn judge_lent(costs: Costs, pieces: &[Piece]) -> Answer
 /// nine costs. The answer is one number, 2^32 · which + carries: 0 passes, 1 overloaded, 2 undecided, 100 + N the refusal N.
 #[unsafe(no_mangle)]
 pub extern "C" fn verdict(records: &[u8], costs: &[u8]) -> u64
-    ensures exact { result ≡ verdictNumber records.now costs.now }
+    ensures exact { result ≡ verdict_number records.now costs.now }
 {
     if records.len() % 28 != 0 {
         return numbered(108, 0);
@@ -51,7 +51,7 @@ pub extern "C" fn verdict(records: &[u8], costs: &[u8]) -> u64
 /// no byte, and the bytes beyond a listing stay.
 #[unsafe(no_mangle)]
 pub extern "C" fn plan_listing(sheet: &[u8], listing: &mut [u8]) -> u64
-    ensures exact { (result ≡ listingNumber sheet.now (length listing.old)) × (listing.new ≡ listingLeft sheet.now listing.old) }
+    ensures exact { (result ≡ listing_number sheet.now (length listing.old)) × (listing.new ≡ listing_left sheet.now listing.old) }
 {
     let read = read_sheet(sheet);
     if read.number != 0 {
@@ -74,7 +74,7 @@ pub extern "C" fn plan_listing(sheet: &[u8], listing: &mut [u8]) -> u64
 /// is, then 10 with the length needed. A refusal writes no byte, and the bytes beyond a listing stay.
 #[unsafe(no_mangle)]
 pub extern "C" fn why_records(records: &[u8], costs: &[u8], out: &mut [u8]) -> u64
-    ensures exact { (result ≡ whyRecordsNumber records.now costs.now (length out.old)) × (out.new ≡ whyRecordsLeft records.now costs.now out.old) }
+    ensures exact { (result ≡ why_records_number records.now costs.now (length out.old)) × (out.new ≡ why_records_left records.now costs.now out.old) }
 {
     if records.len() % 28 != 0 {
         return numbered(108, 0);
@@ -92,7 +92,7 @@ pub extern "C" fn why_records(records: &[u8], costs: &[u8], out: &mut [u8]) -> u
 /// sticks, a first line tells which task found no room, and it is the last core, whichever was asked for, with the whole task added.
 #[unsafe(no_mangle)]
 pub extern "C" fn why_core(sheet: &[u8], core: u64, out: &mut [u8]) -> u64
-    ensures exact { (result ≡ whyCoreNumber sheet.now core (length out.old)) × (out.new ≡ whyCoreLeft sheet.now core out.old) }
+    ensures exact { (result ≡ why_core_number sheet.now core (length out.old)) × (out.new ≡ why_core_left sheet.now core out.old) }
 {
     let read = read_sheet(sheet);
     if read.number != 0 {
@@ -109,7 +109,7 @@ pub extern "C" fn why_core(sheet: &[u8], core: u64, out: &mut [u8]) -> u64
 /// The demand g(t) of lent records as one core; 0 where `verdict` refuses them, and where t is above 101,000,000, which no judged length reaches.
 #[unsafe(no_mangle)]
 pub extern "C" fn demand_at(records: &[u8], costs: &[u8], t: u64) -> u64
-    ensures exact { result ≡ demandNumber records.now costs.now t }
+    ensures exact { result ≡ demand_number records.now costs.now t }
 {
     if records.len() % 28 != 0 {
         return 0;
@@ -133,7 +133,7 @@ pub extern "C" fn demand_at(records: &[u8], costs: &[u8], t: u64) -> u64
 /// 1000 added to `which`, then 10 with the length needed. A refusal writes no byte, and the bytes beyond a listing stay.
 #[unsafe(no_mangle)]
 pub extern "C" fn diff_listing(sheet1: &[u8], sheet2: &[u8], out: &mut [u8]) -> u64
-    ensures exact { (result ≡ diffNumber sheet1.now sheet2.now (length out.old)) × (out.new ≡ diffLeft sheet1.now sheet2.now out.old) }
+    ensures exact { (result ≡ diff_number sheet1.now sheet2.now (length out.old)) × (out.new ≡ diff_left sheet1.now sheet2.now out.old) }
 {
     let read = read_sheet(sheet1);
     if read.number != 0 {

@@ -1,6 +1,6 @@
 // An answer as one number: 2^32 · which + carries.
 ghost use Rattle.std.specs.Prelude.{cond, ◌≡◌, ◌+◌, ◌*◌, ◌^◌, ◌≤◌, ◌<◌, eqb};
-ghost use Rattle.demand.specs.Sizes.{lengthMost};
+ghost use Rattle.demand.specs.Sizes.{length_most};
 ghost use Rattle.demand.specs.Answer.{told};
 ghost use Rattle.spardimple.specs.Numbers.{number};
 
@@ -35,7 +35,7 @@ pub fn number_of(answer: Answer) -> u64
 
 // What is said of a text: the refusal, or its length.
 pub fn note_number(note: Note) -> u64
-    requires { (note.number ≤ 10) × (note.carries ≤ lengthMost) }
+    requires { (note.number ≤ 10) × (note.carries ≤ length_most) }
     ensures { result ≡ 2 ^ 32 * cond (eqb note.number 0) 0 (100 + note.number) + note.carries }
 {
     if note.number == 0 {

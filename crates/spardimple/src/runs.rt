@@ -1,13 +1,13 @@
 // A lent run of piece records, copied into a `Run`.
 ghost use Rattle.std.specs.Prelude.{◌≡◌, length, set};
-ghost use Rattle.demand.specs.Sizes.{runMost};
-ghost use Rattle.spardimple.specs.ways.CopiedRun.{Copied};
+ghost use Rattle.demand.specs.Sizes.{run_most};
+ghost use Rattle.spardimple.specs.Ways.CopiedRun.{Copied};
 
 use demand::{Piece, RUN_MOST, Run, outside};
 
 // A run of n records, none of them put yet.
 pub fn empty(n: usize) -> Run
-    ensures { (result.count ≡ n) × (length result.pieces ≡ runMost) }
+    ensures { (result.count ≡ n) × (length result.pieces ≡ run_most) }
 {
     Run {
         count: n,

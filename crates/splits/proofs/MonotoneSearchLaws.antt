@@ -18,8 +18,8 @@ use Rattle.demand.specs.declared.Found.{Found}
 use Rattle.demand.specs.declared.Found.TheVariants.{Nothing}
 use Rattle.verdicts.specs.declared.Sum.TheVariants.{Interrupts}
 use Rattle.splits.specs.declared.monotone_search.Probe.TheVariants.{Window}
-use Rattle.demand.specs.Busy.{Finds, leastHolding}
-use Rattle.splits.specs.ways.MonotoneSearch.{ShowsIf, ProbeRefuses, Lowered}
+use Rattle.demand.specs.Busy.{Finds, least_holding}
+use Rattle.splits.specs.Ways.MonotoneSearch.{ShowsIf, ProbeRefuses, Lowered}
 use Rattle.verdicts.proofs.ChargedArrayLaws.{asked, asked-mono}
 use Rattle.demand.proofs.BusyLaws.{least-holding-finds}
 
@@ -55,7 +55,7 @@ nearer true low m high l h above below low-is high_is = (omega arith, omega arit
 nearer false low m high l h above below low-is high_is = (omega arith, omega arith)
 
 module _ (qs : List Charged) (base top : ℕ) where
-  pub climbed-none : (m : ℕ) → Nothing ≡ leastHolding (asked Interrupts (base + m) qs) top → ProbeRefuses qs (Window base top) m
+  pub climbed-none : (m : ℕ) → Nothing ≡ least_holding (asked Interrupts (base + m) qs) top → ProbeRefuses qs (Window base top) m
   climbed-none m none =
       subst (λ (r : Found). Finds (asked Interrupts (base + m) qs) top r) (sym none)
       (least-holding-finds (asked Interrupts (base + m) qs) (asked-mono Interrupts (base + m) qs) top)

@@ -1,14 +1,14 @@
 // How much a piece may be charged beside a core, as far as the engine tells: what is left of its charge, or what the core with it behind tells.
 ghost use Rattle.std.specs.Prelude.{◌≡◌, ◌+◌, ◌*◌, ◌<◌, ◌≤◌, length};
-ghost use Rattle.demand.specs.Busy.{busyLength};
-ghost use Rattle.demand.specs.Demand.{leastLive};
-ghost use Rattle.demand.specs.Sizes.{Each, lengthMost, timeMost, busyMost, runMost};
+ghost use Rattle.demand.specs.Busy.{busy_length};
+ghost use Rattle.demand.specs.Demand.{least_live};
+ghost use Rattle.demand.specs.Sizes.{Each, length_most, time_most, busy_most, run_most};
 ghost use Rattle.demand.specs.declared.Found.TheVariants.{At};
-ghost use Rattle.demand.specs.ways.Ranges.{Ranged, stallMost, chargeMost};
-ghost use Rattle.verdicts.specs.ChargedArray.{chargedIn, chargedAt};
-ghost use Rattle.splits.specs.ways.ChargeBounds.{withCharge, Caps, Stalled, Unsettled, Bounds};
-ghost use Rattle.splits.specs.ways.MonotoneSearch.{ShowsIf};
-ghost use Rattle.splits.specs.ways.SplitSearch.{SameCore};
+ghost use Rattle.demand.specs.Ways.Ranges.{Ranged, stall_most, charge_most};
+ghost use Rattle.verdicts.specs.ChargedArray.{charged_in, charged_at};
+ghost use Rattle.splits.specs.Ways.ChargeBounds.{with_charge, Caps, Stalled, Unsettled, Bounds};
+ghost use Rattle.splits.specs.Ways.MonotoneSearch.{ShowsIf};
+ghost use Rattle.splits.specs.Ways.SplitSearch.{SameCore};
 
 use crate::engine::{
     charged_at, climb_busy, descend, largest_window, least_live, put_charged, squeeze, sum_at,
@@ -27,10 +27,10 @@ pub enum Bound {
 
 // What one far length and a short walk leave of f: the far length tells where there is more to do than time, the short walk finds most of the rest.
 pub fn cap_of(core: &[u64; CORE_NUMBERS], n: usize, b: u64, q: Charged, f: u64, a: u64) -> u64
-    requires n_le_run_most { (n ≤ runMost) × Each Ranged (chargedIn core.now n) }
+    requires n_le_run_most { (n ≤ run_most) × Each Ranged (charged_in core.now n) }
     requires ranged { Ranged q }
-    requires b_le_stall_most { (b ≤ stallMost) × (f ≤ chargeMost) × (a ≤ timeMost) }
-    ensures { Caps b (chargedIn core.now n) q f a result }
+    requires b_le_stall_most { (b ≤ stall_most) × (f ≤ charge_most) × (a ≤ time_most) }
+    ensures { Caps b (charged_in core.now n) q f a result }
 {
     let far = squeeze(core, n, b, q, f, BUSY_MOST, 1);
     squeeze(core, n, b, q, far, a, 4 * q.period)
@@ -39,10 +39,10 @@ pub fn cap_of(core: &[u64; CORE_NUMBERS], n: usize, b: u64, q: Charged, f: u64, 
 // What the busy length l tells of the n pieces and the one behind, from their least live length a on. Between the largest window of the n and that of the one
 // behind only its own blocking is left.
 pub fn bound_within(core: &[u64; CORE_NUMBERS], n: usize, b: u64, a: u64, l: u64) -> Bound
-    requires n_lt_run_most { (n < runMost) × Each Ranged (chargedIn core.now (n + 1)) }
-    requires b_le_stall_most { (b ≤ stallMost) × (a ≤ timeMost) × (l ≤ busyMost) × (1 ≤ (chargedAt core.now n).charge) }
-    requires a_value { (a ≡ leastLive (chargedIn core.now (n + 1))) × (busyLength (chargedIn core.now (n + 1)) ≡ At l) }
-    ensures { Bounds b (chargedIn core.now n) (chargedAt core.now n) result }
+    requires n_lt_run_most { (n < run_most) × Each Ranged (charged_in core.now (n + 1)) }
+    requires b_le_stall_most { (b ≤ stall_most) × (a ≤ time_most) × (l ≤ busy_most) × (1 ≤ (charged_at core.now n).charge) }
+    requires a_value { (a ≡ least_live (charged_in core.now (n + 1))) × (busy_length (charged_in core.now (n + 1)) ≡ At l) }
+    ensures { Bounds b (charged_in core.now n) (charged_at core.now n) result }
 {
     let q = charged_at(core, n);
     let near = squeeze(core, n, b, q, q.charge, a, l);
@@ -63,7 +63,7 @@ pub fn bound_within(core: &[u64; CORE_NUMBERS], n: usize, b: u64, a: u64, l: u64
 
 // q with another charge.
 pub fn with_charge(q: Charged, f: u64) -> Charged
-    ensures { result ≡ withCharge q f }
+    ensures { result ≡ with_charge q f }
 {
     Charged {
         charge: f,
@@ -79,10 +79,10 @@ pub fn with_charge(q: Charged, f: u64) -> Charged
 // The greatest charge of q, below its own, that fits at t beside the n pieces where the stall counts. What q asks for with no charge, and how many jobs are charged, the
 // sums with q behind tell.
 pub fn fit_stalled(core: &mut [u64; CORE_NUMBERS], n: usize, b: u64, q: Charged, t: u64) -> u64
-    requires n_lt_run_most { (n < runMost) × (length core.old ≡ 7 * runMost) × Each Ranged (chargedIn core.old n) }
+    requires n_lt_run_most { (n < run_most) × (length core.old ≡ 7 * run_most) × Each Ranged (charged_in core.old n) }
     requires ranged { Ranged q }
-    requires b_le_stall_most { (b ≤ stallMost) × (1 ≤ q.charge) × (t ≤ lengthMost) }
-    ensures { Stalled b (chargedIn core.old n) q t result × SameCore core.old core.new n }
+    requires b_le_stall_most { (b ≤ stall_most) × (1 ≤ q.charge) × (t ≤ length_most) }
+    ensures { Stalled b (charged_in core.old n) q t result × SameCore core.old core.new n }
 {
     put_charged(core, n, with_charge(q, 0));
     let rest = sum_at(core, n + 1, Sum::Load, t);
@@ -99,9 +99,9 @@ pub fn fit_stalled(core: &mut [u64; CORE_NUMBERS], n: usize, b: u64, q: Charged,
 
 // A charge of q, below its own, with which the n pieces and q may hold the busy sum at l. What is made of it needs no more than that it is below.
 pub fn guess_at(core: &[u64; CORE_NUMBERS], n: usize, q: Charged, l: u64) -> u64
-    requires n_lt_run_most { (n < runMost) × Each Ranged (chargedIn core.now (n + 1)) }
+    requires n_lt_run_most { (n < run_most) × Each Ranged (charged_in core.now (n + 1)) }
     requires ranged { Ranged q }
-    requires le_charge { (1 ≤ q.charge) × (l ≤ lengthMost) }
+    requires le_charge { (1 ≤ q.charge) × (l ≤ length_most) }
     ensures { result < q.charge }
 {
     let asked = sum_at(core, n + 1, Sum::Busy, l);
@@ -111,7 +111,7 @@ pub fn guess_at(core: &[u64; CORE_NUMBERS], n: usize, q: Charged, l: u64) -> u64
 
 // The greatest such charge at the last multiples of the periods, where the busy sum is least above the length.
 pub fn guess(core: &[u64; CORE_NUMBERS], n: usize, q: Charged) -> u64
-    requires n_lt_run_most { (n < runMost) × Each Ranged (chargedIn core.now (n + 1)) }
+    requires n_lt_run_most { (n < run_most) × Each Ranged (charged_in core.now (n + 1)) }
     requires ranged { Ranged q }
     requires le_charge { 1 ≤ q.charge }
     ensures { result < q.charge }
@@ -128,10 +128,10 @@ pub fn guess(core: &[u64; CORE_NUMBERS], n: usize, q: Charged) -> u64
 
 // Whether the n pieces with q behind, charged f, have no busy length.
 pub fn unsettled(core: &mut [u64; CORE_NUMBERS], n: usize, q: Charged, f: u64) -> bool
-    requires n_lt_run_most { (n < runMost) × (length core.old ≡ 7 * runMost) × Each Ranged (chargedIn core.old n) }
+    requires n_lt_run_most { (n < run_most) × (length core.old ≡ 7 * run_most) × Each Ranged (charged_in core.old n) }
     requires ranged { Ranged q }
-    requires f_le_charge_most { f ≤ chargeMost }
-    ensures { ShowsIf (Unsettled (chargedIn core.old n) q f) result × SameCore core.old core.new n }
+    requires f_le_charge_most { f ≤ charge_most }
+    ensures { ShowsIf (Unsettled (charged_in core.old n) q f) result × SameCore core.old core.new n }
 {
     put_charged(core, n, with_charge(q, f));
     match climb_busy(core, n + 1) {
@@ -143,10 +143,10 @@ pub fn unsettled(core: &mut [u64; CORE_NUMBERS], n: usize, q: Charged, f: u64) -
 // Where q's own charge leaves no busy length: what is left of it after some probes, from a charge that may leave one. The last few are left to the search, which
 // climbs for each as a probe does.
 pub fn busy_cap(core: &mut [u64; CORE_NUMBERS], n: usize, q: Charged, from: u64) -> u64
-    requires n_lt_run_most { (n < runMost) × (length core.old ≡ 7 * runMost) × Each Ranged (chargedIn core.old n) }
+    requires n_lt_run_most { (n < run_most) × (length core.old ≡ 7 * run_most) × Each Ranged (charged_in core.old n) }
     requires ranged { Ranged q }
-    requires from_lt_charge { (from < q.charge) × Unsettled (chargedIn core.old n) q q.charge }
-    ensures { (result < q.charge) × Unsettled (chargedIn core.old n) q (result + 1) × SameCore core.old core.new n }
+    requires from_lt_charge { (from < q.charge) × Unsettled (charged_in core.old n) q q.charge }
+    ensures { (result < q.charge) × Unsettled (charged_in core.old n) q (result + 1) × SameCore core.old core.new n }
 {
     let mut low = from;
     let mut high = q.charge;
@@ -161,9 +161,9 @@ pub fn busy_cap(core: &mut [u64; CORE_NUMBERS], n: usize, q: Charged, from: u64)
 
 // What a core with one piece behind its n tells. The charge of that piece is written anew where there is no busy length.
 pub fn bound_of(core: &mut [u64; CORE_NUMBERS], n: usize, b: u64) -> Bound
-    requires n_lt_run_most { (n < runMost) × (length core.old ≡ 7 * runMost) × Each Ranged (chargedIn core.old (n + 1)) }
-    requires b_le_stall_most { (b ≤ stallMost) × (1 ≤ (chargedAt core.old n).charge) }
-    ensures { Bounds b (chargedIn core.old n) (chargedAt core.old n) result × SameCore core.old core.new n }
+    requires n_lt_run_most { (n < run_most) × (length core.old ≡ 7 * run_most) × Each Ranged (charged_in core.old (n + 1)) }
+    requires b_le_stall_most { (b ≤ stall_most) × (1 ≤ (charged_at core.old n).charge) }
+    ensures { Bounds b (charged_in core.old n) (charged_at core.old n) result × SameCore core.old core.new n }
 {
     let q = charged_at(core, n);
     let a = least_live(core, n + 1);

@@ -7,8 +7,8 @@ mod split_search;
 mod starts;
 
 ghost use Rattle.std.specs.Prelude.{◌≡◌};
-ghost use Rattle.demand.specs.Answer.{splitOf};
-ghost use Rattle.demand.specs.Records.{recordsOf};
+ghost use Rattle.demand.specs.Answer.{split_of};
+ghost use Rattle.demand.specs.Records.{records_of};
 
 use demand::{Check, Costs, Piece, RUN_NUMBERS, Splitting, check_task};
 use split_search::greatest_split;
@@ -22,7 +22,7 @@ pub fn split_records(
     task: Piece,
     grain: u64,
 ) -> Splitting
-    ensures exact { result ≡ splitOf costs count (recordsOf records.now) task grain }
+    ensures exact { result ≡ split_of costs count (records_of records.now) task grain }
 {
     match check_task(costs, records, count, task) {
         Check::Bad(why) => Splitting::Denied(why),

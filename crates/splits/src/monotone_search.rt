@@ -1,10 +1,10 @@
 // Numbers that a test refuses from some point on are found by probing between a low end and a high one: a refusal lowers the high end, which is all that the
 // answer tells of; where none comes the low end goes up, first by one and then by twice as much each time.
 ghost use Rattle.std.specs.Prelude.{◌≡◌, cond, ◌≤◌, ◌<◌};
-ghost use Rattle.demand.specs.Sizes.{Each, timeMost, runMost};
-ghost use Rattle.demand.specs.ways.Ranges.{Ranged};
-ghost use Rattle.verdicts.specs.ChargedArray.{chargedIn};
-ghost use Rattle.splits.specs.ways.MonotoneSearch.{ShowsIf, ProbeRefuses, Askable, Lowered};
+ghost use Rattle.demand.specs.Sizes.{Each, time_most, run_most};
+ghost use Rattle.demand.specs.Ways.Ranges.{Ranged};
+ghost use Rattle.verdicts.specs.ChargedArray.{charged_in};
+ghost use Rattle.splits.specs.Ways.MonotoneSearch.{ShowsIf, ProbeRefuses, Askable, Lowered};
 
 use crate::engine::{climb, sum_at};
 use demand::{Found, lesser};
@@ -26,9 +26,9 @@ pub fn pick(first: bool, a: u64, b: u64) -> u64
 }
 
 pub fn refused(core: &[u64; CORE_NUMBERS], n: usize, probe: Probe, m: u64) -> bool
-    requires n_le_run_most { (n ≤ runMost) × Each Ranged (chargedIn core.now n) }
-    requires askable { Askable probe × (m ≤ timeMost) }
-    ensures { ShowsIf (ProbeRefuses (chargedIn core.now n) probe m) result }
+    requires n_le_run_most { (n ≤ run_most) × Each Ranged (charged_in core.now n) }
+    requires askable { Askable probe × (m ≤ time_most) }
+    ensures { ShowsIf (ProbeRefuses (charged_in core.now n) probe m) result }
 {
     match probe {
         Probe::Window(base, top) => match climb(core, n, base + m, top) {
@@ -42,9 +42,9 @@ pub fn refused(core: &[u64; CORE_NUMBERS], n: usize, probe: Probe, m: u64) -> bo
 
 // The high end lowered as far as the probes go.
 pub fn lowered(core: &[u64; CORE_NUMBERS], n: usize, probe: Probe, from: u64, top: u64) -> u64
-    requires n_le_run_most { (n ≤ runMost) × Each Ranged (chargedIn core.now n) }
-    requires askable { Askable probe × (from ≤ timeMost) × (top ≤ timeMost) }
-    ensures { Lowered (ProbeRefuses (chargedIn core.now n) probe) top result }
+    requires n_le_run_most { (n ≤ run_most) × Each Ranged (charged_in core.now n) }
+    requires askable { Askable probe × (from ≤ time_most) × (top ≤ time_most) }
+    ensures { Lowered (ProbeRefuses (charged_in core.now n) probe) top result }
 {
     let mut low = from;
     let mut high = top;

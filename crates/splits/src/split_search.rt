@@ -3,18 +3,18 @@
 // above which none can be allowed. The core lies in one array, the last piece alone in another; each candidate writes one piece of each.
 ghost use Rattle.std.specs.Prelude.{◌≡◌, ◌+◌, ◌*◌, ◌-◌, ◌<◌, ◌≤◌, max, take, length};
 ghost use Rattle.demand.specs.Charge.{stall};
-ghost use Rattle.demand.specs.Demand.{largestWindow, demand, leastLive};
-ghost use Rattle.demand.specs.Records.{recordsOf};
-ghost use Rattle.demand.specs.Sizes.{Sized, SizedCosts, Each, timeMost, lengthMost, runMost};
-ghost use Rattle.demand.specs.Split.{greatestSplit};
+ghost use Rattle.demand.specs.Demand.{largest_window, demand, least_live};
+ghost use Rattle.demand.specs.Records.{records_of};
+ghost use Rattle.demand.specs.Sizes.{Sized, SizedCosts, Each, time_most, length_most, run_most};
+ghost use Rattle.demand.specs.Split.{greatest_split};
 ghost use Rattle.demand.specs.Verdict.{verdict};
 ghost use Rattle.demand.specs.declared.Found.TheVariants.{At};
 ghost use Rattle.demand.specs.declared.Verdict.TheVariants.{Passes};
-ghost use Rattle.demand.specs.ways.ChargedSplit.{withFirst, lastAlone, TightIn, Chosen};
-ghost use Rattle.demand.specs.ways.Ranges.{Ranged, stallMost};
-ghost use Rattle.verdicts.specs.ChargedArray.{chargedIn};
-ghost use Rattle.splits.specs.ways.MonotoneSearch.{ShowsIf};
-ghost use Rattle.splits.specs.ways.SplitSearch.{Ready, SameCore, Steps, Misses, Skips, Hopeless, LastBounds, Starts};
+ghost use Rattle.demand.specs.Ways.ChargedSplit.{with_first, last_alone, TightIn, Chosen};
+ghost use Rattle.demand.specs.Ways.Ranges.{Ranged, stall_most};
+ghost use Rattle.verdicts.specs.ChargedArray.{charged_in};
+ghost use Rattle.splits.specs.Ways.MonotoneSearch.{ShowsIf};
+ghost use Rattle.splits.specs.Ways.SplitSearch.{Ready, SameCore, Steps, Misses, Skips, Hopeless, LastBounds, Starts};
 
 use crate::charge_bounds::{Bound, bound_of, fit_stalled};
 use crate::engine::{
@@ -46,7 +46,7 @@ pub fn tight_first(
     requires sized { Sized task }
     requires ready { Ready core.old n }
     requires x_lt_budget { x < task.budget }
-    ensures { TightIn costs (chargedIn core.old n) task x result × SameCore core.old core.new n }
+    ensures { TightIn costs (charged_in core.old n) task x result × SameCore core.old core.new n }
 {
     lay_first(core, n, costs, task, x, task.window - 1);
     tight_of(core, n + 1, stall_of(costs))
@@ -54,9 +54,9 @@ pub fn tight_first(
 
 // One less than the last piece alone, in the window w, is overloaded at t, or 0.
 pub fn excess_at(alone: &[u64; CORE_NUMBERS], b: u64, w: u64, t: u64) -> u64
-    requires each { Each Ranged (chargedIn alone.now 1) }
-    requires b_le_stall_most { (b ≤ stallMost) × (w ≡ largestWindow (chargedIn alone.now 1)) × (t ≤ lengthMost) }
-    ensures { result ≡ demand b (chargedIn alone.now 1) t - (t + 1) }
+    requires each { Each Ranged (charged_in alone.now 1) }
+    requires b_le_stall_most { (b ≤ stall_most) × (w ≡ largest_window (charged_in alone.now 1)) × (t ≤ length_most) }
+    ensures { result ≡ demand b (charged_in alone.now 1) t - (t + 1) }
 {
     let loads = sum_at(alone, 1, Sum::Load, t);
     if t < w {
@@ -76,9 +76,9 @@ pub fn bound_last(
 ) -> Bound
     requires sized_costs { SizedCosts costs }
     requires sized { Sized task }
-    requires alone_len { length alone.old ≡ 7 * runMost }
+    requires alone_len { length alone.old ≡ 7 * run_most }
     requires le_x { (1 ≤ x) × (x ≤ task.budget) × (w ≤ task.window) }
-    ensures { LastBounds costs task x w result × (length alone.new ≡ 7 * runMost) }
+    ensures { LastBounds costs task x w result × (length alone.new ≡ 7 * run_most) }
 {
     lay_last(alone, costs, task, x, w);
     let b = stall_of(costs);
@@ -106,8 +106,8 @@ pub fn window_below(
     requires sized_costs { SizedCosts costs }
     requires sized { Sized task }
     requires ready { Ready core.old n }
-    requires le_x { (1 ≤ x) × (x < task.budget) × (top ≤ timeMost) }
-    ensures { Misses costs (chargedIn core.old n) task top result x × SameCore core.old core.new n }
+    requires le_x { (1 ≤ x) × (x < task.budget) × (top ≤ time_most) }
+    ensures { Misses costs (charged_in core.old n) task top result x × SameCore core.old core.new n }
 {
     lay_first(core, n, costs, task, 0, 0);
     let q = charged_at(core, n);
@@ -128,9 +128,9 @@ pub fn last_below(
     requires sized_costs { SizedCosts costs }
     requires sized { Sized task }
     requires ready { Ready core.old n }
-    requires le_x { (1 ≤ x) × (x < task.budget) × TightIn costs (chargedIn core.old n) task x (At w) }
+    requires le_x { (1 ≤ x) × (x < task.budget) × TightIn costs (charged_in core.old n) task x (At w) }
     requires hopeless { Hopeless costs task x w s }
-    ensures { Skips costs (chargedIn core.old n) task result x × SameCore core.old core.new n }
+    ensures { Skips costs (charged_in core.old n) task result x × SameCore core.old core.new n }
 {
     lay_first(core, n, costs, task, 0, 0);
     let t = w - task.jitter;
@@ -152,9 +152,9 @@ pub fn own_below(
     requires sized_costs { SizedCosts costs }
     requires sized { Sized task }
     requires ready { Ready core.old n }
-    requires le_x { (1 ≤ x) × (x < task.budget) × TightIn costs (chargedIn core.old n) task x (At w) }
-    requires w_bound { (leastLive (withFirst costs (chargedIn core.old n) task x w) ≤ t) × (t ≤ timeMost) }
-    ensures { Skips costs (chargedIn core.old n) task result x × SameCore core.old core.new n }
+    requires le_x { (1 ≤ x) × (x < task.budget) × TightIn costs (charged_in core.old n) task x (At w) }
+    requires w_bound { (least_live (with_first costs (charged_in core.old n) task x w) ≤ t) × (t ≤ time_most) }
+    ensures { Skips costs (charged_in core.old n) task result x × SameCore core.old core.new n }
 {
     let q = charged_of(costs, first_piece(task, x, w));
     let most = fit_stalled(core, n, stall_of(costs), q, t);
@@ -164,8 +164,8 @@ pub fn own_below(
 
 // Whether a job of the core is due by the end t of a tight window, where the stall still counts: w is J + t.
 pub fn due_by(core: &[u64; CORE_NUMBERS], n: usize, t: u64, w: u64) -> bool
-    requires { (n ≤ runMost) × Each Ranged (chargedIn core.now n) }
-    ensures { ShowsIf ((1 ≤ n) × (leastLive (chargedIn core.now n) ≤ t) × (t < max (largestWindow (chargedIn core.now n)) w)) result }
+    requires { (n ≤ run_most) × Each Ranged (charged_in core.now n) }
+    ensures { ShowsIf ((1 ≤ n) × (least_live (charged_in core.now n) ≤ t) × (t < max (largest_window (charged_in core.now n)) w)) result }
 {
     if n == 0 {
         return false;
@@ -188,9 +188,9 @@ pub fn step_first(
     requires sized_costs { SizedCosts costs }
     requires sized { Sized task }
     requires ready { Ready core.old n }
-    requires le_x { (1 ≤ x) × (x < task.budget) × TightIn costs (chargedIn core.old n) task x (At w) }
-    requires w_value { verdict (stall costs) (lastAlone costs task x w) ≡ Passes }
-    ensures { Steps costs (chargedIn core.old n) task x result × SameCore core.old core.new n }
+    requires le_x { (1 ≤ x) × (x < task.budget) × TightIn costs (charged_in core.old n) task x (At w) }
+    requires w_value { verdict (stall costs) (last_alone costs task x w) ≡ Passes }
+    ensures { Steps costs (charged_in core.old n) task x result × SameCore core.old core.new n }
 {
     if due_by(core, n, w - task.jitter, w) {
         let top = less(least_live(core, n), 1);
@@ -216,9 +216,9 @@ pub fn try_split(
 ) -> Step
     requires sized_costs { SizedCosts costs }
     requires sized { Sized task }
-    requires ready { Ready core.old n × (length alone.old ≡ 7 * runMost) }
+    requires ready { Ready core.old n × (length alone.old ≡ 7 * run_most) }
     requires le_x { (1 ≤ x) × (x < task.budget) }
-    ensures { Steps costs (chargedIn core.old n) task x result × SameCore core.old core.new n × (length alone.new ≡ 7 * runMost) }
+    ensures { Steps costs (charged_in core.old n) task x result × SameCore core.old core.new n × (length alone.new ≡ 7 * run_most) }
 {
     match tight_first(core, n, costs, task, x) {
         Found::Nothing => {
@@ -245,9 +245,9 @@ pub fn search(
 ) -> Split
     requires sized_costs { SizedCosts costs }
     requires sized { Sized task }
-    requires ready { Ready core.old n × (length alone.old ≡ 7 * runMost) }
-    requires starts { Starts costs (chargedIn core.old n) task top × (1 ≤ grain) }
-    ensures { Chosen costs grain (chargedIn core.old n) task result }
+    requires ready { Ready core.old n × (length alone.old ≡ 7 * run_most) }
+    requires starts { Starts costs (charged_in core.old n) task top × (1 ≤ grain) }
+    ensures { Chosen costs grain (charged_in core.old n) task result }
 {
     let mut k = top / grain;
     while 1 <= k {
@@ -273,9 +273,9 @@ pub fn greatest_split(
     grain: u64,
 ) -> Split
     requires sized_costs { SizedCosts costs }
-    requires n_lt_run_most { (n < runMost) × Each Sized (take n (recordsOf records.now)) }
+    requires n_lt_run_most { (n < run_most) × Each Sized (take n (records_of records.now)) }
     requires sized { Sized task }
-    ensures { result ≡ greatestSplit costs grain (take n (recordsOf records.now)) task }
+    ensures { result ≡ greatest_split costs grain (take n (records_of records.now)) task }
 {
     if grain == 0 {
         return Split::Nowhere;

@@ -2,10 +2,10 @@
 ghost use Rattle.std.specs.Prelude.{◌≡◌, ◌⊎◌, ◌-◌, ◌≤◌};
 ghost use Rattle.demand.specs.Charge.{stall};
 ghost use Rattle.demand.specs.Sizes.{Sized, SizedCosts};
-ghost use Rattle.demand.specs.ways.ChargedSplit.{tightBeside};
-ghost use Rattle.demand.specs.ways.Ranges.{stallMost};
-ghost use Rattle.verdicts.specs.ChargedArray.{chargedIn};
-ghost use Rattle.splits.specs.ways.SplitSearch.{Ready, SameCore, Ends, Starts};
+ghost use Rattle.demand.specs.Ways.ChargedSplit.{tight_beside};
+ghost use Rattle.demand.specs.Ways.Ranges.{stall_most};
+ghost use Rattle.verdicts.specs.ChargedArray.{charged_in};
+ghost use Rattle.splits.specs.Ways.SplitSearch.{Ready, SameCore, Ends, Starts};
 
 use crate::charge_bounds::cap_of;
 use crate::engine::{charged_at, least_live, stall_of, sum_at};
@@ -19,7 +19,7 @@ pub fn least_sum(core: &mut [u64; CORE_NUMBERS], n: usize, costs: Costs, task: P
     requires sized_costs { SizedCosts costs }
     requires sized { Sized task }
     requires ready { Ready core.old n }
-    ensures { (result ≡ tightBeside costs (chargedIn core.old n) task 0 1) × (result ≤ 80000000000000000) × SameCore core.old core.new n }
+    ensures { (result ≡ tight_beside costs (charged_in core.old n) task 0 1) × (result ≤ 80000000000000000) × SameCore core.old core.new n }
 {
     lay_first(core, n, costs, task, 0, 0);
     let q = charged_at(core, n);
@@ -29,7 +29,7 @@ pub fn least_sum(core: &mut [u64; CORE_NUMBERS], n: usize, costs: Costs, task: P
 // What the jobs of the core that are due within an allowed split's tight window are charged at most.
 pub fn due_most(costs: Costs, task: Piece) -> u64
     requires { SizedCosts costs }
-    ensures { ((result ≡ stall costs) ⊎ ((1 ≤ task.jitter) × (result ≡ 0))) × (result ≤ stallMost) }
+    ensures { ((result ≡ stall costs) ⊎ ((1 ≤ task.jitter) × (result ≡ 0))) × (result ≤ stall_most) }
 {
     if 0 < task.jitter {
         return 0;
@@ -43,7 +43,7 @@ pub fn tight_end(core: &[u64; CORE_NUMBERS], n: usize, costs: Costs, task: Piece
     requires sized_costs { SizedCosts costs }
     requires sized { Sized task }
     requires ready { Ready core.now n }
-    ensures { Ends costs (chargedIn core.now n) task result × (result ≤ task.window - task.jitter) }
+    ensures { Ends costs (charged_in core.now n) task result × (result ≤ task.window - task.jitter) }
 {
     let end = less(task.window, task.jitter);
     if n == 0 {
@@ -65,8 +65,8 @@ pub fn start_of(
     requires sized_costs { SizedCosts costs }
     requires sized { Sized task }
     requires ready { Ready core.old n }
-    requires least_value { (least ≡ tightBeside costs (chargedIn core.old n) task 0 1) × (least ≤ 80000000000000000) }
-    ensures { Starts costs (chargedIn core.old n) task result × SameCore core.old core.new n }
+    requires least_value { (least ≡ tight_beside costs (charged_in core.old n) task 0 1) × (least ≤ 80000000000000000) }
+    ensures { Starts costs (charged_in core.old n) task result × SameCore core.old core.new n }
 {
     let end = tight_end(core, n, costs, task);
     let x = lesser(task.budget - 1, less(end, least + 1));

@@ -19,55 +19,55 @@ use lib.Seq.{drop-cons}
 use Rattle.demand.specs.Sizes.{Each}
 use Rattle.demand.proofs.Tests.{both_left, both_right}
 use Rattle.task.specs.declared.Name.{Name}
-use Rattle.task.specs.Names.{nameByte, Formed, fitsAt, speltFrom, spelt, formed, sameBytes, same_name}
+use Rattle.task.specs.Names.{name_byte, Formed, fits_at, spelt_from, spelt, formed, same_bytes, same_name}
 
 -- ---- the form
 
-spelt-more : (n i : ℕ) (bs : List ℕ) → i + length bs < n → speltFrom n i bs ≡ false
+spelt-more : (n i : ℕ) (bs : List ℕ) → i + length bs < n → spelt_from n i bs ≡ false
 spelt-more n i [] h = lt-leb n i (omega arith)
-spelt-more n i (b ∷ bs) h = rw (spelt-more n (i + 1) bs (omega arith)) (and-false (fitsAt b i n))
+spelt-more n i (b ∷ bs) h = rw (spelt-more n (i + 1) bs (omega arith)) (and-false (fits_at b i n))
 
 pub spelt-long : (n : ℕ) (bs : List ℕ) → length bs < n → spelt n bs ≡ false
 spelt-long n bs h = spelt-more n 0 bs (omega arith)
 
 module _ (bs : List ℕ) (i : ℕ) (room : i < length bs) (n : ℕ) where
-  pub spelt-step : fitsAt (get_or bs i 0) i n ≡ true → speltFrom n i (drop i bs) ≡ speltFrom n (i + 1) (drop (i + 1) bs)
-  spelt-step good = rw (drop-cons bs i 0, good) (ap (λ (k : ℕ). speltFrom n (i + 1) (drop k bs)) (sym (add-one i)))
+  pub spelt-step : fits_at (get_or bs i 0) i n ≡ true → spelt_from n i (drop i bs) ≡ spelt_from n (i + 1) (drop (i + 1) bs)
+  spelt-step good = rw (drop-cons bs i 0, good) (ap (λ (k : ℕ). spelt_from n (i + 1) (drop k bs)) (sym (add-one i)))
 
-  pub spelt-bad : fitsAt (get_or bs i 0) i n ≡ false → speltFrom n i (drop i bs) ≡ false
+  pub spelt-bad : fits_at (get_or bs i 0) i n ≡ false → spelt_from n i (drop i bs) ≡ false
   spelt-bad bad = rw (drop-cons bs i 0, bad)
 
-pub spelt-end : (n i : ℕ) (bs : List ℕ) → length bs ≤ i → n ≤ i → speltFrom n i (drop i bs) ≡ true
+pub spelt-end : (n i : ℕ) (bs : List ℕ) → length bs ≤ i → n ≤ i → spelt_from n i (drop i bs) ≡ true
 spelt-end n i bs short h = rw (drop_of_length-le bs {i = i} short) (le-leb n i h)
 
 -- past the length only zeros stand
-zeros-exact : (n i : ℕ) → n ≤ i → (bs : List ℕ) → (speltFrom n i bs ≡ true) ↔ Each (λ b. b ≡ 0) bs
+zeros-exact : (n i : ℕ) → n ≤ i → (bs : List ℕ) → (spelt_from n i bs ≡ true) ↔ Each (λ b. b ≡ 0) bs
 zeros-exact n i past [] = ((λ e. tt), λ z. le-leb n i past)
 zeros-exact n i past (b ∷ bs) =
     let more = zeros-exact n (i + 1) (omega arith) bs in
-    let here : fitsAt b i n ≡ eqb b 0 = rw (le-ltb i n past) in (
+    let here : fits_at b i n ≡ eqb b 0 = rw (le-ltb i n past) in (
       (λ e. (
-        eqb-true b 0 (sym here ∙ both_left (fitsAt b i n) (speltFrom n (i + 1) bs) e),
-        more.0 (both_right (fitsAt b i n) (speltFrom n (i + 1) bs) e),
+        eqb-true b 0 (sym here ∙ both_left (fits_at b i n) (spelt_from n (i + 1) bs) e),
+        more.0 (both_right (fits_at b i n) (spelt_from n (i + 1) bs) e),
       )),
       λ z. rw (here, eq-eqb b 0 z.0) (more.1 z.1),
     )
 
 -- k name bytes, and zeros behind them
 abbrev Spelling : ℕ → List ℕ → Type 0
-Spelling k bs = (k ≤ length bs) × Each (λ b. nameByte b ≡ true) (take k bs) × Each (λ b. b ≡ 0) (drop k bs)
+Spelling k bs = (k ≤ length bs) × Each (λ b. name_byte b ≡ true) (take k bs) × Each (λ b. b ≡ 0) (drop k bs)
 
-spelling-exact : (n k i : ℕ) → n ≡ i + k → (bs : List ℕ) → (speltFrom n i bs ≡ true) ↔ Spelling k bs
+spelling-exact : (n k i : ℕ) → n ≡ i + k → (bs : List ℕ) → (spelt_from n i bs ≡ true) ↔ Spelling k bs
 spelling-exact n zero i is bs =
     let zeros = zeros-exact n i (omega arith) bs in
     ((λ e. (omega arith, tt, zeros.0 e)), λ s. zeros.1 s.2)
 spelling-exact n (suc k) i is [] = ((λ e. absurd (omega (arith, leb-true n i e))), λ s. absurd (omega (arith, s.0)))
 spelling-exact n (suc k) i is (b ∷ bs) =
     let more = spelling-exact n k (i + 1) (omega arith) bs in
-    let here : fitsAt b i n ≡ nameByte b = rw (lt-ltb i n (omega arith)) in (
+    let here : fits_at b i n ≡ name_byte b = rw (lt-ltb i n (omega arith)) in (
       (λ e.
-          let rest = more.0 (both_right (fitsAt b i n) (speltFrom n (i + 1) bs) e) in
-          (omega (arith, rest.0), (sym here ∙ both_left (fitsAt b i n) (speltFrom n (i + 1) bs) e, rest.1), rest.2)),
+          let rest = more.0 (both_right (fits_at b i n) (spelt_from n (i + 1) bs) e) in
+          (omega (arith, rest.0), (sym here ∙ both_left (fits_at b i n) (spelt_from n (i + 1) bs) e, rest.1), rest.2)),
       λ s. rw (here, s.1.0) (more.1 (omega (arith, s.0), s.1.1, s.2)),
     )
 
@@ -84,28 +84,28 @@ formed-exact n =
 -- ---- equality
 
 module _ (as' bs : List ℕ) (i : ℕ) (room : i < length as') (other : i < length bs) where
-  pub same_step : get_or as' i 0 ≡ get_or bs i 0 → sameBytes (drop i as') (drop i bs) ≡ sameBytes (drop (i + 1) as') (drop (i + 1) bs)
+  pub same_step : get_or as' i 0 ≡ get_or bs i 0 → same_bytes (drop i as') (drop i bs) ≡ same_bytes (drop (i + 1) as') (drop (i + 1) bs)
   same_step e = rw (add-one, drop-cons as' i 0 room, drop-cons bs i 0 other, eq-eqb (get_or as' i 0) (get_or bs i 0) e)
 
-  pub same-differ : (get_or as' i 0 ≡ get_or bs i 0 → ⊥) → sameBytes (drop i as') (drop i bs) ≡ false
+  pub same-differ : (get_or as' i 0 ≡ get_or bs i 0 → ⊥) → same_bytes (drop i as') (drop i bs) ≡ false
   same-differ e = rw (drop-cons as' i 0 room, drop-cons bs i 0 other, ne_eqb (get_or as' i 0) (get_or bs i 0) e)
 
-pub same_end : (as' bs : List ℕ) (i : ℕ) → length as' ≤ i → length bs ≤ i → sameBytes (drop i as') (drop i bs) ≡ true
+pub same_end : (as' bs : List ℕ) (i : ℕ) → length as' ≤ i → length bs ≤ i → same_bytes (drop i as') (drop i bs) ≡ true
 same_end as' bs i short shorter = rw (drop_of_length-le as' {i = i} short, drop_of_length-le bs {i = i} shorter)
 
-bytes-equal : (a b : List ℕ) → sameBytes a b ≡ true → a ≡ b
+bytes-equal : (a b : List ℕ) → same_bytes a b ≡ true → a ≡ b
 bytes-equal [] [] e = refl
 bytes-equal [] (y ∷ b) e = let z : ◌≡◌ {A = ℕ} 0 1 = cc in absurd (omega arith)
 bytes-equal (x ∷ a) [] e = let z : ◌≡◌ {A = ℕ} 0 1 = cc in absurd (omega arith)
 bytes-equal (x ∷ a) (y ∷ b) e =
-    cc (eqb-true x y (both_left (eqb x y) (sameBytes a b) e), bytes-equal a b (both_right (eqb x y) (sameBytes a b) e))
+    cc (eqb-true x y (both_left (eqb x y) (same_bytes a b) e), bytes-equal a b (both_right (eqb x y) (same_bytes a b) e))
 
-bytes_same : (a : List ℕ) → sameBytes a a ≡ true
+bytes_same : (a : List ℕ) → same_bytes a a ≡ true
 bytes_same [] = refl
 bytes_same (x ∷ a) = rw (eq-eqb x x refl) (bytes_same a)
 
-pub same-bytes-exact : (a b : List ℕ) → (sameBytes a b ≡ true) ↔ (a ≡ b)
-same-bytes-exact a b = (bytes-equal a b, λ e. subst (λ (c : List ℕ). sameBytes a c ≡ true) e (bytes_same a))
+pub same-bytes-exact : (a b : List ℕ) → (same_bytes a b ≡ true) ↔ (a ≡ b)
+same-bytes-exact a b = (bytes-equal a b, λ e. subst (λ (c : List ℕ). same_bytes a c ≡ true) e (bytes_same a))
 
 -- two names are the same by the test exactly where they are equal in length and in all bytes
 pub same-name-exact : (a b : Name) → (same_name a b ≡ true) ↔ (a ≡ b)
@@ -114,7 +114,7 @@ same-name-exact a b = (equal, λ e. subst (λ (c : Name). same_name a c ≡ true
   where
     equal : same_name a b ≡ true → a ≡ b
     equal e =
-        let l = eqb-true a.len b.len (both_left (eqb a.len b.len) (sameBytes a.bytes b.bytes) e) in
-        let s = bytes-equal a.bytes b.bytes (both_right (eqb a.len b.len) (sameBytes a.bytes b.bytes) e) in
+        let l = eqb-true a.len b.len (both_left (eqb a.len b.len) (same_bytes a.bytes b.bytes) e) in
+        let s = bytes-equal a.bytes b.bytes (both_right (eqb a.len b.len) (same_bytes a.bytes b.bytes) e) in
         let f : ◌≡◌ {A = Name} (record { len = a.len; bytes = a.bytes }) (record { len = b.len; bytes = b.bytes }) = cc (l, s) in
         f

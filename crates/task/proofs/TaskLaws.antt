@@ -28,31 +28,31 @@ use Rattle.task.specs.declared.Name.{Name}
 use Rattle.task.specs.declared.Task.{Task}
 use Rattle.task.specs.declared.Machine.{Machine}
 use Rattle.demand.specs.declared.Costs.{Costs}
-use Rattle.demand.specs.Sizes.{sized, sizedCosts, Sized, SizedCosts, Each, timeMost}
+use Rattle.demand.specs.Sizes.{sized, sized_costs, Sized, SizedCosts, Each, time_most}
 use Rattle.demand.proofs.SizeLaws.{tells-exact, Bounds, tells-bounds, sized-exact, costs-exact}
 use Rattle.task.specs.Names.{formed, same_name}
-use Rattle.task.specs.Tasks.{wholePiece, placeBy, place_of, faultOf, firstFault, or_else, past, taskAt, noTask}
-use Rattle.task.specs.Tasks.{tasksOf, list_of, rule, stateFault, SizedMachine, sizedMachine, coresMost, tasksMost}
+use Rattle.task.specs.Tasks.{whole_piece, place_by, place_of, fault_of, first_fault, or_else, past, task_at, no_task}
+use Rattle.task.specs.Tasks.{tasks_of, list_of, rule, state_fault, SizedMachine, sized_machine, cores_most, tasks_most}
 
 -- ---- the place of a name, among things that have one
 
 module _ {A : Type 0} (key : A → Name) where
   module _ (n : Name) (xs : List A) (i : ℕ) (d : A) (room : i < length xs) where
-    place_other : same_name n (key (get_or xs i d)) ≡ false → placeBy key (i + 1) n (drop i xs) ≡ placeBy key (i + 1 + 1) n (drop (i + 1) xs)
+    place_other : same_name n (key (get_or xs i d)) ≡ false → place_by key (i + 1) n (drop i xs) ≡ place_by key (i + 1 + 1) n (drop (i + 1) xs)
     place_other e = rw (add-one, drop-cons xs i d, e)
 
-    place_here : same_name n (key (get_or xs i d)) ≡ true → placeBy key (i + 1) n (drop i xs) ≡ i + 1
+    place_here : same_name n (key (get_or xs i d)) ≡ true → place_by key (i + 1) n (drop i xs) ≡ i + 1
     place_here e = rw (drop-cons xs i d, e)
 
   -- among the first m of a list
   module _ (n : Name) (m : ℕ) (xs : List A) (i : ℕ) (d : A) (low : i < m) (room : i < length xs) where
-    pub by-other : same_name n (key (get_or xs i d)) ≡ false → placeBy key (i + 1) n (drop i (take m xs)) ≡ placeBy key (i + 1 + 1) n (drop (i + 1) (take m xs))
+    pub by-other : same_name n (key (get_or xs i d)) ≡ false → place_by key (i + 1) n (drop i (take m xs)) ≡ place_by key (i + 1 + 1) n (drop (i + 1) (take m xs))
     by-other e = place_other n (take m xs) i d (omega (arith, length-take m xs)) (rw (get_or-take m xs i d low) e)
 
-    pub by-here : same_name n (key (get_or xs i d)) ≡ true → placeBy key (i + 1) n (drop i (take m xs)) ≡ i + 1
+    pub by-here : same_name n (key (get_or xs i d)) ≡ true → place_by key (i + 1) n (drop i (take m xs)) ≡ i + 1
     by-here e = place_here n (take m xs) i d (omega (arith, length-take m xs)) (rw (get_or-take m xs i d low) e)
 
-  pub by_end : (k : ℕ) (n : Name) (m : ℕ) (xs : List A) (i : ℕ) → length (take m xs) ≤ i → placeBy key k n (drop i (take m xs)) ≡ 0
+  pub by_end : (k : ℕ) (n : Name) (m : ℕ) (xs : List A) (i : ℕ) → length (take m xs) ≤ i → place_by key k n (drop i (take m xs)) ≡ 0
   by_end k n m xs i short = rw (drop_of_length-le (take m xs) {i = i} short)
 
 -- the same of tasks
@@ -67,29 +67,29 @@ pub run_end : (k : ℕ) (n : Name) (m : ℕ) (ts : List Task) (i : ℕ) → leng
 run_end k n m ts i short = by_end (λ (t : Task). t.name) k n m ts i short
 
 module _ (ts : List Task) (i : ℕ) (d : Task) (room : i < length ts) where
-  pub fault-none : faultOf (take i ts) (get_or ts i d) ≡ 0 → firstFault (take i ts) (drop i ts) ≡ firstFault (take (i + 1) ts) (drop (i + 1) ts)
+  pub fault-none : fault_of (take i ts) (get_or ts i d) ≡ 0 → first_fault (take i ts) (drop i ts) ≡ first_fault (take (i + 1) ts) (drop (i + 1) ts)
   fault-none e = rw (add-one, drop-cons ts i d, take-suc ts i d, e)
 
-  pub fault-here : (faultOf (take i ts) (get_or ts i d) ≡ 0 → ⊥) → firstFault (take i ts) (drop i ts) ≡ faultOf (take i ts) (get_or ts i d)
-  fault-here h = rw (drop-cons ts i d) (first (faultOf (take i ts) (get_or ts i d)) h)
+  pub fault-here : (fault_of (take i ts) (get_or ts i d) ≡ 0 → ⊥) → first_fault (take i ts) (drop i ts) ≡ fault_of (take i ts) (get_or ts i d)
+  fault-here h = rw (drop-cons ts i d) (first (fault_of (take i ts) (get_or ts i d)) h)
     where
-      first : (k : ℕ) → (k ≡ 0 → ⊥) → or_else k (firstFault (take i ts ++ (get_or ts i d ∷ [])) (drop (suc i) ts)) ≡ k
+      first : (k : ℕ) → (k ≡ 0 → ⊥) → or_else k (first_fault (take i ts ++ (get_or ts i d ∷ [])) (drop (suc i) ts)) ≡ k
       first zero g = absurd (g refl)
       first (suc k) g = refl
 
-pub fault-end : (above ts : List Task) (i : ℕ) → length ts ≤ i → firstFault above (drop i ts) ≡ 0
+pub fault-end : (above ts : List Task) (i : ℕ) → length ts ≤ i → first_fault above (drop i ts) ≡ 0
 fault-end above ts i short = rw (drop_of_length-le ts {i = i} short)
 
 -- the fault of one task, by whether one above it has its name
 abbrev told : Task → ℕ → ℕ
-told t twins = rule (formed t.name) 8 (rule (sized (wholePiece t.times)) 3 twins)
+told t twins = rule (formed t.name) 8 (rule (sized (whole_piece t.times)) 3 twins)
 
-told-twin : (above : List Task) (t : Task) → (place_of 1 t.name above ≡ 0 → ⊥) → faultOf above t ≡ told t 4
-unfolding faultOf
+told-twin : (above : List Task) (t : Task) → (place_of 1 t.name above ≡ 0 → ⊥) → fault_of above t ≡ told t 4
+unfolding fault_of
 told-twin above t twin = rw (ne_eqb (place_of 1 t.name above) 0 twin)
 
-told-alone : (above : List Task) (t : Task) → place_of 1 t.name above ≡ 0 → faultOf above t ≡ told t 0
-unfolding faultOf
+told-alone : (above : List Task) (t : Task) → place_of 1 t.name above ≡ 0 → fault_of above t ≡ told t 0
+unfolding fault_of
 told-alone above t alone = rw (eq-eqb (place_of 1 t.name above) 0 alone)
 
 twin-some : (a b : Bool) → rule a 8 (rule b 3 4) ≡ 0 → ⊥
@@ -99,50 +99,50 @@ twin-some false b e = absurd (omega arith)
 
 -- the same among the first m of a list
 module _ (m : ℕ) (ts : List Task) (i : ℕ) (low : i < m) (room : i < length ts) where
-  run-here-is : faultOf (take i (take m ts)) (taskAt (take m ts) i) ≡ faultOf (take i ts) (taskAt ts i)
+  run-here-is : fault_of (take i (take m ts)) (task_at (take m ts) i) ≡ fault_of (take i ts) (task_at ts i)
   run-here-is = rw (take-take i m ts (le_of_lt low), get_or-take m ts i past low)
 
-  run-first : (faultOf (take i ts) (taskAt ts i) ≡ 0 → ⊥) → firstFault (take i (take m ts)) (drop i (take m ts)) ≡ faultOf (take i ts) (taskAt ts i)
+  run-first : (fault_of (take i ts) (task_at ts i) ≡ 0 → ⊥) → first_fault (take i (take m ts)) (drop i (take m ts)) ≡ fault_of (take i ts) (task_at ts i)
   run-first h = fault-here (take m ts) i past (omega (arith, length-take m ts)) (λ none. h (sym run-here-is ∙ none)) ∙ run-here-is
 
-  pub run-twin : (place_of 1 (taskAt ts i).name (take i ts) ≡ 0 → ⊥) → firstFault (take i (take m ts)) (drop i (take m ts)) ≡ told (taskAt ts i) 4
+  pub run-twin : (place_of 1 (task_at ts i).name (take i ts) ≡ 0 → ⊥) → first_fault (take i (take m ts)) (drop i (take m ts)) ≡ told (task_at ts i) 4
   run-twin twin =
-      let is = told-twin (take i ts) (taskAt ts i) twin in
-      run-first (λ none. twin-some (formed (taskAt ts i).name) (sized (wholePiece (taskAt ts i).times)) (sym is ∙ none)) ∙ is
+      let is = told-twin (take i ts) (task_at ts i) twin in
+      run-first (λ none. twin-some (formed (task_at ts i).name) (sized (whole_piece (task_at ts i).times)) (sym is ∙ none)) ∙ is
 
-  pub run-fault : place_of 1 (taskAt ts i).name (take i ts) ≡ 0 → (told (taskAt ts i) 0 ≡ 0 → ⊥)
-      → firstFault (take i (take m ts)) (drop i (take m ts)) ≡ told (taskAt ts i) 0
+  pub run-fault : place_of 1 (task_at ts i).name (take i ts) ≡ 0 → (told (task_at ts i) 0 ≡ 0 → ⊥)
+      → first_fault (take i (take m ts)) (drop i (take m ts)) ≡ told (task_at ts i) 0
   run-fault alone some =
-      let is = told-alone (take i ts) (taskAt ts i) alone in
+      let is = told-alone (take i ts) (task_at ts i) alone in
       run-first (λ none. some (sym is ∙ none)) ∙ is
 
-  pub run-good : place_of 1 (taskAt ts i).name (take i ts) ≡ 0 → told (taskAt ts i) 0 ≡ 0
-      → firstFault (take i (take m ts)) (drop i (take m ts)) ≡ firstFault (take (i + 1) (take m ts)) (drop (i + 1) (take m ts))
-  run-good alone none = fault-none (take m ts) i past (omega (arith, length-take m ts)) (run-here-is ∙ (told-alone (take i ts) (taskAt ts i) alone ∙ none))
+  pub run-good : place_of 1 (task_at ts i).name (take i ts) ≡ 0 → told (task_at ts i) 0 ≡ 0
+      → first_fault (take i (take m ts)) (drop i (take m ts)) ≡ first_fault (take (i + 1) (take m ts)) (drop (i + 1) (take m ts))
+  run-good alone none = fault-none (take m ts) i past (omega (arith, length-take m ts)) (run-here-is ∙ (told-alone (take i ts) (task_at ts i) alone ∙ none))
 
-pub run-fault-end : (m : ℕ) (ts : List Task) (i : ℕ) → length (take m ts) ≤ i → firstFault (take i (take m ts)) (drop i (take m ts)) ≡ 0
+pub run-fault-end : (m : ℕ) (ts : List Task) (i : ℕ) → length (take m ts) ≤ i → first_fault (take i (take m ts)) (drop i (take m ts)) ≡ 0
 run-fault-end m ts i short = fault-end (take i (take m ts)) (take m ts) i short
 
 -- ---- the fault of one task
 
 module _ (above : List Task) (t : Task) where
-  pub fault-form : formed t.name ≡ false → faultOf above t ≡ 8
-  unfolding faultOf
+  pub fault-form : formed t.name ≡ false → fault_of above t ≡ 8
+  unfolding fault_of
   fault-form bad = rw bad
 
-  pub fault-free : formed t.name ≡ true → sized (wholePiece t.times) ≡ true → place_of 1 t.name above ≡ 0 → faultOf above t ≡ 0
-  unfolding faultOf
+  pub fault-free : formed t.name ≡ true → sized (whole_piece t.times) ≡ true → place_of 1 t.name above ≡ 0 → fault_of above t ≡ 0
+  unfolding fault_of
   fault-free good fits alone = rw (good, fits, eq-eqb (place_of 1 t.name above) 0 alone)
 
 -- ---- what is known where no rule is broken
 
 machine-bounds : Machine → List (ℕ × ℕ)
-machine-bounds m = (m.grain, timeMost) ∷ (1, m.grain) ∷ (m.cores, coresMost) ∷ (1, m.cores) ∷ []
+machine-bounds m = (m.grain, time_most) ∷ (1, m.grain) ∷ (m.cores, cores_most) ∷ (1, m.cores) ∷ []
 
-pub machine-exact : (m : Machine) → (sizedMachine m ≡ true) ↔ SizedMachine m
-unfolding sizedMachine machine-bounds
+pub machine-exact : (m : Machine) → (sized_machine m ≡ true) ↔ SizedMachine m
+unfolding sized_machine machine-bounds
 machine-exact m =
-    let exact = tells-exact (Bounds (machine-bounds m)) (sizedMachine m) (tells-bounds (machine-bounds m)) in (
+    let exact = tells-exact (Bounds (machine-bounds m)) (sized_machine m) (tells-bounds (machine-bounds m)) in (
       (λ e. let b = exact.0 e in record { cores-some = b.0.0.0.1; cores-fit = b.0.0.1; grain-some = b.0.1; grain-fits = b.1 }),
       λ s. exact.1 (search rules),
     )
@@ -158,40 +158,40 @@ or-else-fine (suc k) n e = absurd (omega arith)
 -- a task that breaks no rule
 pub record Good (above : List Task) (t : Task) : Type 0 where
   pub named : formed t.name ≡ true
-  pub timed : Sized (wholePiece t.times)
+  pub timed : Sized (whole_piece t.times)
   pub alone : place_of 1 t.name above ≡ 0
 
-fault-good : (above : List Task) (t : Task) → faultOf above t ≡ 0 → Good above t
-unfolding faultOf
+fault-good : (above : List Task) (t : Task) → fault_of above t ≡ 0 → Good above t
+unfolding fault_of
 fault-good above t e =
-    let a = rule-fine (formed t.name) 7 (rule (sized (wholePiece t.times)) 3 (rule (eqb (place_of 1 t.name above) 0) 4 0)) e in
-    let b = rule-fine (sized (wholePiece t.times)) 2 (rule (eqb (place_of 1 t.name above) 0) 4 0) a.1 in
+    let a = rule-fine (formed t.name) 7 (rule (sized (whole_piece t.times)) 3 (rule (eqb (place_of 1 t.name above) 0) 4 0)) e in
+    let b = rule-fine (sized (whole_piece t.times)) 2 (rule (eqb (place_of 1 t.name above) 0) 4 0) a.1 in
     let d = rule-fine (eqb (place_of 1 t.name above) 0) 3 0 b.1 in
-    record { named = a.0; timed = (sized-exact (wholePiece t.times)).0 b.0; alone = eqb-true (place_of 1 t.name above) 0 d.0 }
+    record { named = a.0; timed = (sized-exact (whole_piece t.times)).0 b.0; alone = eqb-true (place_of 1 t.name above) 0 d.0 }
 
-faults-timed : (above ts : List Task) → firstFault above ts ≡ 0 → Each (λ t. Sized (wholePiece t.times)) ts
+faults-timed : (above ts : List Task) → first_fault above ts ≡ 0 → Each (λ t. Sized (whole_piece t.times)) ts
 faults-timed above [] e = tt
 faults-timed above (t ∷ ts) e =
-    let both = or-else-fine (faultOf above t) (firstFault (above ++ (t ∷ [])) ts) e in
+    let both = or-else-fine (fault_of above t) (first_fault (above ++ (t ∷ [])) ts) e in
     ((fault-good above t both.0).timed, faults-timed (above ++ (t ∷ [])) ts both.1)
 
 -- a machine, costs and tasks that break no rule
 pub record Sane (m : Machine) (c : Costs) (n : ℕ) (ts : List Task) : Type 0 where
   pub cores-some : 1 ≤ m.cores
-  pub cores-fit : m.cores ≤ coresMost
+  pub cores-fit : m.cores ≤ cores_most
   pub grain-some : 1 ≤ m.grain
-  pub grain-fits : m.grain ≤ timeMost
+  pub grain-fits : m.grain ≤ time_most
   pub costs : SizedCosts c
-  pub few : n ≤ tasksMost
-  pub faultless : firstFault [] (take n ts) ≡ 0
-  pub timed : Each (λ t. Sized (wholePiece t.times)) (take n ts)
+  pub few : n ≤ tasks_most
+  pub faultless : first_fault [] (take n ts) ≡ 0
+  pub timed : Each (λ t. Sized (whole_piece t.times)) (take n ts)
 
-pub state-sane : (m : Machine) (c : Costs) (n : ℕ) (ts : List Task) → stateFault m c n ts ≡ 0 → Sane m c n ts
-unfolding stateFault
+pub state-sane : (m : Machine) (c : Costs) (n : ℕ) (ts : List Task) → state_fault m c n ts ≡ 0 → Sane m c n ts
+unfolding state_fault
 state-sane m c n ts e =
-    let a = rule-fine (sizedMachine m) 0 (rule (sizedCosts c) 2 (rule (leb n tasksMost) 6 (firstFault [] (take n ts)))) e in
-    let b = rule-fine (sizedCosts c) 1 (rule (leb n tasksMost) 6 (firstFault [] (take n ts))) a.1 in
-    let d = rule-fine (leb n tasksMost) 5 (firstFault [] (take n ts)) b.1 in
+    let a = rule-fine (sized_machine m) 0 (rule (sized_costs c) 2 (rule (leb n tasks_most) 6 (first_fault [] (take n ts)))) e in
+    let b = rule-fine (sized_costs c) 1 (rule (leb n tasks_most) 6 (first_fault [] (take n ts))) a.1 in
+    let d = rule-fine (leb n tasks_most) 5 (first_fault [] (take n ts)) b.1 in
     let machine = (machine-exact m).0 a.0 in
     record {
       cores-some = machine.cores-some;
@@ -199,19 +199,19 @@ state-sane m c n ts e =
       grain-some = machine.grain-some;
       grain-fits = machine.grain-fits;
       costs = (costs-exact c).0 b.0;
-      few = leb-true n tasksMost d.0;
+      few = leb-true n tasks_most d.0;
       faultless = d.1;
       timed = faults-timed [] (take n ts) d.1;
     }
 
 -- ---- a list in its array
 
-pub tasks-none : (t : Task) → t ≡ noTask → record { count = 0; list = replicate tasksMost t } ≡ tasksOf []
-tasks-none t e = rw (e, padded-none noTask tasksMost)
+pub tasks-none : (t : Task) → t ≡ no_task → record { count = 0; list = replicate tasks_most t } ≡ tasks_of []
+tasks-none t e = rw (e, padded-none no_task tasks_most)
 
-pub tasks-listed : (ts : List Task) → length ts ≤ tasksMost → list_of (tasksOf ts) ≡ ts
-tasks-listed ts few = padded-take noTask tasksMost ts few
+pub tasks-listed : (ts : List Task) → length ts ≤ tasks_most → list_of (tasks_of ts) ≡ ts
+tasks-listed ts few = padded-take no_task tasks_most ts few
 
 -- the task at a place, from 0
-pub tasks-at : (ts : List Task) (i : ℕ) → length ts ≤ tasksMost → i < length ts → taskAt (tasksOf ts).list i ≡ taskAt ts i
-tasks-at ts i few low = ap (λ (l : List Task). taskAt l i) (padded-append noTask tasksMost ts few) ∙ get_or-append ts _ past i low
+pub tasks-at : (ts : List Task) (i : ℕ) → length ts ≤ tasks_most → i < length ts → task_at (tasks_of ts).list i ≡ task_at ts i
+tasks-at ts i few low = ap (λ (l : List Task). task_at l i) (padded-append no_task tasks_most ts few) ∙ get_or-append ts _ past i low

@@ -2,8 +2,8 @@
 mod names;
 
 ghost use Rattle.std.specs.Prelude.{◌≡◌, take};
-ghost use Rattle.task.specs.Names.{noName, formed, same_name};
-ghost use Rattle.task.specs.Tasks.{noTimes, noTask, noMachine, task_of, wholePiece, sizedMachine, place_of, stateFault};
+ghost use Rattle.task.specs.Names.{no_name, formed, same_name};
+ghost use Rattle.task.specs.Tasks.{no_times, no_task, no_machine, task_of, whole_piece, sized_machine, place_of, state_fault};
 
 use demand::{Costs, Kind, Piece};
 
@@ -71,7 +71,7 @@ pub struct Machine {
 
 /// No name: no byte, and 24 zeros.
 pub fn no_name() -> Name
-    ensures exact { result ≡ noName }
+    ensures exact { result ≡ no_name }
 {
     Name {
         len: 0,
@@ -81,7 +81,7 @@ pub fn no_name() -> Name
 
 /// No times: zeros.
 pub fn no_times() -> Times
-    ensures exact { result ≡ noTimes }
+    ensures exact { result ≡ no_times }
 {
     Times {
         worst: 0,
@@ -95,7 +95,7 @@ pub fn no_times() -> Times
 
 /// No task: no name and no times.
 pub fn no_task() -> Task
-    ensures exact { result ≡ noTask }
+    ensures exact { result ≡ no_task }
 {
     let name = no_name();
     let times = no_times();
@@ -104,7 +104,7 @@ pub fn no_task() -> Task
 
 /// No machine: no core, and a grain of 0.
 pub fn no_machine() -> Machine
-    ensures exact { result ≡ noMachine }
+    ensures exact { result ≡ no_machine }
 {
     Machine { cores: 0, grain: 0 }
 }
@@ -143,7 +143,7 @@ pub fn same_name(a: Name, b: Name) -> bool
 
 /// The whole piece of a task with these times.
 pub fn whole_piece(times: Times) -> Piece
-    ensures exact { result ≡ wholePiece times }
+    ensures exact { result ≡ whole_piece times }
 {
     Piece {
         kind: Kind::Whole,
@@ -176,7 +176,7 @@ pub fn place_of(name: Name, tasks: Tasks) -> usize
 
 /// What is wrong with a machine, costs and a list of tasks: 1, 2, 6, then at the first bad task 8, 3 or 4; or 0.
 pub fn state_fault(machine: Machine, costs: Costs, tasks: Tasks) -> u64
-    ensures exact { result ≡ stateFault machine costs tasks.count tasks.list }
+    ensures exact { result ≡ state_fault machine costs tasks.count tasks.list }
 {
     if !machine_within(machine) {
         return 1;
@@ -192,7 +192,7 @@ pub fn state_fault(machine: Machine, costs: Costs, tasks: Tasks) -> u64
 
 /// Whether m and the grain are within their sizes.
 pub fn machine_within(machine: Machine) -> bool
-    ensures exact { result ≡ sizedMachine machine }
+    ensures exact { result ≡ sized_machine machine }
 {
     if machine.cores < 1 {
         return false;

@@ -1,8 +1,8 @@
 // Loops over names and lists of tasks.
 ghost use Rattle.std.specs.Prelude.{◌≡◌, [], ◌≤◌, take};
 ghost use Rattle.demand.specs.Sizes.{sized};
-ghost use Rattle.task.specs.Names.{between, nameByte, fitsAt, spelt, formed, sameBytes};
-ghost use Rattle.task.specs.Tasks.{tasksMost, wholePiece, rule, firstFault};
+ghost use Rattle.task.specs.Names.{between, name_byte, fits_at, spelt, formed, same_bytes};
+ghost use Rattle.task.specs.Tasks.{tasks_most, whole_piece, rule, first_fault};
 
 use crate::{NAME_MOST, Task, Tasks, same_name, well_formed, whole_piece};
 
@@ -18,7 +18,7 @@ pub fn inside(b: u8, low: u8, high: u8) -> bool
 
 // Whether a byte may stand in a name.
 pub fn name_byte(b: u8) -> bool
-    ensures { result ≡ nameByte b }
+    ensures { result ≡ name_byte b }
 {
     if inside(b, 97, 122) {
         return true;
@@ -37,7 +37,7 @@ pub fn name_byte(b: u8) -> bool
 
 // Whether a byte may stand at place i of a name of that length.
 pub fn fits_at(b: u8, i: usize, len: usize) -> bool
-    ensures { result ≡ fitsAt b i len }
+    ensures { result ≡ fits_at b i len }
 {
     if i < len {
         return name_byte(b);
@@ -65,7 +65,7 @@ pub fn spelt(bytes: [u8; NAME_MOST], len: usize) -> bool
 
 // Whether all bytes are equal.
 pub fn same_bytes(a: [u8; NAME_MOST], b: [u8; NAME_MOST]) -> bool
-    ensures { result ≡ sameBytes a b }
+    ensures { result ≡ same_bytes a b }
 {
     let mut i: usize = 0;
     while i < NAME_MOST {
@@ -79,7 +79,7 @@ pub fn same_bytes(a: [u8; NAME_MOST], b: [u8; NAME_MOST]) -> bool
 
 // What is wrong with a task: 8, then 3, then what its twins say.
 pub fn task_fault(task: Task, twins: u64) -> u64
-    ensures { result ≡ rule (formed task.name) 8 (rule (sized (wholePiece task.times)) 3 twins) }
+    ensures { result ≡ rule (formed task.name) 8 (rule (sized (whole_piece task.times)) 3 twins) }
 {
     let name = task.name;
     let times = task.times;
@@ -94,8 +94,8 @@ pub fn task_fault(task: Task, twins: u64) -> u64
 
 // The first fault down the list. A task's name is held to those before it, place by place: 4, where one is the same.
 pub fn first_fault(tasks: Tasks) -> u64
-    requires { tasks.count ≤ tasksMost }
-    ensures { result ≡ firstFault [] (take tasks.count tasks.list) }
+    requires { tasks.count ≤ tasks_most }
+    ensures { result ≡ first_fault [] (take tasks.count tasks.list) }
 {
     let mut i: usize = 0;
     let mut j: usize = 0;

@@ -13,10 +13,10 @@ use native.Mathlib.Decide.{dec_lt}
 use native.Mathlib.Omega.{arith}
 use Rattle.demand.specs.declared.Charged.{Charged}
 use Rattle.verdicts.specs.declared.busy_climb.Flow.{Flow}
-use Rattle.demand.specs.Busy.{busyLoad, busySum, Clear}
+use Rattle.demand.specs.Busy.{busy_load, busy_sum, Clear}
 use Rattle.demand.specs.Demand.{ceil}
-use Rattle.verdicts.specs.ChargedArray.{chargedIn, chargedAt}
-use Rattle.verdicts.specs.ways.BusyClimb.{allTime, Flows, Reaches}
+use Rattle.verdicts.specs.ChargedArray.{charged_in, charged_at}
+use Rattle.verdicts.specs.Ways.BusyClimb.{all_time, Flows, Reaches}
 use Rattle.demand.proofs.DemandLaws.{Recurs, busy-load-mono}
 use Rattle.demand.proofs.Division.{ceil-covers}
 use Rattle.verdicts.proofs.ChargedArrayLaws.{total-more}
@@ -31,20 +31,20 @@ share-below m c {k} pos =
     let same : ceil m k * k * (c / k) ≡ ceil m k * (c / k * k) = simp (mul_assoc, mul_comm, mul_left_comm) in
     omega (arith, whole, part, same)
 
-pub flow-share : (q : Charged) → Recurs q → (l : ℕ) (v : Flow) → v.asked ≡ busyLoad l q
-    → v.share ≡ (q.charge + q.release + q.ipi) * allTime / q.period → v.work ≡ 0 → Flows (λ m. busyLoad m q) l v
-unfolding busyLoad
+pub flow-share : (q : Charged) → Recurs q → (l : ℕ) (v : Flow) → v.asked ≡ busy_load l q
+    → v.share ≡ (q.charge + q.release + q.ipi) * all_time / q.period → v.work ≡ 0 → Flows (λ m. busy_load m q) l v
+unfolding busy_load
 flow-share q pos l v asked share work =
     let c = q.charge + q.release + q.ipi in
     record {
       exact = asked;
-      below = λ m h. omega (arith, ap (λ (s : ℕ). m * s) share, work, share-below m (c * allTime) {k = q.period} pos.again, flat (ceil m q.period) c);
+      below = λ m h. omega (arith, ap (λ (s : ℕ). m * s) share, work, share-below m (c * all_time) {k = q.period} pos.again, flat (ceil m q.period) c);
     }
   where
-    flat : (j c : ℕ) → j * (c * allTime) ≡ allTime * (j * c)
+    flat : (j c : ℕ) → j * (c * all_time) ≡ all_time * (j * c)
     flat j c = simp (mul_comm, mul_left_comm)
 
-pub flow-work : (q : Charged) (l : ℕ) (v : Flow) → v.asked ≡ busyLoad l q → v.share ≡ 0 → v.work ≡ v.asked → Flows (λ m. busyLoad m q) l v
+pub flow-work : (q : Charged) (l : ℕ) (v : Flow) → v.asked ≡ busy_load l q → v.share ≡ 0 → v.work ≡ v.asked → Flows (λ m. busy_load m q) l v
 flow-work q l v asked share work =
     record {
       exact = asked;
@@ -53,34 +53,34 @@ flow-work q l v asked share work =
 
 -- ---- a core
 
-pub flow-none : (v : Flow) (l : ℕ) → v.asked ≡ 0 → v.share ≡ 0 → v.work ≡ 0 → Flows (busySum []) l v
-unfolding busySum
+pub flow-none : (v : Flow) (l : ℕ) → v.asked ≡ 0 → v.share ≡ 0 → v.work ≡ 0 → Flows (busy_sum []) l v
+unfolding busy_sum
 flow-none v l asked share work = record { exact = asked; below = λ m h. omega (arith, ap (λ (s : ℕ). m * s) share, work) }
 
-pub flow-more : (a : List ℕ) (i l : ℕ) (u v w : Flow) → Flows (busySum (chargedIn a i)) l u → Flows (λ m. busyLoad m (chargedAt a i)) l v
-    → w.asked ≡ u.asked + v.asked → w.share ≡ u.share + v.share → w.work ≡ u.work + v.work → Flows (busySum (chargedIn a (i + 1))) l w
-unfolding busySum
+pub flow-more : (a : List ℕ) (i l : ℕ) (u v w : Flow) → Flows (busy_sum (charged_in a i)) l u → Flows (λ m. busy_load m (charged_at a i)) l v
+    → w.asked ≡ u.asked + v.asked → w.share ≡ u.share + v.share → w.work ≡ u.work + v.work → Flows (busy_sum (charged_in a (i + 1))) l w
+unfolding busy_sum
 flow-more a i l u v w before here asked share work =
     record {
-      exact = omega (arith, total-more (busyLoad l) a i, before.exact, here.exact);
-      below = λ m h. omega (arith, ap (λ (s : ℕ). m * s) share, total-more (busyLoad m) a i, before.below m h, here.below m h);
+      exact = omega (arith, total-more (busy_load l) a i, before.exact, here.exact);
+      below = λ m h. omega (arith, ap (λ (s : ℕ). m * s) share, total-more (busy_load m) a i, before.below m h, here.below m h);
     }
 
 -- ---- how far
 
 module _ (v : Flow) where
-  pub reach-part : v.share < allTime → Reaches v (v.work * allTime / (allTime - v.share))
-  reach-part part m some room = left (allTime - v.share) (omega arith) (omega arith)
+  pub reach-part : v.share < all_time → Reaches v (v.work * all_time / (all_time - v.share))
+  reach-part part m some room = left (all_time - v.share) (omega arith) (omega arith)
     where
-      left : (d : ℕ) → 0 < d → d + v.share ≡ allTime → v.work * allTime / d ≤ m
+      left : (d : ℕ) → 0 < d → d + v.share ≡ all_time → v.work * all_time / d ≤ m
       left d pos rest =
-          let below : v.work * allTime / d < m + 1 = (div-lt_iff_lt-mul {k = d} pos).1 (omega (arith, ap (λ (s : ℕ). m * s) rest)) in
+          let below : v.work * all_time / d < m + 1 = (div-lt_iff_lt-mul {k = d} pos).1 (omega (arith, ap (λ (s : ℕ). m * s) rest)) in
           omega arith
 
-  pub reach-over : allTime < v.share → Reaches v 100000001
+  pub reach-over : all_time < v.share → Reaches v 100000001
   reach-over over m some room = absurd (omega (arith, mul-le-mul_left m over))
 
-  pub reach-full : v.share ≡ allTime → 0 < v.work → Reaches v 100000001
+  pub reach-full : v.share ≡ all_time → 0 < v.work → Reaches v 100000001
   reach-full full much m some room = absurd (omega (arith, ap (λ (s : ℕ). m * s) full))
 
 -- ---- the climb

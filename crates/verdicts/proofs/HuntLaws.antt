@@ -17,18 +17,18 @@ use borrow.Author.Tests.{lt-ltb, le-ltb}
 use lib.Dec.{ltb}
 use Rattle.demand.specs.declared.Charged.{Charged}
 use Rattle.demand.specs.declared.Verdict.TheVariants.{Passes, Overloaded}
-use Rattle.demand.specs.Demand.{demand, largestWindow}
+use Rattle.demand.specs.Demand.{demand, largest_window}
 use Rattle.demand.specs.Verdict.{scan}
-use Rattle.demand.specs.Why.{slack, LeastSlack, leastSlack}
+use Rattle.demand.specs.Why.{slack, LeastSlack, least_slack}
 use Rattle.demand.proofs.DemandLaws.{demand-mono}
 use Rattle.demand.proofs.VerdictLaws.{scan-is}
-use Rattle.verdicts.specs.ways.SlackHunt.{Rises, raised, Quiet, Hit, Hunts, Level, Seeks, Leads}
+use Rattle.verdicts.specs.Ways.SlackHunt.{Rises, raised, Quiet, Hit, Hunts, Level, Seeks, Leads}
 use Rattle.verdicts.specs.declared.slacks.Sought.{Sought}
 use Rattle.verdicts.specs.declared.slacks.Sought.TheVariants.{Over, Least}
 use Rattle.verdicts.specs.declared.spans.Hunted.{Hunted}
 use Rattle.verdicts.specs.declared.spans.Hunted.TheVariants.{Struck, Missed}
 
-pub core-rises : (b : ℕ) (qs : List Charged) → Rises (demand b qs) (largestWindow qs)
+pub core-rises : (b : ℕ) (qs : List Charged) → Rises (demand b qs) (largest_window qs)
 core-rises b qs t u up side = demand-mono qs b {t = t} {u = u} up side
 
 -- ---- a hunt
@@ -73,7 +73,7 @@ pub over-of : (g : ℕ → ℕ) (a l : ℕ) (r : Sought) (t x : ℕ) → Seeks g
 over-of g a l r t x seeks e = subst (λ (z : Sought). Seeks g a l z) e seeks
 
 pub least-of : (g : ℕ → ℕ) (a l : ℕ) (r : Sought) (t x : ℕ) → Seeks g a l r → r ≡ Least t x
-    → Quiet g a (a + l) × (t ≡ leastSlack g a (l - 1)) × (x ≡ g t)
+    → Quiet g a (a + l) × (t ≡ least_slack g a (l - 1)) × (x ≡ g t)
 least-of g a l r t x seeks e = subst (λ (z : Sought). Seeks g a l z) e seeks
 
 -- ---- to the least slack

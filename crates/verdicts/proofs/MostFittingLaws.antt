@@ -21,9 +21,9 @@ use lib.ListN.{length, length-append}
 use Rattle.demand.specs.declared.Charged.{Charged}
 use Rattle.verdicts.specs.declared.most_fitting.Lowering.{Lowering}
 use Rattle.demand.specs.Sizes.{Tells}
-use Rattle.demand.specs.Demand.{jobsDue, interrupts, largestWindow, demand}
-use Rattle.verdicts.specs.MostFitting.{beside, Squeezed, FitsIn, all_fit, mostFitting}
-use Rattle.verdicts.specs.ways.ChargeWalk.{FitsInto, Levels, Stands, Lowers, lastBelow}
+use Rattle.demand.specs.Demand.{jobs_due, interrupts, largest_window, demand}
+use Rattle.verdicts.specs.MostFitting.{beside, Squeezed, FitsIn, all_fit, most_fitting}
+use Rattle.verdicts.specs.Ways.ChargeWalk.{FitsInto, Levels, Stands, Lowers, last_below}
 use Rattle.demand.proofs.DemandLaws.{jobs-due-mono, interrupts-mono, demand-mono}
 use Rattle.verdicts.specs.declared.most_fitting.Look.{Look}
 
@@ -53,13 +53,13 @@ module _ (b : ℕ) (qs : List Charged) (q : Charged) where
       look true e below = λ fits. omega (arith, ltb-true (a + k) (beside b qs q f (a + k)) e, fits (a + k) (omega arith) (omega arith))
       look false e below = wider (ltb-false (a + k) (beside b qs q f (a + k)) e) (all_fit b qs q f a k) below
 
-  pub most-fitting-squeezed : (a l f : ℕ) → Squeezed b qs q f a (a + l) (mostFitting b qs q a l f)
-  unfolding mostFitting
+  pub most-fitting-squeezed : (a l f : ℕ) → Squeezed b qs q f a (a + l) (most_fitting b qs q a l f)
+  unfolding most_fitting
   most-fitting-squeezed a l zero = record { most = zero-le; fits = λ some. absurd (omega arith); greatest = λ y le fits. le }
   most-fitting-squeezed a l (suc f) = look (all_fit b qs q (suc f) a l) (all-fit-tells (suc f) a l) (most-fitting-squeezed a l f)
     where
-      look : (o : Bool) → Tells (FitsIn b qs q (suc f) a (a + l)) o → Squeezed b qs q f a (a + l) (mostFitting b qs q a l f)
-          → Squeezed b qs q (suc f) a (a + l) (elim o [ true ↦ suc f | false ↦ mostFitting b qs q a l f ])
+      look : (o : Bool) → Tells (FitsIn b qs q (suc f) a (a + l)) o → Squeezed b qs q f a (a + l) (most_fitting b qs q a l f)
+          → Squeezed b qs q (suc f) a (a + l) (elim o [ true ↦ suc f | false ↦ most_fitting b qs q a l f ])
       look true fits below = record { most = omega arith; fits = λ some. fits; greatest = λ y le k. le }
       look false fails below = record {
         most = omega (arith, below.most);
@@ -70,11 +70,11 @@ module _ (b : ℕ) (qs : List Charged) (q : Charged) where
         ];
       }
 
-  pub squeezed-is : (a l f r : ℕ) → r ≡ mostFitting b qs q a l f → Squeezed b qs q f a (a + l) r
+  pub squeezed-is : (a l f r : ℕ) → r ≡ most_fitting b qs q a l f → Squeezed b qs q f a (a + l) r
   squeezed-is a l f r is = rw is (most-fitting-squeezed a l f)
 
-  pub most-fitting-is : (a l f r : ℕ) → Squeezed b qs q f a (a + l) r → r ≡ mostFitting b qs q a l f
-  most-fitting-is a l f r squeezed = squeezed-one f a (a + l) r (mostFitting b qs q a l f) squeezed (most-fitting-squeezed a l f)
+  pub most-fitting-is : (a l f r : ℕ) → Squeezed b qs q f a (a + l) r → r ≡ most_fitting b qs q a l f
+  most-fitting-is a l f r squeezed = squeezed-one f a (a + l) r (most_fitting b qs q a l f) squeezed (most-fitting-squeezed a l f)
 
 -- ---- one length
 
@@ -104,7 +104,7 @@ fitting-some f jobs room h =
     ]
 
 module _ (b : ℕ) (qs : List Charged) (q : Charged) where
-  pub beside_at : (f u : ℕ) → beside b qs q f u ≡ demand b qs u + interrupts q u + jobsDue q u * f
+  pub beside_at : (f u : ℕ) → beside b qs q f u ≡ demand b qs u + interrupts q u + jobs_due q u * f
   unfolding beside
   beside_at f u = refl
 
@@ -123,7 +123,7 @@ module _ (b : ℕ) (qs : List Charged) (q : Charged) where
     pub level-calls : (g i : ℕ) → g ≡ demand b qs t → i ≡ interrupts q t → g ≤ t → t - g < i → Levels b qs q f t (record { charge = 0; rest = 0; jobs = 0 })
     level-calls g i asked calls fine over = none-fits (λ y. omega (arith, beside_at y t))
 
-    module _ (g i n : ℕ) (asked : g ≡ demand b qs t) (calls : i ≡ interrupts q t) (jobs : n ≡ jobsDue q t) where
+    module _ (g i n : ℕ) (asked : g ≡ demand b qs t) (calls : i ≡ interrupts q t) (jobs : n ≡ jobs_due q t) where
       level-at : (y : ℕ) → beside b qs q y t ≡ g + i + n * y
       level-at y = rw (beside_at y t, asked, calls, jobs) refl
 
@@ -146,7 +146,7 @@ module _ (b : ℕ) (qs : List Charged) (q : Charged) where
   pub passed_start : (f a e : ℕ) → Passed f a e e f
   passed_start f a e = record { most = omega arith; caps = λ y le fits. le; calm = λ some u low high. absurd (omega arith) }
 
-  pub passed-done : (f a l end r : ℕ) → end ≤ a → Passed f a end (a + l) r → r ≡ mostFitting b qs q a l f
+  pub passed-done : (f a l end r : ℕ) → end ≤ a → Passed f a end (a + l) r → r ≡ most_fitting b qs q a l f
   passed-done f a l end r over passed = most-fitting-is b qs q a l f r (record {
     most = passed.most;
     fits = λ some u low high. passed.calm some u (omega arith) high;
@@ -155,18 +155,18 @@ module _ (b : ℕ) (qs : List Charged) (q : Charged) where
 
   beside-less : (u : ℕ) {y z : ℕ} → y ≤ z → beside b qs q y u ≤ beside b qs q z u
   unfolding beside
-  beside-less u h = omega (arith, mul-le-mul_left (jobsDue q u) h)
+  beside-less u h = omega (arith, mul-le-mul_left (jobs_due q u) h)
 
   -- ---- one look
 
-  pub stands-last : (a f end : ℕ) → Stands b qs q a (lastBelow f end)
+  pub stands-last : (a f end : ℕ) → Stands b qs q a (last_below f end)
   stands-last a f end = record { within = λ h. (omega arith, omega arith); asks = λ h. absurd (omega arith); fits = λ h. absurd (omega arith) }
 
   module _ (a : ℕ) (s : Lowering) (some : a < s.end) (stands : Stands b qs q a s) (v : Look) (level : Levels b qs q s.charge s.look v) where
     looked : (y : ℕ) → y ≤ s.charge → FitsIn b qs q y a s.end → y ≤ v.charge
     looked y le fits = level.caps y le (fits s.look (stands.within some).0 (stands.within some).1)
 
-    pub lowers-none : v.charge ≡ 0 → Lowers b qs q a s (lastBelow 0 0)
+    pub lowers-none : v.charge ≡ 0 → Lowers b qs q a s (last_below 0 0)
     lowers-none none = record {
       most = zero-le;
       caps = λ y le fits. omega (arith, looked y le fits);
@@ -201,15 +201,15 @@ module _ (b : ℕ) (qs : List Charged) (q : Charged) where
       };
     }
 
-    beside-mono : (f : ℕ) {t u : ℕ} → t ≤ u → (largestWindow qs ≤ u → largestWindow qs ≤ t) → beside b qs q f t ≤ beside b qs q f u
+    beside-mono : (f : ℕ) {t u : ℕ} → t ≤ u → (largest_window qs ≤ u → largest_window qs ≤ t) → beside b qs q f t ≤ beside b qs q f u
     unfolding beside
     beside-mono f {t} {u} h side =
         omega (arith, demand-mono qs b h side, interrupts-mono q h, mul-le-mul_right f (jobs-due-mono q h))
 
     -- the walk goes on below `end`
-    module _ (w end rest jobs : ℕ) (widest : w ≡ largestWindow qs)
+    module _ (w end rest jobs : ℕ) (widest : w ≡ largest_window qs)
         (next : (rest + jobs * v.charge ≤ end) × (end ≤ s.end - 1) × (w ≤ s.end - 1 → w ≤ end)) where
-      pub lowers-below : ((y : ℕ) → beside b qs q y (s.end - 1) ≡ rest + jobs * y) → Lowers b qs q a s (lastBelow v.charge end)
+      pub lowers-below : ((y : ℕ) → beside b qs q y (s.end - 1) ≡ rest + jobs * y) → Lowers b qs q a s (last_below v.charge end)
       lowers-below asks = record {
         most = level.most;
         caps = looked;

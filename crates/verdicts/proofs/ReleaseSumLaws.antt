@@ -13,10 +13,10 @@ use native.Mathlib.Omega.{arith}
 use lib.ListN.{length, get_or, set, replicate, length-set}
 use lib.Seq.{get_or-set_same, get_or-set_other}
 use Rattle.demand.specs.declared.Charged.{Charged}
-use Rattle.demand.specs.Busy.{busyLoad, busySum, Clear}
+use Rattle.demand.specs.Busy.{busy_load, busy_sum, Clear}
 use Rattle.demand.specs.Demand.{ceil}
-use Rattle.verdicts.specs.ChargedArray.{chargedIn, chargedAt}
-use Rattle.verdicts.specs.ways.ReleaseSums.{Under, Marked, Marks}
+use Rattle.verdicts.specs.ChargedArray.{charged_in, charged_at}
+use Rattle.verdicts.specs.Ways.ReleaseSums.{Under, Marked, Marks}
 use Rattle.demand.proofs.Division.{ceil-covers, ceil-near, ceil-between, ceil-whole}
 use Rattle.verdicts.proofs.ChargedArrayLaws.{total-more}
 
@@ -102,7 +102,7 @@ module _ (c : ℕ) {k : ℕ} (pos : 0 < k) (l at : ℕ) where
         }
 
 pub marking-all : (q : Charged) (l at : ℕ) (d e : List ℕ) → Marking (q.charge + q.release + q.ipi) q.period l at d e → 1024 ≤ at → Marked q l d e
-unfolding busyLoad
+unfolding busy_load
 marking-all q l at d e so_far far = record { grows = λ j h. so_far.done j (omega arith); little = so_far.little }
 
 -- ---- a core
@@ -112,15 +112,15 @@ under_none zero j = omega arith
 under_none (suc n) zero = omega arith
 under_none (suc n) (suc j) = under_none n j
 
-pub marks-none : (d : List ℕ) (l : ℕ) → Under 0 d → Marks (busySum []) l d
-unfolding busySum
+pub marks-none : (d : List ℕ) (l : ℕ) → Under 0 d → Marks (busy_sum []) l d
+unfolding busy_sum
 marks-none d l none j h = omega (arith, none j)
 
-pub marks-more : (a : List ℕ) (i l : ℕ) (d e : List ℕ) → Marks (busySum (chargedIn a i)) l d → Marked (chargedAt a i) l d e
-    → Marks (busySum (chargedIn a (i + 1))) l e
-unfolding busySum
+pub marks-more : (a : List ℕ) (i l : ℕ) (d e : List ℕ) → Marks (busy_sum (charged_in a i)) l d → Marked (charged_at a i) l d e
+    → Marks (busy_sum (charged_in a (i + 1))) l e
+unfolding busy_sum
 marks-more a i l d e before here j h =
-    omega (arith, total-more (busyLoad (l + j)) a i, total-more (busyLoad (l + j + 1)) a i, before j h, here.grows j h)
+    omega (arith, total-more (busy_load (l + j)) a i, total-more (busy_load (l + j + 1)) a i, before j h, here.grows j h)
 
 -- ---- the walk
 

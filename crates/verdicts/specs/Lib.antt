@@ -3,4 +3,4 @@ pub mod ChargedArray
 pub mod MostFitting
 pub mod Laid
 pub mod Asks
-pub mod ways
+pub mod Ways

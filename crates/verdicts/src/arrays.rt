@@ -1,18 +1,18 @@
 // A core under judgement, laid out once in one array of numbers, seven to a piece, and lent from then on.
 ghost use Rattle.std.specs.Prelude.{◌≡◌, ◌<◌, ◌≤◌, ◌*◌, take, length};
 ghost use Rattle.demand.specs.Charge.{core_of};
-ghost use Rattle.verdicts.specs.ChargedArray.{chargedAt, chargedIn, laidPiece, layPiece, layRecords};
-ghost use Rattle.demand.specs.Records.{recordsOf};
-ghost use Rattle.demand.specs.Sizes.{SizedCosts, Each, runMost};
-ghost use Rattle.demand.specs.ways.Ranges.{Countable, noCharge};
+ghost use Rattle.verdicts.specs.ChargedArray.{charged_at, charged_in, laid_piece, lay_piece, lay_records};
+ghost use Rattle.demand.specs.Records.{records_of};
+ghost use Rattle.demand.specs.Sizes.{SizedCosts, Each, run_most};
+ghost use Rattle.demand.specs.Ways.Ranges.{Countable, no_charge};
 
 use crate::CORE_NUMBERS;
 use demand::{Charged, Costs, RUN_MOST, RUN_NUMBERS, charged_piece, record_at};
 
 // The charged piece at place i.
 pub fn charged_at(core: &[u64; CORE_NUMBERS], i: usize) -> Charged
-    requires { i < runMost }
-    ensures { result ≡ chargedAt core.now i }
+    requires { i < run_most }
+    ensures { result ≡ charged_at core.now i }
 {
     let at = 7 * i;
     Charged {
@@ -27,7 +27,7 @@ pub fn charged_at(core: &[u64; CORE_NUMBERS], i: usize) -> Charged
 }
 
 fn no_charge() -> Charged
-    ensures { result ≡ noCharge }
+    ensures { result ≡ no_charge }
 {
     Charged {
         charge: 0,
@@ -42,7 +42,7 @@ fn no_charge() -> Charged
 
 /// The charged piece at a place from 0 of a core that is laid out; past the last place all numbers are 0.
 pub fn laid_piece(core: &[u64; CORE_NUMBERS], i: usize) -> Charged
-    ensures exact { result ≡ laidPiece core.now i }
+    ensures exact { result ≡ laid_piece core.now i }
 {
     if RUN_MOST <= i {
         return no_charge();
@@ -52,7 +52,7 @@ pub fn laid_piece(core: &[u64; CORE_NUMBERS], i: usize) -> Charged
 
 /// Lays a charged piece out, as its seven numbers, at a place from 0; past the last place nothing changes.
 pub fn lay_piece(core: &mut [u64; CORE_NUMBERS], i: usize, q: Charged)
-    ensures exact { core.new ≡ layPiece core.old i q }
+    ensures exact { core.new ≡ lay_piece core.old i q }
 {
     if RUN_MOST <= i {
         return;
@@ -74,7 +74,7 @@ pub fn lay_records<'a>(
     records: &'a [u64; RUN_NUMBERS],
     n: usize,
 )
-    ensures exact { core.new ≡ layRecords core.old costs (take n (recordsOf records.now)) }
+    ensures exact { core.new ≡ lay_records core.old costs (take n (records_of records.now)) }
 {
     let mut i: usize = 0;
     while i < n {
@@ -94,8 +94,8 @@ pub fn lay_out<'a>(
     n: usize,
 )
     requires sized_costs { SizedCosts costs }
-    requires n_le_run_most { (n ≤ runMost) × Each Countable (take n (recordsOf records.now)) × (length core.old ≡ 7 * runMost) }
-    ensures { (chargedIn core.new n ≡ core_of costs (take n (recordsOf records.now))) × (length core.new ≡ 7 * runMost) }
+    requires n_le_run_most { (n ≤ run_most) × Each Countable (take n (records_of records.now)) × (length core.old ≡ 7 * run_most) }
+    ensures { (charged_in core.new n ≡ core_of costs (take n (records_of records.now))) × (length core.new ≡ 7 * run_most) }
 {
     lay_records(core, costs, records, n);
 }

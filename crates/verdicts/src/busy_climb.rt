@@ -2,11 +2,11 @@
 // how far every length from l on that holds the busy sum must reach: a piece whose next release is at the edge or later asks for the jobs it has by l, any
 // other for its share of the length. Such a leap is at most about the largest period, so where a long climb gains little by it, a whole stretch of lengths is walked.
 ghost use Rattle.std.specs.Prelude.{◌≡◌, ◌+◌, ◌<◌, ◌≤◌};
-ghost use Rattle.demand.specs.Busy.{busyLoad, busySum, busyLength, Clear};
-ghost use Rattle.verdicts.specs.ChargedArray.{chargedIn};
-ghost use Rattle.verdicts.specs.ways.BusyClimb.{Flows, Reaches};
-ghost use Rattle.demand.specs.ways.Ranges.{Ranged};
-ghost use Rattle.demand.specs.Sizes.{Each, busyMost, lengthMost, runMost};
+ghost use Rattle.demand.specs.Busy.{busy_load, busy_sum, busy_length, Clear};
+ghost use Rattle.verdicts.specs.ChargedArray.{charged_in};
+ghost use Rattle.verdicts.specs.Ways.BusyClimb.{Flows, Reaches};
+ghost use Rattle.demand.specs.Ways.Ranges.{Ranged};
+ghost use Rattle.demand.specs.Sizes.{Each, busy_most, length_most, run_most};
 
 use crate::CORE_NUMBERS;
 use crate::arrays::charged_at;
@@ -24,8 +24,8 @@ pub struct Flow {
 
 pub fn flow_of(q: Charged, l: u64, edge: u64) -> Flow
     requires ranged { Ranged q }
-    requires l_in_bounds { l ≤ lengthMost }
-    ensures { Flows (λ m. busyLoad m q) l result × (result.asked ≤ 1000000000000000) × (result.share ≤ 10000000000000000) × (result.work ≤ 1000000000000000) }
+    requires l_in_bounds { l ≤ length_most }
+    ensures { Flows (λ m. busy_load m q) l result × (result.asked ≤ 1000000000000000) × (result.share ≤ 10000000000000000) × (result.work ≤ 1000000000000000) }
 {
     let cost = q.charge + q.release + q.ipi;
     let jobs = ceil_div(l, q.period);
@@ -45,9 +45,9 @@ pub fn flow_of(q: Charged, l: u64, edge: u64) -> Flow
 }
 
 pub fn flow_at(core: &[u64; CORE_NUMBERS], n: usize, l: u64, edge: u64) -> Flow
-    requires n_le_run_most { (n ≤ runMost) × Each Ranged (chargedIn core.now n) }
-    requires l_in_bounds { l ≤ lengthMost }
-    ensures { Flows (busySum (chargedIn core.now n)) l result × (result.asked ≤ 79000000000000000) }
+    requires n_le_run_most { (n ≤ run_most) × Each Ranged (charged_in core.now n) }
+    requires l_in_bounds { l ≤ length_most }
+    ensures { Flows (busy_sum (charged_in core.now n)) l result × (result.asked ≤ 79000000000000000) }
 {
     let mut asked: u64 = 0;
     let mut share: u64 = 0;
@@ -88,10 +88,10 @@ pub fn reach_of(f: Flow) -> u64
 
 // Where the climb goes on from l: to `next` where that is far, else through the stretch from l on.
 pub fn leap(core: &[u64; CORE_NUMBERS], n: usize, l: u64, asked: u64, next: u64) -> u64
-    requires n_le_run_most { (n ≤ runMost) × Each Ranged (chargedIn core.now n) }
-    requires l_le_busy_most { (l ≤ busyMost) × (asked ≡ busySum (chargedIn core.now n) l) × (asked ≤ 79000000000000000) × Clear (busySum (chargedIn core.now n)) (l + 1) }
-    requires clear { Clear (busySum (chargedIn core.now n)) next }
-    ensures { (l < result) × Clear (busySum (chargedIn core.now n)) result × (result < l + 256 → busySum (chargedIn core.now n) result ≤ result) }
+    requires n_le_run_most { (n ≤ run_most) × Each Ranged (charged_in core.now n) }
+    requires l_le_busy_most { (l ≤ busy_most) × (asked ≡ busy_sum (charged_in core.now n) l) × (asked ≤ 79000000000000000) × Clear (busy_sum (charged_in core.now n)) (l + 1) }
+    requires clear { Clear (busy_sum (charged_in core.now n)) next }
+    ensures { (l < result) × Clear (busy_sum (charged_in core.now n)) result × (result < l + 256 → busy_sum (charged_in core.now n) result ≤ result) }
 {
     if l + 256 <= next {
         return next;
@@ -102,9 +102,9 @@ pub fn leap(core: &[u64; CORE_NUMBERS], n: usize, l: u64, asked: u64, next: u64)
 // The climb from l on, where it is long. Each pass looks ahead by the mean of the last look and the last leap. A turn ends the climb or gains 256 lengths, so there are at
 // most 390,626.
 pub fn climb_far(core: &[u64; CORE_NUMBERS], n: usize, from: u64) -> Found
-    requires n_le_run_most { (n ≤ runMost) × Each Ranged (chargedIn core.now n) }
-    requires le_from { (1 ≤ from) × Clear (busySum (chargedIn core.now n)) from }
-    ensures { result ≡ busyLength (chargedIn core.now n) }
+    requires n_le_run_most { (n ≤ run_most) × Each Ranged (charged_in core.now n) }
+    requires le_from { (1 ≤ from) × Clear (busy_sum (charged_in core.now n)) from }
+    ensures { result ≡ busy_length (charged_in core.now n) }
 {
     let mut l = from;
     let mut ahead: u64 = 0;
@@ -130,8 +130,8 @@ pub fn climb_far(core: &[u64; CORE_NUMBERS], n: usize, from: u64) -> Found
 // The busy length of the n pieces, if there is one up to the limit. The first pass lets all pieces flow: where they take up more than all time there is none. While the
 // climb is short, the others go by what is asked alone.
 pub fn climb_busy(core: &[u64; CORE_NUMBERS], n: usize) -> Found
-    requires { (n ≤ runMost) × Each Ranged (chargedIn core.now n) }
-    ensures { result ≡ busyLength (chargedIn core.now n) }
+    requires { (n ≤ run_most) × Each Ranged (charged_in core.now n) }
+    ensures { result ≡ busy_length (charged_in core.now n) }
 {
     let mut l: u64 = 1;
     let mut ahead: u64 = 200000000;

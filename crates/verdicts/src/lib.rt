@@ -18,8 +18,8 @@ mod spans;
 mod stretches;
 
 ghost use Rattle.std.specs.Prelude.{◌≡◌};
-ghost use Rattle.demand.specs.Answer.{answer_of, busyFigure, demandFigure, showingOf, tightFigure};
-ghost use Rattle.demand.specs.Records.{recordsOf};
+ghost use Rattle.demand.specs.Answer.{answer_of, busy_figure, demand_figure, showing_of, tight_figure};
+ghost use Rattle.demand.specs.Records.{records_of};
 
 use arrays::lay_out;
 pub use arrays::{laid_piece, lay_piece, lay_records};
@@ -74,7 +74,7 @@ pub enum Sum {
 
 /// The verdict on the first `count` records of a run that is lent as numbers: 6, then 2, then 3 with the record's place, else the verdict.
 pub fn judge_records(costs: Costs, records: &[u64; RUN_NUMBERS], count: usize) -> Answer
-    ensures exact { result ≡ answer_of costs count (recordsOf records.now) }
+    ensures exact { result ≡ answer_of costs count (records_of records.now) }
 {
     match check_records(costs, records, count) {
         Check::Bad(why) => Answer::Refused(why),
@@ -97,7 +97,7 @@ pub fn judge(costs: Costs, run: Run) -> Answer
 
 /// What is shown of the verdict on the first `count` records; refused as that is.
 pub fn show_records(costs: Costs, records: &[u64; RUN_NUMBERS], count: usize) -> Showing
-    ensures exact { result ≡ showingOf costs count (recordsOf records.now) }
+    ensures exact { result ≡ showing_of costs count (records_of records.now) }
 {
     match check_records(costs, records, count) {
         Check::Bad(why) => Showing::Unshown(why),
@@ -111,7 +111,7 @@ pub fn show_records(costs: Costs, records: &[u64; RUN_NUMBERS], count: usize) ->
 
 /// The busy length L of the first `count` records, if there is one up to the limit; refused as their verdict is.
 pub fn busy_length(costs: Costs, records: &[u64; RUN_NUMBERS], count: usize) -> Figure
-    ensures exact { result ≡ busyFigure costs count (recordsOf records.now) }
+    ensures exact { result ≡ busy_figure costs count (records_of records.now) }
 {
     match check_records(costs, records, count) {
         Check::Bad(why) => Figure::Barred(why),
@@ -125,7 +125,7 @@ pub fn busy_length(costs: Costs, records: &[u64; RUN_NUMBERS], count: usize) -> 
 
 /// Their demand g(t), for a t that a judged length can be.
 pub fn demand_of(costs: Costs, records: &[u64; RUN_NUMBERS], count: usize, t: u64) -> Figure
-    ensures exact { result ≡ demandFigure costs count (recordsOf records.now) t }
+    ensures exact { result ≡ demand_figure costs count (records_of records.now) t }
 {
     match check_records(costs, records, count) {
         Check::Bad(why) => Figure::Barred(why),
@@ -143,7 +143,7 @@ pub fn demand_of(costs: Costs, records: &[u64; RUN_NUMBERS], count: usize, t: u6
 
 /// The tight window of the last of them beside those before it, where that is at most its own window.
 pub fn tight_window(costs: Costs, records: &[u64; RUN_NUMBERS], count: usize) -> Figure
-    ensures exact { result ≡ tightFigure costs count (recordsOf records.now) }
+    ensures exact { result ≡ tight_figure costs count (records_of records.now) }
 {
     match check_records(costs, records, count) {
         Check::Bad(why) => Figure::Barred(why),

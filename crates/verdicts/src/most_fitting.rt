@@ -1,12 +1,12 @@
 // How much a piece may be charged beside a core: a walk down that lowers its charge wherever it does not fit. One walk so tells of every smaller
 // charge at once, where a verdict tells of one.
 ghost use Rattle.std.specs.Prelude.{◌≡◌, ◌+◌, ◌<◌, ◌≤◌};
-ghost use Rattle.demand.specs.Demand.{largestWindow};
-ghost use Rattle.verdicts.specs.ChargedArray.{chargedIn};
-ghost use Rattle.verdicts.specs.MostFitting.{mostFitting};
-ghost use Rattle.verdicts.specs.ways.ChargeWalk.{FitsInto, Levels, Stands, Lowers, lastBelow};
-ghost use Rattle.demand.specs.ways.Ranges.{Ranged, stallMost, chargeMost};
-ghost use Rattle.demand.specs.Sizes.{Each, lengthMost, timeMost, runMost};
+ghost use Rattle.demand.specs.Demand.{largest_window};
+ghost use Rattle.verdicts.specs.ChargedArray.{charged_in};
+ghost use Rattle.verdicts.specs.MostFitting.{most_fitting};
+ghost use Rattle.verdicts.specs.Ways.ChargeWalk.{FitsInto, Levels, Stands, Lowers, last_below};
+ghost use Rattle.demand.specs.Ways.Ranges.{Ranged, stall_most, charge_most};
+ghost use Rattle.demand.specs.Sizes.{Each, length_most, time_most, run_most};
 
 use crate::CORE_NUMBERS;
 use crate::demands::{demand_at, interrupts_of, jobs_due, largest_window};
@@ -35,7 +35,7 @@ pub struct Lowering {
 
 // The greatest charge up to f whose jobs fit the room.
 pub fn fitting(f: u64, jobs: u64, room: u64) -> u64
-    requires { (f ≤ chargeMost) × (jobs ≤ 102000001) }
+    requires { (f ≤ charge_most) × (jobs ≤ 102000001) }
     ensures { FitsInto f jobs room result }
 {
     if jobs * f <= room { f } else { room / jobs }
@@ -51,10 +51,10 @@ pub fn level_at(
     f: u64,
     t: u64,
 ) -> Look
-    requires n_le_run_most { (n ≤ runMost) × Each Ranged (chargedIn core.now n) }
+    requires n_le_run_most { (n ≤ run_most) × Each Ranged (charged_in core.now n) }
     requires ranged { Ranged q }
-    requires b_le_stall_most { (b ≤ stallMost) × (w ≡ largestWindow (chargedIn core.now n)) × (f ≤ chargeMost) × (t ≤ lengthMost) }
-    ensures { Levels b (chargedIn core.now n) q f t result }
+    requires b_le_stall_most { (b ≤ stall_most) × (w ≡ largest_window (charged_in core.now n)) × (f ≤ charge_most) × (t ≤ length_most) }
+    ensures { Levels b (charged_in core.now n) q f t result }
 {
     let g = demand_at(core, n, b, w, t);
     if t < g {
@@ -83,7 +83,7 @@ pub fn level_at(
 
 // The walk looks at the last length below the end.
 pub fn last_below(charge: u64, end: u64) -> Lowering
-    ensures { result ≡ lastBelow charge end }
+    ensures { result ≡ last_below charge end }
 {
     Lowering {
         charge: charge,
@@ -106,11 +106,11 @@ pub fn lower(
     a: u64,
     s: Lowering,
 ) -> Lowering
-    requires n_le_run_most { (n ≤ runMost) × Each Ranged (chargedIn core.now n) }
+    requires n_le_run_most { (n ≤ run_most) × Each Ranged (charged_in core.now n) }
     requires ranged { Ranged q }
-    requires b_le_stall_most { (b ≤ stallMost) × (w ≡ largestWindow (chargedIn core.now n)) × (s.charge ≤ chargeMost) × (s.end ≤ lengthMost) }
-    requires a_lt_end { (a < s.end) × Stands b (chargedIn core.now n) q a s }
-    ensures { Lowers b (chargedIn core.now n) q a s result }
+    requires b_le_stall_most { (b ≤ stall_most) × (w ≡ largest_window (charged_in core.now n)) × (s.charge ≤ charge_most) × (s.end ≤ length_most) }
+    requires a_lt_end { (a < s.end) × Stands b (charged_in core.now n) q a s }
+    ensures { Lowers b (charged_in core.now n) q a s result }
 {
     let v = level_at(core, n, b, w, q, s.charge, s.look);
     if v.charge == 0 {
@@ -146,10 +146,10 @@ pub fn squeeze(
     a: u64,
     l: u64,
 ) -> u64
-    requires n_le_run_most { (n ≤ runMost) × Each Ranged (chargedIn core.now n) }
+    requires n_le_run_most { (n ≤ run_most) × Each Ranged (charged_in core.now n) }
     requires ranged { Ranged q }
-    requires b_le_stall_most { (b ≤ stallMost) × (f ≤ chargeMost) × (a + l ≤ lengthMost) }
-    ensures { result ≡ mostFitting b (chargedIn core.now n) q a l f }
+    requires b_le_stall_most { (b ≤ stall_most) × (f ≤ charge_most) × (a + l ≤ length_most) }
+    ensures { result ≡ most_fitting b (charged_in core.now n) q a l f }
 {
     let w = largest_window(core, n);
     let mut s = last_below(f, a + l);

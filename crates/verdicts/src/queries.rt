@@ -1,10 +1,10 @@
 // What is asked of a core that is laid out. Where a sum could wrap, since the array holds no core or a number is past its bound, the answer is refused.
 ghost use Rattle.std.specs.Prelude.{◌≡◌, ◌≤◌};
-ghost use Rattle.demand.specs.Sizes.{Each, Tells, runMost};
-ghost use Rattle.demand.specs.ways.Ranges.{Ranged};
-ghost use Rattle.demand.specs.Demand.{largestWindow, leastLive};
-ghost use Rattle.verdicts.specs.ChargedArray.{chargedIn, laidPieces};
-ghost use Rattle.verdicts.specs.Laid.{laid, laidSum, laidBusyLength, laidTightWindow, laidWait, laidSpan, laidVerdict, laidMostFitting};
+ghost use Rattle.demand.specs.Sizes.{Each, Tells, run_most};
+ghost use Rattle.demand.specs.Ways.Ranges.{Ranged};
+ghost use Rattle.demand.specs.Demand.{largest_window, least_live};
+ghost use Rattle.verdicts.specs.ChargedArray.{charged_in, laid_pieces};
+ghost use Rattle.verdicts.specs.Laid.{laid, laid_sum, laid_busy_length, laid_tight_window, laid_wait, laid_span, laid_verdict, laid_most_fitting};
 
 use crate::arrays::charged_at;
 use crate::busy_climb::climb_busy;
@@ -47,7 +47,7 @@ pub fn ranged_piece(q: Charged) -> bool
 
 // Whether the first n places hold a core.
 fn holds_core(core: &[u64; CORE_NUMBERS], n: usize) -> bool
-    ensures { Tells ((n ≤ runMost) × Each Ranged (chargedIn core.now n)) result }
+    ensures { Tells ((n ≤ run_most) × Each Ranged (charged_in core.now n)) result }
 {
     if RUN_MOST < n {
         return false;
@@ -64,7 +64,7 @@ fn holds_core(core: &[u64; CORE_NUMBERS], n: usize) -> bool
 
 /// A figure of the pieces of a core that is laid out, summed at the length t; 0 where it is none, or t is no judged length.
 pub fn laid_sum(core: &[u64; CORE_NUMBERS], n: usize, sum: Sum, t: u64) -> u64
-    ensures exact { result ≡ laidSum sum t (laid core.now n) }
+    ensures exact { result ≡ laid_sum sum t (laid core.now n) }
 {
     if LENGTH_MOST < t {
         return 0;
@@ -77,7 +77,7 @@ pub fn laid_sum(core: &[u64; CORE_NUMBERS], n: usize, sum: Sum, t: u64) -> u64
 
 /// The largest window of the first n pieces that are laid out, of at most 79.
 pub fn laid_largest_window(core: &[u64; CORE_NUMBERS], n: usize) -> u64
-    ensures exact { result ≡ largestWindow (laidPieces core.now n) }
+    ensures exact { result ≡ largest_window (laid_pieces core.now n) }
 {
     if RUN_MOST < n {
         return largest_window(core, RUN_MOST);
@@ -87,7 +87,7 @@ pub fn laid_largest_window(core: &[u64; CORE_NUMBERS], n: usize) -> u64
 
 /// Their least live length, or 0 where there is no piece.
 pub fn laid_least_live(core: &[u64; CORE_NUMBERS], n: usize) -> u64
-    ensures exact { result ≡ leastLive (laidPieces core.now n) }
+    ensures exact { result ≡ least_live (laid_pieces core.now n) }
 {
     if n == 0 {
         return 0;
@@ -100,7 +100,7 @@ pub fn laid_least_live(core: &[u64; CORE_NUMBERS], n: usize) -> u64
 
 /// The busy length of a core that is laid out, if there is one up to the limit.
 pub fn laid_busy_length(core: &[u64; CORE_NUMBERS], n: usize) -> Found
-    ensures exact { result ≡ laidBusyLength (laid core.now n) }
+    ensures exact { result ≡ laid_busy_length (laid core.now n) }
 {
     if !holds_core(core, n) {
         return Found::Nothing;
@@ -110,7 +110,7 @@ pub fn laid_busy_length(core: &[u64; CORE_NUMBERS], n: usize) -> Found
 
 /// The tight window of the last piece of a core that is laid out, with the stall b, where that is at most its own window.
 pub fn laid_tight_window(core: &[u64; CORE_NUMBERS], n: usize, b: u64) -> Found
-    ensures exact { result ≡ laidTightWindow b (laid core.now n) }
+    ensures exact { result ≡ laid_tight_window b (laid core.now n) }
 {
     if STALL_MOST < b {
         return Found::Nothing;
@@ -126,7 +126,7 @@ pub fn laid_tight_window(core: &[u64; CORE_NUMBERS], n: usize, b: u64) -> Found
 
 /// The least length up to the top that holds the base and all interrupts of a core that is laid out which come within it.
 pub fn laid_wait(core: &[u64; CORE_NUMBERS], n: usize, base: u64, top: u64) -> Found
-    ensures exact { result ≡ laidWait base top (laid core.now n) }
+    ensures exact { result ≡ laid_wait base top (laid core.now n) }
 {
     if WAIT_MOST < base {
         return Found::Nothing;
@@ -142,7 +142,7 @@ pub fn laid_wait(core: &[u64; CORE_NUMBERS], n: usize, base: u64, top: u64) -> F
 
 /// The greatest overloaded length among the l from a, of a core that is laid out, with the stall b.
 pub fn laid_span(core: &[u64; CORE_NUMBERS], n: usize, b: u64, a: u64, l: u64) -> Verdict
-    ensures exact { result ≡ laidSpan b a l (laid core.now n) }
+    ensures exact { result ≡ laid_span b a l (laid core.now n) }
 {
     if STALL_MOST < b {
         return Verdict::Undecided;
@@ -161,7 +161,7 @@ pub fn laid_span(core: &[u64; CORE_NUMBERS], n: usize, b: u64, a: u64, l: u64) -
 
 /// The verdict on a core that is laid out, with the stall b.
 pub fn laid_verdict(core: &[u64; CORE_NUMBERS], n: usize, b: u64) -> Verdict
-    ensures exact { result ≡ laidVerdict b (laid core.now n) }
+    ensures exact { result ≡ laid_verdict b (laid core.now n) }
 {
     if STALL_MOST < b {
         return Verdict::Undecided;
@@ -182,7 +182,7 @@ pub fn laid_most_fitting(
     a: u64,
     l: u64,
 ) -> u64
-    ensures exact { result ≡ laidMostFitting b q a l f (laid core.now n) }
+    ensures exact { result ≡ laid_most_fitting b q a l f (laid core.now n) }
 {
     if STALL_MOST < b {
         return 0;

@@ -1,11 +1,11 @@
 // A stretch of 1,024 lengths at once. From one length to the next the busy sum grows by the jobs released at the first, so the costs of the jobs are marked where they
 // are released, and one walk over the marks tells the first length past l that holds the busy sum.
 ghost use Rattle.std.specs.Prelude.{◌≡◌, ℕ, ◌+◌, ◌<◌, ◌≤◌, length};
-ghost use Rattle.demand.specs.Busy.{busySum, Clear};
-ghost use Rattle.verdicts.specs.ChargedArray.{chargedIn};
-ghost use Rattle.verdicts.specs.ways.ReleaseSums.{Marked, Marks, Under, marksMost};
-ghost use Rattle.demand.specs.ways.Ranges.{Ranged};
-ghost use Rattle.demand.specs.Sizes.{Each, busyMost, runMost};
+ghost use Rattle.demand.specs.Busy.{busy_sum, Clear};
+ghost use Rattle.verdicts.specs.ChargedArray.{charged_in};
+ghost use Rattle.verdicts.specs.Ways.ReleaseSums.{Marked, Marks, Under, marks_most};
+ghost use Rattle.demand.specs.Ways.Ranges.{Ranged};
+ghost use Rattle.demand.specs.Sizes.{Each, busy_most, run_most};
 
 use crate::arrays::charged_at;
 use crate::demands::ceil_div;
@@ -15,8 +15,8 @@ use demand::Charged;
 // The jobs of q are marked: what one costs, at each place j where l + j is a multiple of the period.
 pub fn mark(marks: &mut [u64; MARKS_MOST], q: Charged, l: u64)
     requires ranged { Ranged q }
-    requires l_le_busy_most { (l ≤ busyMost) × (length marks.old ≡ marksMost) × Under 1000000000 marks.old }
-    ensures { Marked q l marks.old marks.new × (length marks.new ≡ marksMost) }
+    requires l_le_busy_most { (l ≤ busy_most) × (length marks.old ≡ marks_most) × Under 1000000000 marks.old }
+    ensures { Marked q l marks.old marks.new × (length marks.new ≡ marks_most) }
 {
     let cost = q.charge + q.release + q.ipi;
     let step = q.period as usize;
@@ -34,9 +34,9 @@ pub fn mark_all<'a>(
     n: usize,
     l: u64,
 )
-    requires n_le_run_most { (n ≤ runMost) × Each Ranged (chargedIn core.now n) }
-    requires l_le_busy_most { (l ≤ busyMost) × (length marks.old ≡ marksMost) × Under 0 marks.old }
-    ensures { Marks (busySum (chargedIn core.now n)) l marks.new × Under 200000000 marks.new }
+    requires n_le_run_most { (n ≤ run_most) × Each Ranged (charged_in core.now n) }
+    requires l_le_busy_most { (l ≤ busy_most) × (length marks.old ≡ marks_most) × Under 0 marks.old }
+    ensures { Marks (busy_sum (charged_in core.now n)) l marks.new × Under 200000000 marks.new }
 {
     let mut i: usize = 0;
     while i < n {
@@ -47,9 +47,9 @@ pub fn mark_all<'a>(
 
 // The first length past l, where the sum is `asked`, that holds the sum by its marks, or the one behind them.
 pub fn first_held(marks: &[u64; MARKS_MOST], l: u64, asked: u64) -> u64
-    requires { (l ≤ busyMost) × (asked ≤ 79000000000000000) × Under 200000000 marks.now }
-    ensures lower_bound { (l < result) × (result ≤ l + marksMost) }
-    ensures by_index { (f : ℕ → ℕ) → Marks f l marks.now → asked ≡ f l → Clear f (l + 1) → Clear f result × (result < l + marksMost → f result ≤ result) }
+    requires { (l ≤ busy_most) × (asked ≤ 79000000000000000) × Under 200000000 marks.now }
+    ensures lower_bound { (l < result) × (result ≤ l + marks_most) }
+    ensures by_index { (f : ℕ → ℕ) → Marks f l marks.now → asked ≡ f l → Clear f (l + 1) → Clear f result × (result < l + marks_most → f result ≤ result) }
 {
     let mut sum = asked;
     let mut m = l + 1;
@@ -67,9 +67,9 @@ pub fn first_held(marks: &[u64; MARKS_MOST], l: u64, asked: u64) -> u64
 
 // The same of the busy sum of a core.
 pub fn held_from(core: &[u64; CORE_NUMBERS], n: usize, l: u64, asked: u64) -> u64
-    requires n_le_run_most { (n ≤ runMost) × Each Ranged (chargedIn core.now n) }
-    requires l_le_busy_most { (l ≤ busyMost) × (asked ≡ busySum (chargedIn core.now n) l) × (asked ≤ 79000000000000000) × Clear (busySum (chargedIn core.now n)) (l + 1) }
-    ensures { (l < result) × (result ≤ l + marksMost) × Clear (busySum (chargedIn core.now n)) result × (result < l + marksMost → busySum (chargedIn core.now n) result ≤ result) }
+    requires n_le_run_most { (n ≤ run_most) × Each Ranged (charged_in core.now n) }
+    requires l_le_busy_most { (l ≤ busy_most) × (asked ≡ busy_sum (charged_in core.now n) l) × (asked ≤ 79000000000000000) × Clear (busy_sum (charged_in core.now n)) (l + 1) }
+    ensures { (l < result) × (result ≤ l + marks_most) × Clear (busy_sum (charged_in core.now n)) result × (result < l + marks_most → busy_sum (charged_in core.now n) result ≤ result) }
 {
     let mut marks: [u64; MARKS_MOST] = [0; MARKS_MOST];
     mark_all(&mut marks, core, n, l);

@@ -1,13 +1,13 @@
 // What is shown of a verdict: document 02, E1. One climb and one walk down tell both the verdict and the length that is shown.
 ghost use Rattle.std.specs.Prelude.{cond, ◌≡◌, ◌≤◌, ltb};
 ghost use Rattle.demand.specs.declared.Found.TheVariants.{At};
-ghost use Rattle.demand.specs.Busy.{busyLength};
-ghost use Rattle.demand.specs.Demand.{leastLive};
-ghost use Rattle.demand.specs.Why.{dueAsk, busyAsk, coreShown};
-ghost use Rattle.verdicts.specs.Asks.{noAsk, askWithin};
-ghost use Rattle.verdicts.specs.ChargedArray.{chargedIn};
-ghost use Rattle.demand.specs.ways.Ranges.{Ranged, stallMost};
-ghost use Rattle.demand.specs.Sizes.{Each, lengthMost, runMost};
+ghost use Rattle.demand.specs.Busy.{busy_length};
+ghost use Rattle.demand.specs.Demand.{least_live};
+ghost use Rattle.demand.specs.Why.{due_ask, busy_ask, core_shown};
+ghost use Rattle.verdicts.specs.Asks.{no_ask, ask_within};
+ghost use Rattle.verdicts.specs.ChargedArray.{charged_in};
+ghost use Rattle.demand.specs.Ways.Ranges.{Ranged, stall_most};
+ghost use Rattle.demand.specs.Sizes.{Each, length_most, run_most};
 
 use crate::busy_climb::climb_busy;
 use crate::demands::{ceil_div, interrupts_of, jobs_due, largest_window, least_live, sum_at};
@@ -19,8 +19,8 @@ use demand::{Ask, BUSY_MOST, Charged, Found, Shown, Verdict};
 // What a piece asks for within t.
 pub fn due_ask(q: Charged, t: u64) -> Ask
     requires ranged { Ranged q }
-    requires t_in_bounds { t ≤ lengthMost }
-    ensures { result ≡ dueAsk t q }
+    requires t_in_bounds { t ≤ length_most }
+    ensures { result ≡ due_ask t q }
 {
     let jobs = jobs_due(q, t);
     let calls = interrupts_of(q, t);
@@ -34,8 +34,8 @@ pub fn due_ask(q: Charged, t: u64) -> Ask
 // What it asks of a busy length l.
 pub fn busy_ask(q: Charged, l: u64) -> Ask
     requires ranged { Ranged q }
-    requires l_in_bounds { l ≤ lengthMost }
-    ensures { result ≡ busyAsk l q }
+    requires l_in_bounds { l ≤ length_most }
+    ensures { result ≡ busy_ask l q }
 {
     let jobs = ceil_div(l, q.period);
     Ask {
@@ -46,7 +46,7 @@ pub fn busy_ask(q: Charged, l: u64) -> Ask
 }
 
 fn no_ask() -> Ask
-    ensures { result ≡ noAsk }
+    ensures { result ≡ no_ask }
 {
     Ask {
         jobs: 0,
@@ -57,7 +57,7 @@ fn no_ask() -> Ask
 
 /// What a charged piece is shown to ask for at the length t, beside a verdict; nothing where a number is past its bound.
 pub fn ask_of(q: Charged, verdict: Verdict, t: u64) -> Ask
-    ensures exact { result ≡ askWithin verdict t q }
+    ensures exact { result ≡ ask_within verdict t q }
 {
     if LENGTH_MOST < t {
         return no_ask();
@@ -81,9 +81,9 @@ pub fn blocking_at(b: u64, w: u64, t: u64) -> u64
 
 // What is shown of a core with the busy length l and the least live length a: its greatest overloaded length, or the least slack.
 pub fn show_span(core: &[u64; CORE_NUMBERS], n: usize, b: u64, a: u64, l: u64) -> Shown
-    requires n_le_run_most { (n ≤ runMost) × Each Ranged (chargedIn core.now n) }
-    requires b_le_stall_most { (b ≤ stallMost) × (1 ≤ n) × (a ≡ leastLive (chargedIn core.now n)) × (busyLength (chargedIn core.now n) ≡ At l) }
-    ensures { result ≡ coreShown b (chargedIn core.now n) }
+    requires n_le_run_most { (n ≤ run_most) × Each Ranged (charged_in core.now n) }
+    requires b_le_stall_most { (b ≤ stall_most) × (1 ≤ n) × (a ≡ least_live (charged_in core.now n)) × (busy_length (charged_in core.now n) ≡ At l) }
+    ensures { result ≡ core_shown b (charged_in core.now n) }
 {
     let w = largest_window(core, n);
     match seek(core, n, b, w, a, l) {
@@ -104,9 +104,9 @@ pub fn show_span(core: &[u64; CORE_NUMBERS], n: usize, b: u64, a: u64, l: u64) -
 
 // What is shown of a core with the stall b.
 pub fn show_core(core: &[u64; CORE_NUMBERS], n: usize, b: u64) -> Shown
-    requires n_le_run_most { (n ≤ runMost) × Each Ranged (chargedIn core.now n) }
-    requires b_le_stall_most { b ≤ stallMost }
-    ensures { result ≡ coreShown b (chargedIn core.now n) }
+    requires n_le_run_most { (n ≤ run_most) × Each Ranged (charged_in core.now n) }
+    requires b_le_stall_most { b ≤ stall_most }
+    ensures { result ≡ core_shown b (charged_in core.now n) }
 {
     if n == 0 {
         return Shown {

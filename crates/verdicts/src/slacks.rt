@@ -1,11 +1,11 @@
 // The greatest overloaded length of a span or, where there is none, the length with the least slack: by hunts that go down (`spans::hunt`). Each has one more than the least slack so far as its bar, so it
 // finds a length that is as good or better, or tells that there is none. From a hit the next hunt goes on below the start of its stretch of equal demand, where the slack is least.
 ghost use Rattle.std.specs.Prelude.{◌≡◌, ◌+◌, ◌-◌, ◌<◌, ◌≤◌};
-ghost use Rattle.demand.specs.Demand.{demand, largestWindow};
-ghost use Rattle.verdicts.specs.ChargedArray.{chargedIn};
-ghost use Rattle.verdicts.specs.ways.SlackHunt.{Level, Seeks};
-ghost use Rattle.demand.specs.ways.Ranges.{Ranged, stallMost};
-ghost use Rattle.demand.specs.Sizes.{Each, busyMost, lengthMost, timeMost, runMost};
+ghost use Rattle.demand.specs.Demand.{demand, largest_window};
+ghost use Rattle.verdicts.specs.ChargedArray.{charged_in};
+ghost use Rattle.verdicts.specs.Ways.SlackHunt.{Level, Seeks};
+ghost use Rattle.demand.specs.Ways.Ranges.{Ranged, stall_most};
+ghost use Rattle.demand.specs.Sizes.{Each, busy_most, length_most, time_most, run_most};
 
 use crate::CORE_NUMBERS;
 use crate::arrays::charged_at;
@@ -23,10 +23,10 @@ pub enum Sought {
 
 // The start of t's stretch, whose demand is x, not below a and not past the largest window w; or t, where the demand there is another.
 pub fn level(core: &[u64; CORE_NUMBERS], n: usize, b: u64, w: u64, a: u64, t: u64, x: u64) -> u64
-    requires n_le_run_most { (n ≤ runMost) × Each Ranged (chargedIn core.now n) }
-    requires b_le_stall_most { (b ≤ stallMost) × (w ≡ largestWindow (chargedIn core.now n)) × (1 ≤ n) }
-    requires a_le_t { (a ≤ t) × (t ≤ lengthMost) × (x ≡ demand b (chargedIn core.now n) t) }
-    ensures { Level (demand b (chargedIn core.now n)) w a t result }
+    requires n_le_run_most { (n ≤ run_most) × Each Ranged (charged_in core.now n) }
+    requires b_le_stall_most { (b ≤ stall_most) × (w ≡ largest_window (charged_in core.now n)) × (1 ≤ n) }
+    requires a_le_t { (a ≤ t) × (t ≤ length_most) × (x ≡ demand b (charged_in core.now n) t) }
+    ensures { Level (demand b (charged_in core.now n)) w a t result }
 {
     let start = greater(a, stretch_start(core, n, charged_at(core, 0), t));
     let v = next_end(lesser(t, start), w, t);
@@ -39,10 +39,10 @@ pub fn level(core: &[u64; CORE_NUMBERS], n: usize, b: u64, w: u64, a: u64, t: u6
 
 // The l lengths from a. From `end` up none is overloaded, and none has less slack than `best`, where `asked` is asked for.
 pub fn seek(core: &[u64; CORE_NUMBERS], n: usize, b: u64, w: u64, a: u64, l: u64) -> Sought
-    requires n_le_run_most { (n ≤ runMost) × Each Ranged (chargedIn core.now n) }
-    requires b_le_stall_most { (b ≤ stallMost) × (w ≡ largestWindow (chargedIn core.now n)) × (1 ≤ n) }
-    requires a_le_time_most { (a ≤ timeMost) × (1 ≤ l) × (l ≤ busyMost) }
-    ensures { Seeks (demand b (chargedIn core.now n)) a l result }
+    requires n_le_run_most { (n ≤ run_most) × Each Ranged (charged_in core.now n) }
+    requires b_le_stall_most { (b ≤ stall_most) × (w ≡ largest_window (charged_in core.now n)) × (1 ≤ n) }
+    requires a_le_time_most { (a ≤ time_most) × (1 ≤ l) × (l ≤ busy_most) }
+    ensures { Seeks (demand b (charged_in core.now n)) a l result }
 {
     let mut best = a;
     let mut asked = demand_at(core, n, b, w, a);

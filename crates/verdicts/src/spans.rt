@@ -1,11 +1,11 @@
 // The verdict over the judged span: from its top down by QPA (001), with care at the largest window.
 ghost use Rattle.std.specs.Prelude.{◌≡◌, ◌+◌, ◌≤◌, ltb};
-ghost use Rattle.verdicts.specs.ChargedArray.{chargedIn};
-ghost use Rattle.demand.specs.ways.Ranges.{Ranged, stallMost};
-ghost use Rattle.demand.specs.Sizes.{Each, busyMost, timeMost, runMost};
-ghost use Rattle.demand.specs.Demand.{demand, largestWindow};
+ghost use Rattle.verdicts.specs.ChargedArray.{charged_in};
+ghost use Rattle.demand.specs.Ways.Ranges.{Ranged, stall_most};
+ghost use Rattle.demand.specs.Sizes.{Each, busy_most, time_most, run_most};
+ghost use Rattle.demand.specs.Demand.{demand, largest_window};
 ghost use Rattle.demand.specs.Verdict.{scan, verdict};
-ghost use Rattle.verdicts.specs.ways.SlackHunt.{Hunts};
+ghost use Rattle.verdicts.specs.Ways.SlackHunt.{Hunts};
 
 use crate::CORE_NUMBERS;
 use crate::busy_climb::climb_busy;
@@ -49,9 +49,9 @@ pub fn hunt(
     a: u64,
     l: u64,
 ) -> Hunted
-    requires n_le_run_most { (n ≤ runMost) × Each Ranged (chargedIn core.now n) }
-    requires b_le_stall_most { (b ≤ stallMost) × (w ≡ largestWindow (chargedIn core.now n)) × (a ≤ timeMost) × (l ≤ busyMost) }
-    ensures { Hunts (demand b (chargedIn core.now n)) bar a l result }
+    requires n_le_run_most { (n ≤ run_most) × Each Ranged (charged_in core.now n) }
+    requires b_le_stall_most { (b ≤ stall_most) × (w ≡ largest_window (charged_in core.now n)) × (a ≤ time_most) × (l ≤ busy_most) }
+    ensures { Hunts (demand b (charged_in core.now n)) bar a l result }
 {
     let mut end = a + l;
     while a < end {
@@ -67,9 +67,9 @@ pub fn hunt(
 
 // The greatest overloaded length among the l from a: a hunt with no bar.
 pub fn descend(core: &[u64; CORE_NUMBERS], n: usize, b: u64, a: u64, l: u64) -> Verdict
-    requires n_le_run_most { (n ≤ runMost) × Each Ranged (chargedIn core.now n) }
-    requires b_le_stall_most { (b ≤ stallMost) × (a ≤ timeMost) × (l ≤ busyMost) }
-    ensures { result ≡ scan b (chargedIn core.now n) a l }
+    requires n_le_run_most { (n ≤ run_most) × Each Ranged (charged_in core.now n) }
+    requires b_le_stall_most { (b ≤ stall_most) × (a ≤ time_most) × (l ≤ busy_most) }
+    ensures { result ≡ scan b (charged_in core.now n) a l }
 {
     let w = largest_window(core, n);
     match hunt(core, n, b, w, 0, a, l) {
@@ -80,9 +80,9 @@ pub fn descend(core: &[u64; CORE_NUMBERS], n: usize, b: u64, a: u64, l: u64) -> 
 
 // The verdict on a core with the stall b.
 pub fn judge_core(core: &[u64; CORE_NUMBERS], n: usize, b: u64) -> Verdict
-    requires n_le_run_most { (n ≤ runMost) × Each Ranged (chargedIn core.now n) }
-    requires b_le_stall_most { b ≤ stallMost }
-    ensures { result ≡ verdict b (chargedIn core.now n) }
+    requires n_le_run_most { (n ≤ run_most) × Each Ranged (charged_in core.now n) }
+    requires b_le_stall_most { b ≤ stall_most }
+    ensures { result ≡ verdict b (charged_in core.now n) }
 {
     if n == 0 {
         return Verdict::Passes;

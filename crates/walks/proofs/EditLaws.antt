@@ -14,7 +14,7 @@ use native.Mathlib.Omega.{arith}
 use lib.ListN.{length}
 use Rattle.demand.specs.Sizes.{Each}
 use Rattle.walks.specs.Lists.{Apart}
-use Rattle.walks.specs.Edits.{Keyed, Edit, add, withdraw, retime, without, replaced, edited, editedKey}
+use Rattle.walks.specs.Edits.{Keyed, Edit, add, withdraw, retime, without, replaced, edited, edited_key}
 use Rattle.walks.proofs.KeyLaws.{Exact}
 use Rattle.walks.proofs.KeptLaws.{Between, Around}
 
@@ -99,7 +99,7 @@ module _ {A K : Type 0} (N : Keyed A K) (exact : Exact N) where
       by true told rec = record { xs = []; ys = l; in-old = inr (a, sym (exact.told (N.key b) (N.key a) told), refl); in-new = inr (b, refl, refl) }
       by false told rec = around-more (N.key b) a rec
 
-  pub edit-around : (e : Edit A K) (l : List A) → Around N (editedKey N e) l (edited N e l)
+  pub edit-around : (e : Edit A K) (l : List A) → Around N (edited_key N e) l (edited N e l)
   edit-around (add a) l = record { xs = l; ys = []; in-old = inl (sym (append-nil l)); in-new = inr (a, refl, refl) }
   edit-around (withdraw k) l = without-around k l
   edit-around (retime a) l = replaced-around a l

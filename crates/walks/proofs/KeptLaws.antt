@@ -1,7 +1,7 @@
 -- Demand 3's second and third sentences, for any way: what the walks over two lists that differ by one item have in common.
 -- Assumes nothing.
 --
---   shareOn N k q log         the pieces on core q of the item with the key k
+--   share_on N k q log         the pieces on core q of the item with the key k
 --   share-first, share-last   all of a key's pieces come from the part of a walk that has the key
 --   first-kept                walks over orders with one beginning give each key in it the same pieces
 --   last-kept                 so do walks over orders with one end, where their states are equal before it
@@ -20,9 +20,9 @@ use Rattle.demand.specs.Sizes.{Each}
 use Rattle.demand.proofs.Sums.{each-imp}
 use Rattle.walks.specs.Lists.{Apart}
 use Rattle.walks.specs.Order.{pack}
-use Rattle.walks.specs.Way.{Placed, Way, fine, walk, walkOver, walk_of, onCore}
+use Rattle.walks.specs.Way.{Placed, Way, fine, walk, walk_over, walk_of, on_core}
 use Rattle.walks.specs.Edits.{Keyed}
-use Rattle.walks.specs.Kept.{ofKey, Among, Before, Behind, Meet}
+use Rattle.walks.specs.Kept.{of_key, Among, Before, Behind, Meet}
 use Rattle.walks.proofs.ListLaws.{each-parts, each-only, apart-less, only-append, only_none}
 use Rattle.walks.proofs.OrderLaws.{Lawful, pack-gap, pack-apart}
 use Rattle.walks.proofs.WayLaws.{Parts, in_parts, rest-same, walk-items}
@@ -32,21 +32,21 @@ use Rattle.walks.proofs.TouchLaws.{Touch, Fore, fore, hind, gap-put}
 -- ---- what is placed of a key
 
 module _ {A K : Type 0} (N : Keyed A K) where
-  abbrev pub shareOn : K → ℕ → List (Placed A) → List Piece
-  shareOn k q log = map (λ e. e.piece) (ofKey N k (onCore q log))
+  abbrev pub share_on : K → ℕ → List (Placed A) → List Piece
+  share_on k q log = map (λ e. e.piece) (of_key N k (on_core q log))
 
   module _ (exact : Exact N) (k : K) (q : ℕ) where
     other : (e : Placed A) → (N.key e.item ≡ k → ⊥) → N.same k (N.key e.item) ≡ false
     other e never = same-other N exact k (N.key e.item) (λ e. never (sym e))
 
-    pub share-append : (l r : List (Placed A)) → shareOn k q (l ++ r) ≡ shareOn k q l ++ shareOn k q r
+    pub share-append : (l r : List (Placed A)) → share_on k q (l ++ r) ≡ share_on k q l ++ share_on k q r
     share-append l r = rw (only-append, only-append, map-append)
 
-    share-none : (l : List (Placed A)) → Each (λ e. N.key e.item ≡ k → ⊥) l → shareOn k q l ≡ []
+    share-none : (l : List (Placed A)) → Each (λ e. N.key e.item ≡ k → ⊥) l → share_on k q l ≡ []
     share-none l never =
-        let none : ofKey N k (onCore q l) ≡ [] =
-        only_none (λ e. N.same k (N.key e.item)) (onCore q l)
-        (each-imp (λ e. N.key e.item ≡ k → ⊥) (λ e. N.same k (N.key e.item) ≡ false) other (onCore q l)
+        let none : of_key N k (on_core q l) ≡ [] =
+        only_none (λ e. N.same k (N.key e.item)) (on_core q l)
+        (each-imp (λ e. N.key e.item ≡ k → ⊥) (λ e. N.same k (N.key e.item) ≡ false) other (on_core q l)
         (each-only (λ e. N.key e.item ≡ k → ⊥) (λ e. eqb e.on q) l never)) in
         ap (map (λ (e : Placed A). e.piece)) none
 
@@ -54,38 +54,38 @@ module _ {A K : Type 0} (N : Keyed A K) where
 
 module _ {A K : Type 0} (W : Way A) (N : Keyed A K) (exact : Exact N) (b : K) (q : ℕ) where
   module _ {s : W.State} {xs ys : List A} {end : W.State} {log : List (Placed A)} (apart : Apart N.key (xs ++ ys)) (parts : Parts W s xs ys end log) where
-    pub share-first : Among N b xs → shareOn N b q log ≡ shareOn N b q parts.past
+    pub share-first : Among N b xs → share_on N b q log ≡ share_on N b q parts.past
     share-first m =
         let none =
         share-none N exact b q parts.rest
         (walk-items W (λ a. N.key a ≡ b → ⊥) parts.at end ys parts.rest (apart-first N b xs ys apart m) parts.second) in
-        ap (shareOn N b q) parts.joins ∙ (share-append N exact b q parts.past parts.rest ∙ rw none (append-nil (shareOn N b q parts.past)))
+        ap (share_on N b q) parts.joins ∙ (share-append N exact b q parts.past parts.rest ∙ rw none (append-nil (share_on N b q parts.past)))
 
-    pub share-last : Among N b ys → shareOn N b q log ≡ shareOn N b q parts.rest
+    pub share-last : Among N b ys → share_on N b q log ≡ share_on N b q parts.rest
     share-last m =
         let none =
         share-none N exact b q parts.past
         (walk-items W (λ a. N.key a ≡ b → ⊥) s parts.at xs parts.past (apart-last N b xs ys apart m) parts.first) in
-        ap (shareOn N b q) parts.joins ∙ (share-append N exact b q parts.past parts.rest ∙ rw none)
+        ap (share_on N b q) parts.joins ∙ (share-append N exact b q parts.past parts.rest ∙ rw none)
 
   module _ (s : W.State) {end end' : W.State} {log log' : List (Placed A)} where
     pub first-kept : (xs ys zs : List A) → Apart N.key (xs ++ ys) → Apart N.key (xs ++ zs) → walk W s (xs ++ ys) ≡ fine end log
-        → walk W s (xs ++ zs) ≡ fine end' log' → Among N b xs → shareOn N b q log ≡ shareOn N b q log'
+        → walk W s (xs ++ zs) ≡ fine end' log' → Among N b xs → share_on N b q log ≡ share_on N b q log'
     first-kept xs ys zs apart apart' w v m =
         let x = in_parts W s xs ys end log w in
         let y = in_parts W s xs zs end' log' v in
         let same = rest-same W xs refl x.first y.first in
-        share-first apart x m ∙ (ap (shareOn N b q) same.1 ∙ sym (share-first apart' y m))
+        share-first apart x m ∙ (ap (share_on N b q) same.1 ∙ sym (share-first apart' y m))
 
     pub last-kept : (xs ys zs : List A) (t : W.State) (k l : List (Placed A)) → Apart N.key (xs ++ zs) → Apart N.key (ys ++ zs)
         → walk W s (xs ++ zs) ≡ fine end log → walk W s (ys ++ zs) ≡ fine end' log' →
-        walk W s xs ≡ fine t k → walk W s ys ≡ fine t l → Among N b zs → shareOn N b q log ≡ shareOn N b q log'
+        walk W s xs ≡ fine t k → walk W s ys ≡ fine t l → Among N b zs → share_on N b q log ≡ share_on N b q log'
     last-kept xs ys zs t k l apart apart' w v old new m =
         let x = in_parts W s xs zs end log w in
         let y = in_parts W s ys zs end' log' v in
         let at = (rest-same W xs refl x.first old).0 ∙ sym (rest-same W ys refl y.first new).0 in
         let same = rest-same W zs at x.second y.second in
-        share-last apart x m ∙ (ap (shareOn N b q) same.1 ∙ sym (share-last apart' y m))
+        share-last apart x m ∙ (ap (share_on N b q) same.1 ∙ sym (share-last apart' y m))
 
 -- ---- demand 3
 
@@ -134,18 +134,18 @@ module _ {A K : Type 0} (W : Way A) (Good : A → Type 0) (lawful : Lawful Good 
     touch' = between-touch around.xs around.ys sorts' around.in-new
 
     abbrev Walks : List A → W.State → List (Placed A) → Type 0
-    Walks l s k = walkOver W l ≡ fine s k
+    Walks l s k = walk_over W l ≡ fine s k
 
-    pub kept-before : (b : K) → Before N n b (order old) → Before N n b (order new) → (q : ℕ) → shareOn N b q log ≡ shareOn N b q log'
+    pub kept-before : (b : K) → Before N n b (order old) → Before N n b (order new) → (q : ℕ) → share_on N b q log ≡ share_on N b q log'
     kept-before b before before' q = ⊎_elim alike within (fore N n b touch touch' before before')
       where
-        alike : order old ≡ order new → shareOn N b q log ≡ shareOn N b q log'
+        alike : order old ≡ order new → share_on N b q log ≡ share_on N b q log'
         alike e =
-            let both : fine end log ≡ fine end' log' = sym plan ∙ (ap (walkOver W) e ∙ plan') in
+            let both : fine end log ≡ fine end' log' = sym plan ∙ (ap (walk_over W) e ∙ plan') in
             let same : log ≡ log' = cc in
-            ap (shareOn N b q) same
+            ap (share_on N b q) same
 
-        within : Fore N b (order old) (order new) → shareOn N b q log ≡ shareOn N b q log'
+        within : Fore N b (order old) (order new) → share_on N b q log ≡ share_on N b q log'
         within f =
             first-kept W N exact b q W.begin f.front f.old-rest f.new-rest
             (subst (Apart N.key) f.old-is (pack-apart N.key W.beats old sorts.apart))
@@ -153,7 +153,7 @@ module _ {A K : Type 0} (W : Way A) (Good : A → Type 0) (lawful : Lawful Good 
             (subst (λ (z : List A). Walks z end log) f.old-is plan) (subst (λ (z : List A). Walks z end' log') f.new_is plan') f.among
 
     pub kept-after : {p r p' r' : List A} {b b' : A} → Behind N n (order old) p b r → Behind N n (order new) p' b' r' → N.key b ≡ N.key b'
-        → Meet W p p' → (d : K) → Among N d (b ∷ r) → (q : ℕ) → shareOn N d q log ≡ shareOn N d q log'
+        → Meet W p p' → (d : K) → Among N d (b ∷ r) → (q : ℕ) → share_on N d q log ≡ share_on N d q log'
     kept-after {p} {r} {p'} {r'} {b} {b'} behind behind' same meet d among q =
         let rest : b ∷ r ≡ b' ∷ r' =
         hind N p p' touch touch' (pack-apart N.key W.beats (around.xs ++ around.ys) (between-apart around.xs around.ys

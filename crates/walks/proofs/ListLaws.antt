@@ -1,4 +1,4 @@
--- Laws of `Each`, `Apart`, `Chain`, `only` and `sumBy`.
+-- Laws of `Each`, `Apart`, `Chain`, `only` and `sum_by`.
 -- Assumes nothing.
 --
 --   each-join, each-parts, each-only, each-middle     what holds of each, of two lists, of those that pass a test, of one
@@ -13,7 +13,7 @@ use Prim.Native.Nat.{ℕ, ◌+◌}
 use native.Mathlib.Omega.{arith}
 use Rattle.demand.specs.Sizes.{Each}
 use Rattle.demand.proofs.Sums.{each_snoc}
-use Rattle.walks.specs.Lists.{Lacks, Apart, Chain, keep, only, sumBy}
+use Rattle.walks.specs.Lists.{Lacks, Apart, Chain, keep, only, sum_by}
 
 -- ---- Each
 
@@ -87,12 +87,12 @@ only-map {A} {B} test f (a ∷ l) = by (test (f a)) (only-map test f l)
     by true h = ap (λ (z : List B). f a ∷ z) h
     by false h = h
 
--- ---- sumBy
+-- ---- sum_by
 
-pub sum-append : {A : Type 0} (f : A → ℕ) (k l : List A) → sumBy f (k ++ l) ≡ sumBy f k + sumBy f l
+pub sum-append : {A : Type 0} (f : A → ℕ) (k l : List A) → sum_by f (k ++ l) ≡ sum_by f k + sum_by f l
 sum-append f [] l = omega arith
 sum-append f (a ∷ k) l = omega (arith, sum-append f k l)
 
-pub sum-map : {A B : Type 0} (f : B → ℕ) (g : A → B) (l : List A) → sumBy f (map g l) ≡ sumBy (λ a. f (g a)) l
+pub sum-map : {A B : Type 0} (f : B → ℕ) (g : A → B) (l : List A) → sum_by f (map g l) ≡ sum_by (λ a. f (g a)) l
 sum-map f g [] = refl
 sum-map f g (a ∷ l) = omega (arith, sum-map f g l)

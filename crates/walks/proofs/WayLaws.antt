@@ -20,8 +20,8 @@ use Prim.Native.Nat.{ℕ}
 use native.Mathlib.Omega.{arith}
 use Rattle.demand.specs.Sizes.{Each}
 use Rattle.walks.specs.Order.{pack}
-use Rattle.walks.specs.Way.{Spot, Placed, placedAs, Landing, lands, refuses, Way, Ending, fine, stuck, behind}
-use Rattle.walks.specs.Way.{onward, landed, walk, walkOver, walk_of, onwardPlaced, placedUntil, SticksAt, through, relabel, relabelled}
+use Rattle.walks.specs.Way.{Spot, Placed, placed_as, Landing, lands, refuses, Way, Ending, fine, stuck, behind}
+use Rattle.walks.specs.Way.{onward, landed, walk, walk_over, walk_of, onward_placed, placed_until, SticksAt, through, relabel, relabelled}
 use Rattle.walks.specs.Shares.{Shares, nil, more}
 use Rattle.walks.proofs.ListLaws.{each-join}
 use Rattle.walks.proofs.OrderLaws.{pack-map}
@@ -60,7 +60,7 @@ module _ {A : Type 0} (W : Way A) where
     where
       by : (o : Landing W.State) → ((t : W.State) → walk W t (xs ++ ys) ≡ onward (walk W t xs) (λ u. walk W u ys))
           → onward (landed x o) (λ t. walk W t (xs ++ ys)) ≡ onward (onward (landed x o) (λ t. walk W t xs)) (λ u. walk W u ys)
-      by (lands t k) rec = ap (behind (map (placedAs x) k)) (rec t) ∙ onward-behind (map (placedAs x) k) (walk W t xs) (λ u. walk W u ys)
+      by (lands t k) rec = ap (behind (map (placed_as x) k)) (rec t) ∙ onward-behind (map (placed_as x) k) (walk W t xs) (λ u. walk W u ys)
       by (refuses n) rec = refl
 
   pub record Parts (s : W.State) (xs ys : List A) (end : W.State) (log : List (Placed A)) : Type 0 where
@@ -99,36 +99,36 @@ module _ {A : Type 0} (W : Way A) where
   -- ---- where a walk sticks
 
   -- what is placed before a walk sticks, in two parts
-  until-append : (s t : W.State) (xs ys : List A) (l : List (Placed A)) → walk W s xs ≡ fine t l → placedUntil W s (xs ++ ys) ≡ l ++ placedUntil W t ys
+  until-append : (s t : W.State) (xs ys : List A) (l : List (Placed A)) → walk W s xs ≡ fine t l → placed_until W s (xs ++ ys) ≡ l ++ placed_until W t ys
   until-append s t [] ys l e =
       let same : s ≡ t = cc in
       let none : [] ≡ l = cc in
-      ap (λ (z : W.State). placedUntil W z ys) same ∙ ap (λ (z : List (Placed A)). z ++ placedUntil W t ys) none
+      ap (λ (z : W.State). placed_until W z ys) same ∙ ap (λ (z : List (Placed A)). z ++ placed_until W t ys) none
   until-append s t (x ∷ xs) ys l e = by (W.place s x) e (λ u k h. until-append u t xs ys k h)
     where
       then : (u : W.State) (k : List (Placed A))
-          → ((r : List (Placed A)) → walk W u xs ≡ fine t r → placedUntil W u (xs ++ ys) ≡ r ++ placedUntil W t ys)
-          → (o : Ending W.State A) → walk W u xs ≡ o → behind k o ≡ fine t l → k ++ placedUntil W u (xs ++ ys) ≡ l ++ placedUntil W t ys
+          → ((r : List (Placed A)) → walk W u xs ≡ fine t r → placed_until W u (xs ++ ys) ≡ r ++ placed_until W t ys)
+          → (o : Ending W.State A) → walk W u xs ≡ o → behind k o ≡ fine t l → k ++ placed_until W u (xs ++ ys) ≡ l ++ placed_until W t ys
       then u k rec (fine v r) is h =
           let same : v ≡ t = cc in
           let joins : k ++ r ≡ l = cc in
           ap (λ (z : List (Placed A)). k ++ z) (rec r (is ∙ ap (λ (z : W.State). fine z r) same))
-          ∙ (sym (append_assoc k r (placedUntil W t ys)) ∙ ap (λ (z : List (Placed A)). z ++ placedUntil W t ys) joins)
+          ∙ (sym (append_assoc k r (placed_until W t ys)) ∙ ap (λ (z : List (Placed A)). z ++ placed_until W t ys) joins)
       then u k rec (stuck b n) is h = let z : ◌≡◌ {A = ℕ} 0 1 = cc in absurd (omega arith)
 
       by : (o : Landing W.State) → onward (landed x o) (λ u. walk W u xs) ≡ fine t l
-          → ((u : W.State) (k : List (Placed A)) → walk W u xs ≡ fine t k → placedUntil W u (xs ++ ys) ≡ k ++ placedUntil W t ys)
-          → onwardPlaced (landed x o) (λ u. placedUntil W u (xs ++ ys)) ≡ l ++ placedUntil W t ys
-      by (lands u k) h rec = then u (map (placedAs x) k) (rec u) (walk W u xs) refl h
+          → ((u : W.State) (k : List (Placed A)) → walk W u xs ≡ fine t k → placed_until W u (xs ++ ys) ≡ k ++ placed_until W t ys)
+          → onward_placed (landed x o) (λ u. placed_until W u (xs ++ ys)) ≡ l ++ placed_until W t ys
+      by (lands u k) h rec = then u (map (placed_as x) k) (rec u) (walk W u xs) refl h
       by (refuses n) h rec = let z : ◌≡◌ {A = ℕ} 0 1 = cc in absurd (omega arith)
 
-  pub until-fine : (s t : W.State) (xs : List A) (l : List (Placed A)) → walk W s xs ≡ fine t l → placedUntil W s xs ≡ l
-  until-fine s t xs l e = ap (placedUntil W s) (sym (append-nil xs)) ∙ (until-append s t xs [] l e ∙ append-nil l)
+  pub until-fine : (s t : W.State) (xs : List A) (l : List (Placed A)) → walk W s xs ≡ fine t l → placed_until W s xs ≡ l
+  until-fine s t xs l e = ap (placed_until W s) (sym (append-nil xs)) ∙ (until-append s t xs [] l e ∙ append-nil l)
 
   pub until-stuck : (s t : W.State) (xs ys : List A) (a : A) (n : ℕ) (l : List (Placed A)) → walk W s xs ≡ fine t l → W.place t a ≡ refuses n
-      → placedUntil W s (xs ++ (a ∷ ys)) ≡ l
+      → placed_until W s (xs ++ (a ∷ ys)) ≡ l
   until-stuck s t xs ys a n l e none = until-append s t xs (a ∷ ys) l e
-      ∙ (ap (λ (z : Landing W.State). l ++ onwardPlaced (landed a z) (λ u. placedUntil W u ys)) none ∙ append-nil l)
+      ∙ (ap (λ (z : Landing W.State). l ++ onward_placed (landed a z) (λ u. placed_until W u ys)) none ∙ append-nil l)
 
   pub stuck-where : (s : W.State) (xs : List A) (a : A) (n : ℕ) → walk W s xs ≡ stuck a n → SticksAt W s xs a n
   stuck-where s [] a n e = let z : ◌≡◌ {A = ℕ} 0 1 = cc in absurd (omega arith)
@@ -141,10 +141,10 @@ module _ {A : Type 0} (W : Way A) where
       by : (o : Landing W.State) → W.place s x ≡ o → onward (landed x o) (λ t. walk W t xs) ≡ stuck a n
           → ((t : W.State) → walk W t xs ≡ stuck a n → SticksAt W t xs a n) → SticksAt W s (x ∷ xs) a n
       by (lands t k) f h rec =
-          let r = rec t (inside (map (placedAs x) k) (walk W t xs) h) in
-          let past = map (placedAs x) k in
-          let until : past ++ placedUntil W t xs ≡ placedUntil W s (x ∷ xs) =
-          ap (λ (z : Landing W.State). onwardPlaced (landed x z) (λ u. placedUntil W u xs)) (sym f) in
+          let r = rec t (inside (map (placed_as x) k) (walk W t xs) h) in
+          let past = map (placed_as x) k in
+          let until : past ++ placed_until W t xs ≡ placed_until W s (x ∷ xs) =
+          ap (λ (z : Landing W.State). onward_placed (landed x z) (λ u. placed_until W u xs)) (sym f) in
           record {
             ahead = x ∷ r.ahead;
             later = r.later;
@@ -162,7 +162,7 @@ module _ {A : Type 0} (W : Way A) where
             later = xs;
             at = s;
             order = ap (λ (z : A). z ∷ xs) own;
-            reached = ap (λ (z : Landing W.State). fine s (onwardPlaced (landed x z) (λ u. placedUntil W u xs))) (sym f);
+            reached = ap (λ (z : Landing W.State). fine s (onward_placed (landed x z) (λ u. placed_until W u xs))) (sym f);
             refused = ap (W.place s) (sym own) ∙ (f ∙ ap refuses number);
           }
 
@@ -172,7 +172,7 @@ module _ {A : Type 0} (W : Way A) where
     pub rest : List A
     pub at : W.State
     pub order : xs ≡ ahead ++ rest
-    pub reached : walk W s ahead ≡ fine at (placedUntil W s xs)
+    pub reached : walk W s ahead ≡ fine at (placed_until W s xs)
 
   pub until-reaches : (s : W.State) (xs : List A) → Reaches s xs
   until-reaches s xs = by (walk W s xs) refl
@@ -193,19 +193,19 @@ module _ {A : Type 0} (W : Way A) where
   pub walk-stuck : (s : W.State) (xs ys : List A) (a : A) (n : ℕ) → walk W s xs ≡ stuck a n → walk W s (xs ++ ys) ≡ stuck a n
   walk-stuck s xs ys a n e = walk-append s xs ys ∙ ap (λ (o : Ending W.State A). onward o (λ u. walk W u ys)) e
 
-  pub until-still : (s : W.State) (xs ys : List A) (a : A) (n : ℕ) → walk W s xs ≡ stuck a n → placedUntil W s (xs ++ ys) ≡ placedUntil W s xs
+  pub until-still : (s : W.State) (xs ys : List A) (a : A) (n : ℕ) → walk W s xs ≡ stuck a n → placed_until W s (xs ++ ys) ≡ placed_until W s xs
   until-still s xs ys a n e =
       let at = stuck-where s xs a n e in
       let order : xs ++ ys ≡ at.ahead ++ (a ∷ (at.later ++ ys)) =
       ap (λ (z : List A). z ++ ys) at.order ∙ append_assoc at.ahead (a ∷ at.later) ys in
-      ap (placedUntil W s) order
-      ∙ until-stuck s at.at at.ahead (at.later ++ ys) a n (placedUntil W s xs) at.reached at.refused
+      ap (placed_until W s) order
+      ∙ until-stuck s at.at at.ahead (at.later ++ ys) a n (placed_until W s xs) at.reached at.refused
 
 -- ---- what a walk keeps
 
 module _ {A : Type 0} (W : Way A) (Good : A → Type 0) (I : List A → W.State → List (Placed A) → Type 0)
     (step : (done : List A) (s : W.State) (log : List (Placed A)) (a : A) → Good a → I done s log
-    → IfLands (λ t l. I (done ++ (a ∷ [])) t (log ++ map (placedAs a) l)) (W.place s a)) where
+    → IfLands (λ t l. I (done ++ (a ∷ [])) t (log ++ map (placed_as a) l)) (W.place s a)) where
   pub walk-keeps : (done : List A) (s : W.State) (log : List (Placed A)) (xs : List A) → Each Good xs → I done s log
       → IfFine (λ t l. I (done ++ xs) t (log ++ l)) (walk W s xs)
   walk-keeps done s log [] good h = rw (append-nil done, append-nil log) h
@@ -218,31 +218,31 @@ module _ {A : Type 0} (W : Way A) (Good : A → Type 0) (I : List A → W.State 
           (subst (λ (z : List (Placed A)). I ((done ++ (x ∷ [])) ++ xs) t z) (append_assoc log k l) g)
       join k (stuck b n) g = tt
 
-      by : (o : Landing W.State) → IfLands (λ t l. I (done ++ (x ∷ [])) t (log ++ map (placedAs x) l)) o
+      by : (o : Landing W.State) → IfLands (λ t l. I (done ++ (x ∷ [])) t (log ++ map (placed_as x) l)) o
           → ((t : W.State) (k : List (Placed A)) → I (done ++ (x ∷ [])) t (log ++ k)
           → IfFine (λ u l. I ((done ++ (x ∷ [])) ++ xs) u ((log ++ k) ++ l)) (walk W t xs))
           → IfFine (λ t l. I (done ++ (x ∷ xs)) t (log ++ l)) (onward (landed x o) (λ t. walk W t xs))
-      by (lands t k) g rec = join (map (placedAs x) k) (walk W t xs) (rec t (map (placedAs x) k) g)
+      by (lands t k) g rec = join (map (placed_as x) k) (walk W t xs) (rec t (map (placed_as x) k) g)
       by (refuses n) g rec = tt
 
   -- from the beginning
-  pub over-keeps : I [] W.begin [] → (xs : List A) → Each Good xs → (t : W.State) (l : List (Placed A)) → walkOver W xs ≡ fine t l → I xs t l
+  pub over-keeps : I [] W.begin [] → (xs : List A) → Each Good xs → (t : W.State) (l : List (Placed A)) → walk_over W xs ≡ fine t l → I xs t l
   over-keeps start xs good t l e = subst (IfFine (I xs)) e (walk-keeps [] W.begin [] xs good start)
 
 -- ---- item by item
 
 module _ {A : Type 0} (Q : List (Placed A) → A → List Spot → Type 0) where
   pub shares-snoc : {past : List (Placed A)} {xs : List A} {log : List (Placed A)} (a : A) (l : List Spot) → Shares Q past xs log → Q (past ++ log) a l
-      → Shares Q past (xs ++ (a ∷ [])) (log ++ map (placedAs a) l)
+      → Shares Q past (xs ++ (a ∷ [])) (log ++ map (placed_as a) l)
   shares-snoc {past = past} a l nil h =
-      subst (Shares Q past (a ∷ [])) (append-nil (map (placedAs a) l)) (more (subst (λ (z : List (Placed A)). Q z a l) (append-nil past) h) nil)
+      subst (Shares Q past (a ∷ [])) (append-nil (map (placed_as a) l)) (more (subst (λ (z : List (Placed A)). Q z a l) (append-nil past) h) nil)
   shares-snoc {past = past} a l (more {a = b} {k = k} {l = r} {rest = rest} g t) h =
-      let later : Q ((past ++ map (placedAs b) k) ++ r) a l = subst (λ (z : List (Placed A)). Q z a l) (sym (append_assoc past (map (placedAs b) k) r)) h in
-      subst (Shares Q past (b ∷ (rest ++ (a ∷ [])))) (sym (append_assoc (map (placedAs b) k) r (map (placedAs a) l))) (more g (shares-snoc a l t later))
+      let later : Q ((past ++ map (placed_as b) k) ++ r) a l = subst (λ (z : List (Placed A)). Q z a l) (sym (append_assoc past (map (placed_as b) k) r)) h in
+      subst (Shares Q past (b ∷ (rest ++ (a ∷ [])))) (sym (append_assoc (map (placed_as b) k) r (map (placed_as a) l))) (more g (shares-snoc a l t later))
 
 -- what is placed is of the items walked
 module _ {A : Type 0} (P : A → Type 0) (a : A) (good : P a) where
-  pub placed-each : (l : List Spot) → Each (λ e. P e.item) (map (placedAs a) l)
+  pub placed-each : (l : List Spot) → Each (λ e. P e.item) (map (placed_as a) l)
   placed-each [] = tt
   placed-each (e ∷ l) = (good, placed-each l)
 
@@ -253,19 +253,19 @@ walk-items {A} W P s t xs l all e =
     (walk-keeps W P (λ done u k. Each (λ (x : Placed A). P x.item) k) step [] s [] xs all tt)
   where
     step : (done : List A) (u : W.State) (log : List (Placed A)) (a : A) → P a → Each (λ (x : Placed A). P x.item) log
-        → IfLands (λ v k. Each (λ (x : Placed A). P x.item) (log ++ map (placedAs a) k)) (W.place u a)
+        → IfLands (λ v k. Each (λ (x : Placed A). P x.item) (log ++ map (placed_as a) k)) (W.place u a)
     step done u log a good old = by (W.place u a)
       where
-        by : (o : Landing W.State) → IfLands (λ v k. Each (λ (x : Placed A). P x.item) (log ++ map (placedAs a) k)) o
-        by (lands v k) = each-join (λ (x : Placed A). P x.item) log (map (placedAs a) k) old (placed-each P a good k)
+        by : (o : Landing W.State) → IfLands (λ v k. Each (λ (x : Placed A). P x.item) (log ++ map (placed_as a) k)) o
+        by (lands v k) = each-join (λ (x : Placed A). P x.item) log (map (placed_as a) k) old (placed-each P a good k)
         by (refuses n) = tt
 
 -- ---- items that stand for others
 
 module _ {A B : Type 0} (f : A → B) where
-  placed-as : (a : A) (l : List Spot) → map (relabel f) (map (placedAs a) l) ≡ map (placedAs (f a)) l
+  placed-as : (a : A) (l : List Spot) → map (relabel f) (map (placed_as a) l) ≡ map (placed_as (f a)) l
   placed-as a [] = refl
-  placed-as a (e ∷ l) = ap (λ (z : List (Placed B)). placedAs (f a) e ∷ z) (placed-as a l)
+  placed-as a (e ∷ l) = ap (λ (z : List (Placed B)). placed_as (f a) e ∷ z) (placed-as a l)
 
   behind-map : {S : Type 0} (l : List (Placed A)) (o : Ending S A) → relabelled f (behind l o) ≡ behind (map (relabel f) l) (relabelled f o)
   behind-map l (fine s k) = rw map-append
@@ -277,11 +277,11 @@ module _ {A B : Type 0} (f : A → B) where
     where
       by : (o : Landing W.State) → ((t : W.State) → relabelled f (walk (through f W) t xs) ≡ walk W t (map f xs))
           → relabelled f (onward (landed x o) (λ t. walk (through f W) t xs)) ≡ onward (landed (f x) o) (λ t. walk W t (map f xs))
-      by (lands t k) rec = behind-map (map (placedAs x) k) (walk (through f W) t xs)
+      by (lands t k) rec = behind-map (map (placed_as x) k) (walk (through f W) t xs)
           ∙ (ap (λ (z : List (Placed B)). behind z (relabelled f (walk (through f W) t xs))) (placed-as x k)
-          ∙ ap (behind (map (placedAs (f x)) k)) (rec t))
+          ∙ ap (behind (map (placed_as (f x)) k)) (rec t))
       by (refuses n) rec = refl
 
   -- in packing order
   pub of_map : (W : Way B) (xs : List A) → relabelled f (walk_of (through f W) xs) ≡ walk_of W (map f xs)
-  of_map W xs = walk-map W W.begin (pack (through f W).beats xs) ∙ ap (walkOver W) (pack-map f W.beats xs)
+  of_map W xs = walk-map W W.begin (pack (through f W).beats xs) ∙ ap (walk_over W) (pack-map f W.beats xs)

@@ -4,8 +4,8 @@ use mathlib.Core.Path.{◌≡◌, refl}
 use mathlib.Core.List.{[]}
 use Rattle.demand.specs.Cases.{piece, whole}
 use Rattle.walks.specs.Halves.{denser}
-use Rattle.walks.specs.Worked.{rankedTask, misranked, rankRows}
+use Rattle.walks.specs.Worked.{ranked_task, misranked, rank_rows}
 
-pub ranks-hold : misranked rankRows ≡ []
-unfolding piece whole denser rankedTask misranked rankRows
+pub ranks-hold : misranked rank_rows ≡ []
+unfolding piece whole denser ranked_task misranked rank_rows
 ranks-hold = refl

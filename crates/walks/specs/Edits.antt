@@ -3,7 +3,7 @@
 --   Keyed A K           items of A, their keys, and the test that two keys are equal
 --   Edit A K            an item to add, a key to withdraw, an item to put in the place of the one with its key
 --   edited N e items    the items after it: one more at the end, one less, or one in the place of another
---   editedKey N e       the key that it is about
+--   edited_key N e       the key that it is about
 use Rattle.std.specs.Prelude.{Bool, cond, List, [], ◌∷◌, ◌++◌}
 
 pub record Keyed (A K : Type 0) : Type 0 where
@@ -29,7 +29,7 @@ module _ {A K : Type 0} (N : Keyed A K) where
   edited (withdraw k) items = without k items
   edited (retime a) items = replaced a items
 
-  abbrev pub editedKey : Edit A K → K
-  editedKey (add a) = N.key a
-  editedKey (withdraw k) = k
-  editedKey (retime a) = N.key a
+  abbrev pub edited_key : Edit A K → K
+  edited_key (add a) = N.key a
+  edited_key (withdraw k) = k
+  edited_key (retime a) = N.key a

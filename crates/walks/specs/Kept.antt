@@ -1,6 +1,6 @@
 -- What demand 3's second and third sentences speak of, for any walk. Items are known by a key: a task by its name.
 --
---   ofKey N k log         what is placed of the item with the key k, in placement order
+--   of_key N k log         what is placed of the item with the key k, in placement order
 --   Among N k l           an item of l has the key k
 --   Before N k b l        b comes before each item in l with the key k
 --   Behind N k l p b r    l is p, then b, then r, and no item with the key k is one of b and r: where l holds k, it comes before
@@ -8,12 +8,12 @@
 use Rattle.std.specs.Prelude.{◌≡◌, List, [], ◌∷◌, ◌++◌}
 use Rattle.demand.specs.Sizes.{Some}
 use Rattle.walks.specs.Lists.{only}
-use Rattle.walks.specs.Way.{Placed, Way, fine, walkOver}
+use Rattle.walks.specs.Way.{Placed, Way, fine, walk_over}
 use Rattle.walks.specs.Edits.{Keyed}
 
 module _ {A K : Type 0} (N : Keyed A K) where
-  abbrev pub ofKey : K → List (Placed A) → List (Placed A)
-  ofKey k log = only (λ e. N.same k (N.key e.item)) log
+  abbrev pub of_key : K → List (Placed A) → List (Placed A)
+  of_key k log = only (λ e. N.same k (N.key e.item)) log
 
   abbrev pub Among : K → List A → Type 0
   Among k l = Some (λ a. N.key a ≡ k) l
@@ -29,5 +29,5 @@ pub record Meet {A : Type 0} (W : Way A) (p p' : List A) : Type 0 where
   pub at : W.State
   pub old-log : List (Placed A)
   pub new-log : List (Placed A)
-  pub old-walk : walkOver W p ≡ fine at old-log
-  pub new-walk : walkOver W p' ≡ fine at new-log
+  pub old-walk : walk_over W p ≡ fine at old-log
+  pub new-walk : walk_over W p' ≡ fine at new-log

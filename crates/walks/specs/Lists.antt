@@ -5,7 +5,7 @@
 --   Chain R l         each element has R with all that stand behind it
 --   keep t a l        a in front of l, where t is true
 --   only test l       the elements that pass the test, in order
---   sumBy f l         f summed over l
+--   sum_by f l         f summed over l
 use Rattle.std.specs.Prelude.{◌≡◌, Bool, true, false, List, [], ◌∷◌, ℕ, ◌+◌}
 use Rattle.demand.specs.Sizes.{Each}
 
@@ -28,6 +28,6 @@ abbrev pub only : {A : Type 0} → (A → Bool) → List A → List A
 only test [] = []
 only test (a ∷ l) = keep (test a) a (only test l)
 
-abbrev pub sumBy : {A : Type 0} → (A → ℕ) → List A → ℕ
-sumBy f [] = 0
-sumBy f (a ∷ l) = f a + sumBy f l
+abbrev pub sum_by : {A : Type 0} → (A → ℕ) → List A → ℕ
+sum_by f [] = 0
+sum_by f (a ∷ l) = f a + sum_by f l

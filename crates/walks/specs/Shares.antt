@@ -8,21 +8,21 @@ use Rattle.demand.specs.declared.Kind.{Kind}
 use Rattle.demand.specs.declared.Kind.TheVariants.{Whole, First, Last}
 use Rattle.demand.specs.declared.Piece.{Piece}
 use Rattle.demand.specs.Sizes.{Each}
-use Rattle.walks.specs.Lists.{Apart, sumBy}
-use Rattle.walks.specs.Way.{Spot, Placed, placedAs}
+use Rattle.walks.specs.Lists.{Apart, sum_by}
+use Rattle.walks.specs.Way.{Spot, Placed, placed_as}
 
 pub data Kinds : List Kind → Type 0 where
-  in_one : Kinds (Whole ∷ [])
-  in_two : Kinds (First ∷ Last ∷ [])
+  in-one : Kinds (Whole ∷ [])
+  in-two : Kinds (First ∷ Last ∷ [])
 
 pub record Divides (m : ℕ) (w : Piece) (l : List Spot) : Type 0 where
   pub kinds : Kinds (map (λ e. e.piece.kind) l)
   pub apart : Apart (λ e. e.on) l
   pub within : Each (λ e. e.on < m) l
   pub some : Each (λ e. 1 ≤ e.piece.budget) l
-  pub budgets : sumBy (λ e. e.piece.budget) l ≡ w.budget
-  pub windows : sumBy (λ e. e.piece.window) l ≡ w.window
+  pub budgets : sum_by (λ e. e.piece.budget) l ≡ w.budget
+  pub windows : sum_by (λ e. e.piece.window) l ≡ w.window
 
 pub data Shares {A : Type 0} (Q : List (Placed A) → A → List Spot → Type 0) : List (Placed A) → List A → List (Placed A) → Type 0 where
   nil : {past : List (Placed A)} → Shares Q past [] []
-  more : {past : List (Placed A)} {a : A} {k : List Spot} {l : List (Placed A)} {rest : List A} → Q past a k → Shares Q (past ++ map (placedAs a) k) rest l → Shares Q past (a ∷ rest) (map (placedAs a) k ++ l)
+  more : {past : List (Placed A)} {a : A} {k : List Spot} {l : List (Placed A)} {rest : List A} → Q past a k → Shares Q (past ++ map (placed_as a) k) rest l → Shares Q past (a ∷ rest) (map (placed_as a) k ++ l)

@@ -7,13 +7,13 @@
 --   Placed A           a piece, the item that it is of, and the core that it is on
 --   Ending S A         a walk at its end: its state and what it placed, in placement order; or the item that it stuck at and the refusal's number
 --   walk W s items     the items in turn, from the state s
---   walkOver W items   the same from the beginning
+--   walk_over W items   the same from the beginning
 --   walk_of W items     the walk over all items in packing order, from the beginning
---   placedUntil W s items      what is placed before the first item that is refused, or of all of them, in placement order
+--   placed_until W s items      what is placed before the first item that is refused, or of all of them, in placement order
 --   SticksAt W s items a n     a is the first of the items that has no place: those ahead of it are placed, and where they end it is refused with n
 --   through f W        the same way for items that stand for others: places in a list for its tasks
 --   relabelled f o     the same ending, of what the items stand for
---   onCore q log       what is on core q, in placement order
+--   on_core q log       what is on core q, in placement order
 --   row_of q log        its row of pieces
 use Rattle.std.specs.Prelude.{◌≡◌, Bool, List, [], ◌∷◌, ◌++◌, map, ℕ, eqb}
 use Rattle.demand.specs.declared.Piece.{Piece}
@@ -45,11 +45,11 @@ pub data Ending (S A : Type 0) : Type 0 where
 
 -- ---- the walk
 
-abbrev pub placedAs : {A : Type 0} → A → Spot → Placed A
-placedAs a e = record { on = e.on; item = a; piece = e.piece }
+abbrev pub placed_as : {A : Type 0} → A → Spot → Placed A
+placed_as a e = record { on = e.on; item = a; piece = e.piece }
 
 abbrev pub landed : {S A : Type 0} → A → Landing S → Ending S A
-landed a (lands s l) = fine s (map (placedAs a) l)
+landed a (lands s l) = fine s (map (placed_as a) l)
 landed a (refuses n) = stuck a n
 
 -- what was placed before, and then this
@@ -63,24 +63,24 @@ onward (fine s l) go = behind l (go s)
 onward (stuck a n) go = stuck a n
 
 -- the same of what is placed: where a walk sticks, nothing more is
-abbrev pub onwardPlaced : {S A : Type 0} → Ending S A → (S → List (Placed A)) → List (Placed A)
-onwardPlaced (fine s l) go = l ++ go s
-onwardPlaced (stuck a n) go = []
+abbrev pub onward_placed : {S A : Type 0} → Ending S A → (S → List (Placed A)) → List (Placed A)
+onward_placed (fine s l) go = l ++ go s
+onward_placed (stuck a n) go = []
 
 module _ {A : Type 0} (W : Way A) where
   abbrev pub walk : W.State → List A → Ending W.State A
   walk s [] = fine s []
   walk s (a ∷ rest) = onward (landed a (W.place s a)) (λ t. walk t rest)
 
-  abbrev pub walkOver : List A → Ending W.State A
-  walkOver items = walk W.begin items
+  abbrev pub walk_over : List A → Ending W.State A
+  walk_over items = walk W.begin items
 
   abbrev pub walk_of : List A → Ending W.State A
-  walk_of items = walkOver (pack W.beats items)
+  walk_of items = walk_over (pack W.beats items)
 
-  abbrev pub placedUntil : W.State → List A → List (Placed A)
-  placedUntil s [] = []
-  placedUntil s (a ∷ rest) = onwardPlaced (landed a (W.place s a)) (λ t. placedUntil t rest)
+  abbrev pub placed_until : W.State → List A → List (Placed A)
+  placed_until s [] = []
+  placed_until s (a ∷ rest) = onward_placed (landed a (W.place s a)) (λ t. placed_until t rest)
 
 -- a is the first of the items that has no place
 pub record SticksAt {A : Type 0} (W : Way A) (s : W.State) (items : List A) (a : A) (n : ℕ) : Type 0 where
@@ -88,7 +88,7 @@ pub record SticksAt {A : Type 0} (W : Way A) (s : W.State) (items : List A) (a :
   pub later : List A
   pub at : W.State
   pub order : items ≡ ahead ++ (a ∷ later)
-  pub reached : walk W s ahead ≡ fine at (placedUntil W s items)
+  pub reached : walk W s ahead ≡ fine at (placed_until W s items)
   pub refused : W.place at a ≡ refuses n
 
 -- ---- items that stand for others
@@ -107,8 +107,8 @@ module _ {A B : Type 0} (f : A → B) where
 -- ---- what was placed
 
 module _ {A : Type 0} where
-  abbrev pub onCore : ℕ → List (Placed A) → List (Placed A)
-  onCore q log = only (λ e. eqb e.on q) log
+  abbrev pub on_core : ℕ → List (Placed A) → List (Placed A)
+  on_core q log = only (λ e. eqb e.on q) log
 
   abbrev pub row_of : ℕ → List (Placed A) → List Piece
-  row_of q log = map (λ e. e.piece) (onCore q log)
+  row_of q log = map (λ e. e.piece) (on_core q log)

@@ -3,7 +3,7 @@
 --
 --   Rank            C and D of two tasks, and whether the first comes before the second by these
 --   misranked rs    the rows that do not hold
---   rankRows        the table
+--   rank_rows        the table
 use Rattle.std.specs.Prelude.{Bool, true, false, cond, List, [], ◌∷◌, ℕ}
 use Rattle.demand.specs.declared.Piece.{Piece}
 use Rattle.demand.specs.Cases.{whole}
@@ -13,16 +13,16 @@ pub data Rank : Type 0 where
   first : (c d c' d' : ℕ) → Rank
   not_first : (c d c' d' : ℕ) → Rank
 
-unfoldable pub rankedTask : ℕ → ℕ → Piece
-rankedTask c d = whole c d d
+unfoldable pub ranked_task : ℕ → ℕ → Piece
+ranked_task c d = whole c d d
 
 unfoldable pub misranked : List Rank → List Rank
 misranked [] = []
-misranked (first c d c' d' ∷ rs) = cond (denser (rankedTask c d) (rankedTask c' d')) (misranked rs) (first c d c' d' ∷ misranked rs)
-misranked (not_first c d c' d' ∷ rs) = cond (denser (rankedTask c d) (rankedTask c' d')) (not_first c d c' d' ∷ misranked rs) (misranked rs)
+misranked (first c d c' d' ∷ rs) = cond (denser (ranked_task c d) (ranked_task c' d')) (misranked rs) (first c d c' d' ∷ misranked rs)
+misranked (not_first c d c' d' ∷ rs) = cond (denser (ranked_task c d) (ranked_task c' d')) (not_first c d c' d' ∷ misranked rs) (misranked rs)
 
-unfoldable pub rankRows : List Rank
-rankRows =
+unfoldable pub rank_rows : List Rank
+rank_rows =
     -- 62·109 = 6758 is more than 43·139 = 5977
     first 62 139 43 109
     ∷ not_first 43 109 62 139

@@ -1,10 +1,10 @@
 -- `withdraw` meets its contract: the state's fault, the edit's, or the plan of the new list.
 -- Assumes nothing.
 use mathlib.Core.Path.{◌≡◌, sym, ◌∙◌}
-use Rattle.task.specs.Tasks.{stateFault}
+use Rattle.task.specs.Tasks.{state_fault}
 use Rattle.task.proofs.TaskLaws.{state-sane}
 use Rattle.walks.specs.Edits.{withdraw}
-use Rattle.edits.specs.Edits.{tasksHeld, editFault}
+use Rattle.edits.specs.Edits.{tasks_held, edit_fault}
 use Rattle.edits.proofs.EditLaws.{edit-state, edit-own, edit-made}
 use borrow.Author.Rules.{rules}
 use Rattle.edits.proofs.withdraw.Statement.{statement}
@@ -13,12 +13,12 @@ use Rattle.edits.proofs.withdraw.Tie as tie
 -- no fault of the state, and none of the edit, told where they were tried
 sound : (c : tie.Else1)
     → let start = c.before.before.before.before.before.args in
-    stateFault start.state.machine start.state.costs start.state.tasks.count start.state.tasks.list ≡ 0
+    state_fault start.state.machine start.state.costs start.state.tasks.count start.state.tasks.list ≡ 0
 sound c = sym c.before.state-fault.ensures ∙ c.if1.false
 
 right : (c : tie.Else2)
     → let start = c.before.before.before.before.before.before.before.args in
-    editFault (withdraw start.name) (tasksHeld start.state) ≡ 0
+    edit_fault (withdraw start.name) (tasks_held start.state) ≡ 0
 right c = sym c.before.withdraw-fault.ensures ∙ c.if2.false
 
 state-fault-requires : tie.Need-state-fault-requires

@@ -3,7 +3,7 @@ use mathlib.Core.Path.{◌≡◌, ap}
 use Prim.Native.Nat.{◌+◌, ◌*◌, ◌-◌, ◌≤◌}
 use native.Mathlib.Omega.{arith}
 use borrow.Author.Rules.{rules}
-use Rattle.listing.specs.Listing.{listedOn}
+use Rattle.listing.specs.Listing.{listed_on}
 use Rattle.listing.proofs.EntryLaws.{listed-none, listed_more, listed-few}
 use Rattle.listing.proofs.most_bytes.Statement.{statement}
 use Rattle.listing.proofs.most_bytes.Tie as tie
@@ -12,7 +12,7 @@ use Rattle.listing.proofs.most_bytes.Lts as lts
 use Rattle.listing.proofs.seats.Reads as seats-reads
 
 abbrev invariant-loop : tie.invariant-loop
-invariant-loop lens most₀ core₀ most core = (core ≤ 16) × (most ≡ 47 + 142 * listedOn lens core)
+invariant-loop lens most₀ core₀ most core = (core ≤ 16) × (most ≡ 47 + 142 * listed_on lens core)
 
 abbrev decreases-loop : tie.decreases-loop
 decreases-loop lens most₀ core₀ most core = 16 - core
@@ -59,7 +59,7 @@ returns : tie.Need-returns invariant-loop decreases-loop
 returns c =
     let l = c.before.loop in
     let all : l.core ≡ 16 = omega arith in
-    omega (arith, l.invariant.1, ap (listedOn c.before.before.args.t1) all)
+    omega (arith, l.invariant.1, ap (listed_on c.before.before.args.t1) all)
 
 pub most-bytes-spec : {M : Type 1} → statement M
 most-bytes-spec =

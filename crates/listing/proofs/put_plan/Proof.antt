@@ -11,9 +11,9 @@ use Rattle.task.specs.Tasks.{past}
 use Rattle.plan.specs.declared.Stored.{Stored}
 use Rattle.plan.specs.Layout.{blank}
 use Rattle.listing.specs.Text.{Wrote}
-use Rattle.listing.specs.Listing.{spelling, entriesOn, entryLines, header, listingOf, planWith, listedOn}
+use Rattle.listing.specs.Listing.{spelling, entries_on, entry_lines, header, listing_of, plan_with, listed_on}
 use Rattle.listing.proofs.TextLaws.{wrote_none, wrote-both, wrote-length}
-use Rattle.listing.proofs.EntryLaws.{rowRun, seat-more, row-over, at-within, row-all, listed-none, listed_more, listed-few}
+use Rattle.listing.proofs.EntryLaws.{row_run, seat-more, row-over, at-within, row-all, listed-none, listed_more, listed-few}
 use Rattle.listing.proofs.put_plan.Statement.{statement}
 use Rattle.listing.proofs.put_plan.Tie as tie
 use Rattle.listing.proofs.put_plan.Reads as reads
@@ -27,8 +27,8 @@ use Rattle.listing.proofs.within.Reads as within-reads
 
 abbrev invariant-loop : tie.invariant-loop
 invariant-loop buf₀ costs tasks layout k₀ core₀ i₀ buf k core i =
-    (core ≤ 16) × (i ≤ 64) × (i ≤ get_or layout.lens core 0) × (k ≤ 47 + 142 * (listedOn layout.lens core + i))
-    × Wrote buf₀ k₀ (entryLines (entriesOn (planWith costs tasks layout) core) ++ entryLines (rowRun (planWith costs tasks layout) core i)) k buf
+    (core ≤ 16) × (i ≤ 64) × (i ≤ get_or layout.lens core 0) × (k ≤ 47 + 142 * (listed_on layout.lens core + i))
+    × Wrote buf₀ k₀ (entry_lines (entries_on (plan_with costs tasks layout) core) ++ entry_lines (row_run (plan_with costs tasks layout) core i)) k buf
 
 abbrev decreases-loop : tie.decreases-loop
 decreases-loop buf₀ costs tasks layout k₀ core₀ i₀ buf k core i = 65 * (16 - core) - i
@@ -118,7 +118,7 @@ loop-again c =
     let at-loop-test = near-Within.before.before.before.before.before in
     let b = at-loop-test.before.before.before.before.before.before.before in
     let s = b.args in
-    let p = planWith s.costs s.t3 s.t4 in
+    let p = plan_with s.costs s.t3 s.t4 in
     let h = at-loop-test.before.before.before.before.put-header in
     let l = at-loop-test.before.loop in
     let f = c.before.before.put-piece in
@@ -149,7 +149,7 @@ loop-again-2 : tie.Need-loop-preserved-2 invariant-loop decreases-loop
 loop-again-2 c =
     let b = c.before.before.before.before.before.before.before.before.before.before in
     let s = b.args in
-    let p = planWith s.costs s.t3 s.t4 in
+    let p = plan_with s.costs s.t3 s.t4 in
     let h = c.before.before.before.before.before.before.before.put-header in
     let l = c.before.before.before.before.loop in
     let n = c.before.seats in
@@ -169,11 +169,11 @@ same_length c =
     wrote-length _ _ _ _ _ c.before.loop.invariant.4 ∙ wrote-length _ _ _ _ _ h.ensures.0
 
 returns : tie.Need-returns invariant-loop decreases-loop
-unfolding listingOf header
+unfolding listing_of header
 returns c =
     let b = c.before.before.before.before.before.before.before in
     let s = b.args in
-    let p = planWith s.costs s.t3 s.t4 in
+    let p = plan_with s.costs s.t3 s.t4 in
     let h = c.before.before.before.before.put-header in
     let l = c.before.loop in
     let all : l.core ≡ 16 = omega arith in
@@ -184,10 +184,10 @@ returns c =
       ap (λ (q : ℕ). get_or s.t4.lens q 0) all,
       get_or-eq_default s.t4.lens 0 {n = 16} (omega (arith, lens-long b)),
     ) in
-    let rows : Wrote h.new.0 h.result (entryLines (entriesOn p 16)) l.k l.buf =
-    subst (λ (t : List ℕ). Wrote h.new.0 h.result t l.k l.buf) (rw (all, none) (append-nil (entryLines (entriesOn p 16))))
+    let rows : Wrote h.new.0 h.result (entry_lines (entries_on p 16)) l.k l.buf =
+    subst (λ (t : List ℕ). Wrote h.new.0 h.result t l.k l.buf) (rw (all, none) (append-nil (entry_lines (entries_on p 16))))
     l.invariant.4 in
-    (wrote-both h.ensures.0 rows, omega (arith, l.invariant.3, none, ap (listedOn s.t4.lens) all))
+    (wrote-both h.ensures.0 rows, omega (arith, l.invariant.3, none, ap (listed_on s.t4.lens) all))
 
 pub put-plan-spec : {M : Type 1} → statement M
 put-plan-spec =

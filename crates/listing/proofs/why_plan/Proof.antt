@@ -8,13 +8,13 @@ use Rattle.demand.specs.declared.Piece.{Piece}
 use Rattle.demand.proofs.RunLaws.{length-mapped}
 use Rattle.task.specs.declared.Task.{Task}
 use Rattle.task.specs.declared.Times.{Times}
-use Rattle.task.specs.Tasks.{taskAt, past, wholePiece}
+use Rattle.task.specs.Tasks.{task_at, past, whole_piece}
 use Rattle.walks.specs.Way.{Placed}
 use Rattle.plan.specs.Walk.{whole_at}
 use Rattle.listing.specs.Papers.{Paper, note_of, left}
 use Rattle.listing.specs.Listing.{spelling}
-use Rattle.listing.specs.Why.{noRoomLine, rowSeats, whyOf}
-use Rattle.listing.specs.ways.SeatArrays.{seatsLaid, frontOf}
+use Rattle.listing.specs.Why.{no_room_line, row_seats, why_of}
+use Rattle.listing.specs.Ways.SeatArrays.{seats_laid, front_of}
 use Rattle.listing.proofs.EntryLaws.{at-within}
 use Rattle.listing.proofs.WhyTextLaws.{front-some}
 use Rattle.listing.proofs.WhyPlacedLaws.{asked-outside}
@@ -151,15 +151,15 @@ returns-4 c =
     let q = s.plan.machine.cores - 1 in
     let long : length ts ≡ 64 = tasks-long start in
     let is : s.stuck ≡ suc k = omega (arith, if3.false) in
-    let name : spelling named.result ≡ spelling (taskAt ts k).name =
+    let name : spelling named.result ≡ spelling (task_at ts k).name =
     named.ensures ∙ at-within (λ (t : Task). spelling t.name) ts 64 k _ _ past long within.ensures.1 in
     let whole : whole-piece.result ≡ whole_at ts k =
-    whole-piece.ensures ∙ (ap wholePiece timed.ensures ∙ ap wholePiece (at-within (λ (t : Task). t.times) ts 64 k _ _ past long within.ensures.1)) in
+    whole-piece.ensures ∙ (ap whole_piece timed.ensures ∙ ap whole_piece (at-within (λ (t : Task). t.times) ts 64 k _ _ past long within.ensures.1)) in
     let front = front-some wide.result (spelling named.result) wide2.result (λ e. omega (arith, wide.ensures, if3.false))
-    ∙ ((λ i. noRoomLine (wide.ensures i) (name i) (wide2.ensures i))) in
+    ∙ ((λ i. no_room_line (wide.ensures i) (name i) (wide2.ensures i))) in
     let seats = seat.seats q
     ∙ (ap (λ (es : List (Placed ℕ)). es ++ (record { on = q; item = k; piece = whole-piece.result } ∷ [])) laid.0
-    ∙ ap (λ (x : Piece). rowSeats s.plan.layout q ++ (record { on = q; item = k; piece = x } ∷ [])) whole) in
+    ∙ ap (λ (x : Piece). row_seats s.plan.layout q ++ (record { on = q; item = k; piece = x } ∷ [])) whole) in
     let same = stuck-asked s.plan s.stuck s.core (omega (arith, if1.false)) (omega (arith, if2.false))
     _ (lay-seats2.result + 1) lay-seat.new.1.0 lay-seat.new.0 k is front (omega (arith, laid.1)) seats in
     (w.ensures.0.0 ∙ ap (λ (p : Paper). note_of p (length old)) same, w.ensures.0.1 ∙ ap (λ (p : Paper). left p old) same, w.ensures.1.0, w.ensures.1.1)

@@ -1,7 +1,7 @@
 -- `why_run` meets its contract: the listing of the records, with no line in front.
 use mathlib.Core.Path.{◌≡◌, ap, ◌∙◌}
 use lib.ListN.{length, replicate}
-use Rattle.task.specs.Tasks.{noTask}
+use Rattle.task.specs.Tasks.{no_task}
 use Rattle.listing.specs.Papers.{Paper, note_of, left}
 use Rattle.listing.specs.Listing.{spelling}
 use Rattle.listing.proofs.WhyPaperLaws.{front-none, run-asked}
@@ -33,7 +33,7 @@ returns c =
     let none = c.before.before.before.before.before.room-for-all in
     let old = s.buf.now in
     let empty = front-none none.result.place (spelling none.result.name) none.result.cores none.ensures in
-    let same = run-asked _ empty s.costs s.count (replicate 64 noTask) (replicate 79 0) s.records.now in
+    let same = run-asked _ empty s.costs s.count (replicate 64 no_task) (replicate 79 0) s.records.now in
     (w.ensures.0.0 ∙ ap (λ (p : Paper). note_of p (length old)) same, w.ensures.0.1 ∙ ap (λ (p : Paper). left p old) same, w.ensures.1.0, w.ensures.1.1)
 
 pub why-run-spec : {M : Type 1} → statement M

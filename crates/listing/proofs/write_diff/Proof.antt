@@ -6,7 +6,7 @@ use native.Mathlib.Nat.{zero-add}
 use native.Mathlib.Omega.{arith}
 use lib.ListN.{length}
 use Rattle.listing.specs.Text.{Wrote}
-use Rattle.listing.specs.Diff.{diffOf}
+use Rattle.listing.specs.Diff.{diff_of}
 use Rattle.listing.proofs.TextLaws.{first-pass, second-pass, over-short, over-whole, wrote-length}
 use Rattle.listing.proofs.DiffPlanLaws.{stands-low, diff-wrote}
 use borrow.Author.Rules.{rules}
@@ -67,7 +67,7 @@ returns c =
     let s = laid.before.before.before.before.before.before.before.before.before.before.before.before.before.args in
     let p = s.first in
     let q = s.second in
-    let t = diffOf p q in
+    let t = diff_of p q in
     let y = s.buf.now in
     let a = laid.before.before.before.before.before.before.before.before.lay-ranks in
     let b = laid.before.before.before.before.before.before.lay-ranks2 in
@@ -112,7 +112,7 @@ returns-2 c =
     let s = laid.before.before.before.before.before.before.before.before.before.before.before.before.before.args in
     let p = s.first in
     let q = s.second in
-    let t = diffOf p q in
+    let t = diff_of p q in
     let y = s.buf.now in
     let a = laid.before.before.before.before.before.before.before.before.lay-ranks in
     let b = laid.before.before.before.before.before.before.lay-ranks2 in
@@ -156,7 +156,7 @@ returns-3 c =
     let s = laid.before.before.before.before.before.before.before.before.before.before.before.before.before.args in
     let p = s.first in
     let q = s.second in
-    let t = diffOf p q in
+    let t = diff_of p q in
     let y = s.buf.now in
     let a = laid.before.before.before.before.before.before.before.before.lay-ranks in
     let b = laid.before.before.before.before.before.before.lay-ranks2 in

@@ -5,7 +5,7 @@ use Prim.Native.Nat.{◌≤◌, ◌<◌}
 use native.Mathlib.Nat.{zero-add}
 use native.Mathlib.Omega.{arith}
 use lib.ListN.{length}
-use Rattle.listing.specs.Listing.{listingOf}
+use Rattle.listing.specs.Listing.{listing_of}
 use Rattle.listing.proofs.TextLaws.{first-pass, second-pass, over-short, over-whole}
 use Rattle.listing.proofs.EntryLaws.{listing-with, listed-few}
 use borrow.Author.Rules.{rules}
@@ -32,11 +32,11 @@ returns c =
     let y = start.buf.now in
     let r = c.before.before.put-plan in
     let w = rw (listing-with p) at r.ensures.0 in
-    let j : r.result ≡ length (listingOf p) = w.place ∙ rw zero-add in
+    let j : r.result ≡ length (listing_of p) = w.place ∙ rw zero-add in
     let if1 = c.before.before.before.before.if1 in
     let most_bytes = c.before.before.before.before.before.most_bytes in
-    let fits : length (listingOf p) ≤ length y = omega (arith, j, r.ensures.1, most_bytes.ensures, if1.true) in
-    (j, over-whole (listingOf p) y r.new.0 r.result w fits, omega (arith, r.ensures.1, listed-few p.layout.lens 16))
+    let fits : length (listing_of p) ≤ length y = omega (arith, j, r.ensures.1, most_bytes.ensures, if1.true) in
+    (j, over-whole (listing_of p) y r.new.0 r.result w fits, omega (arith, r.ensures.1, listed-few p.layout.lens 16))
 
 slice-relend-prefix-put-plan : tie.Need-slice-relend-prefix-put-plan
 slice-relend-prefix-put-plan c = search rules
@@ -54,7 +54,7 @@ returns-2 : tie.Need-returns-2
 returns-2 c =
     let start = c.before.before.before.before.before.before.before.before.before.args in
     let p = start.plan in
-    let t = listingOf p in
+    let t = listing_of p in
     let y = start.buf.now in
     let r = c.before.before.before.put-plan2 in
     let w = rw (listing-with p) at r.ensures.0 in
@@ -74,7 +74,7 @@ returns-3 c =
     let at-if2 = c.before.before.before.before in
     let start = at-if2.before.before.before.before.before.before.before.before.before.args in
     let p = start.plan in
-    let t = listingOf p in
+    let t = listing_of p in
     let y = start.buf.now in
     let r = at-if2.before.before.before.put-plan2 in
     let w = rw (listing-with p) at r.ensures.0 in

@@ -4,7 +4,7 @@ use mathlib.Core.Path.{◌≡◌, refl, ◌∙◌}
 use Prim.Native.Nat.{ℕ}
 use lib.ListN.{length, take, length-replicate}
 use Rattle.demand.proofs.RunLaws.{length-mapped}
-use Rattle.task.specs.Tasks.{stateFault}
+use Rattle.task.specs.Tasks.{state_fault}
 use Rattle.task.proofs.TaskLaws.{Sane, state-sane}
 use Rattle.plan.proofs.PlanLaws.{no-fault, small-laid, walk-fits, walk-laid}
 use Rattle.plan.proofs.ReplyLaws.{all-fits, fault-replied, stuck-replied, fine-replied}
@@ -27,7 +27,7 @@ long-list c = search (rules, length-mapped)
 
 -- what is not refused has no fault
 good : (c : tie.Else1)
-    → let s = c.before.before.args in stateFault s.machine s.costs s.tasks.count s.tasks.list ≡ 0
+    → let s = c.before.before.args in state_fault s.machine s.costs s.tasks.count s.tasks.list ≡ 0
 good c =
     let s = c.before.before.args in
     let state-fault = c.before.state-fault in

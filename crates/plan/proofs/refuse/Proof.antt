@@ -1,5 +1,5 @@
 -- `refuse` meets its contract: zeros all through.
-use Rattle.plan.specs.Plan.{noPlan}
+use Rattle.plan.specs.Plan.{no_plan}
 use Rattle.task.proofs.TaskLaws.{tasks-none}
 use borrow.Author.Rules.{rules}
 use Rattle.plan.proofs.refuse.Statement.{statement}
@@ -24,7 +24,7 @@ empty-requires : tie.Need-empty-requires
 empty-requires c κs = search rules
 
 returns : tie.Need-returns
-unfolding noPlan
+unfolding no_plan
 returns c =
     cc (
       c.before.before.before.no-machine.ensures,

@@ -1,7 +1,7 @@
 -- `tasks_on` meets its contract: the language counts the ones of the word.
 use mathlib.Core.Path.{◌≡◌, sym, ap, ◌∙◌}
 use borrow.Author.Tests.{le-leb, lt-leb}
-use Rattle.plan.specs.Layout.{tasksOn}
+use Rattle.plan.specs.Layout.{tasks_on}
 use borrow.Author.Rules.{rules}
 use Rattle.plan.proofs.tasks_on.Statement.{statement}
 use Rattle.plan.proofs.tasks_on.Tie as tie
@@ -10,7 +10,7 @@ use Rattle.plan.proofs.tasks_on.Lts as lts
 use Rattle.plan.proofs.wide.Reads as wide-reads
 
 returns : tie.Need-returns
-unfolding tasksOn
+unfolding tasks_on
 returns c = simp (le-leb 16 c.before.args.core c.if1.true)
 
 mul-word : tie.Need-overflow-mul-word
@@ -23,7 +23,7 @@ wide-requires : tie.Need-wide-requires
 wide-requires c κs = search rules
 
 returns-2 : tie.Need-returns-2
-unfolding tasksOn
+unfolding tasks_on
 returns-2 c = simp (lt-leb 16 c.before.before.before.args.core c.before.before.if1.false) c.wide.ensures
 
 pub tasks-on-spec : {M : Type 1} → statement M

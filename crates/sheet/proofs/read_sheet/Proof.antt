@@ -7,11 +7,11 @@ use Prim.Native.Nat.{◌-◌, ◌≤◌, ◌<◌}
 use native.Mathlib.Omega.{arith}
 use lib.ListN.{length}
 use lib.Seq.{length-take-le}
-use Rattle.task.specs.Tasks.{past, pastPart}
+use Rattle.task.specs.Tasks.{past, past_part}
 use Rattle.lines.specs.declared.Word.{Word}
 use Rattle.lines.specs.Lines.{newline}
 use Rattle.lines.proofs.LineLaws.{rest, rest-length, run-le}
-use Rattle.sheet.proofs.DraftLaws.{Seeking, seek-start, seek-other, seek-here, partName, taskName}
+use Rattle.sheet.proofs.DraftLaws.{Seeking, seek-start, seek-other, seek-here, part_name, task_name}
 use Rattle.sheet.proofs.ReadLaws.{read-long, reached-cut}
 use Rattle.sheet.proofs.StandLaws.{Standing, stand-top, parts-few, parts-long, tasks-few, tasks-long, stand-missing}
 use Rattle.sheet.proofs.StandLaws.{stand-whole, LineRead, line_read, line-bad, part-space, task-space, source-some}
@@ -31,13 +31,13 @@ use Rattle.task.proofs.same_name.Reads as same-name-reads
 use Rattle.task.proofs.task_of.Reads as task-of-reads
 
 abbrev invariant-loop2 : tie.invariant-loop2
-invariant-loop2 bytes head parts tasks at number e line word part sought name source₀ i₀ source i = Seeking partName sought parts.count parts.list i source
+invariant-loop2 bytes head parts tasks at number e line word part sought name source₀ i₀ source i = Seeking part_name sought parts.count parts.list i source
 
 abbrev decreases-loop2 : tie.decreases-loop2
 decreases-loop2 bytes head parts tasks at number e line word part sought name source₀ i₀ source i = parts.count - i
 
 abbrev invariant-loop3 : tie.invariant-loop3
-invariant-loop3 bytes head parts tasks at number e line word part name source i twin₀ j₀ twin j = Seeking taskName name tasks.count tasks.list j twin
+invariant-loop3 bytes head parts tasks at number e line word part name source i twin₀ j₀ twin j = Seeking task_name name tasks.count tasks.list j twin
 
 abbrev decreases-loop3 : tie.decreases-loop3
 decreases-loop3 bytes head parts tasks at number e line word part name source i twin₀ j₀ twin j = tasks.count - j
@@ -158,7 +158,7 @@ loop2-again c =
     let loop2 = at-loop2.loop2 in
     let loop = at-loop2.before.before.before.before.before.before.before.before.before.before.loop in
     seek-here _ _ _ _ loop2.i loop2.source loop2.invariant loop2-test.true
-    (omega (arith, loop2-test.true, parts-few loop.invariant.1, parts-long loop.invariant.1)) pastPart (sym c.before.same_name.ensures ∙ c.if3.true)
+    (omega (arith, loop2-test.true, parts-few loop.invariant.1, parts-long loop.invariant.1)) past_part (sym c.before.same_name.ensures ∙ c.if3.true)
 
 loop2-less-2 : tie.Need-loop2-smaller-2 invariant-loop2 decreases-loop2 invariant-loop3 decreases-loop3 invariant-loop decreases-loop
 loop2-less-2 c = omega (arith, c.before.before.before.loop2-test.true)
@@ -170,7 +170,7 @@ loop2-again-2 c =
     let loop2 = at-loop2.loop2 in
     let loop = at-loop2.before.before.before.before.before.before.before.before.before.before.loop in
     seek-other _ _ _ _ loop2.i loop2.source loop2.invariant loop2-test.true
-    (omega (arith, loop2-test.true, parts-few loop.invariant.1, parts-long loop.invariant.1)) pastPart (sym c.before.same_name.ensures ∙ c.if3.false)
+    (omega (arith, loop2-test.true, parts-few loop.invariant.1, parts-long loop.invariant.1)) past_part (sym c.before.same_name.ensures ∙ c.if3.false)
 
 loop3-holds : tie.Need-loop3-init invariant-loop2 decreases-loop2 invariant-loop3 decreases-loop3 invariant-loop decreases-loop
 loop3-holds c = seek-start _ _ _ _
@@ -418,7 +418,7 @@ loop-again-4 c =
     let loop = at-line-of.before.before.before.before.before.before.loop in (
       loop.invariant.0,
       stand-fit loop.invariant.1 (judged at-line-fault)
-          if5.false head-after.result head-after.ensures c.before.before.enum-told4.given.1 pastPart c.task-of.result c.task-of.ensures,
+          if5.false head-after.result head-after.ensures c.before.before.enum-told4.given.1 past_part c.task-of.result c.task-of.ensures,
     )
 
 enum-told-5 : tie.Need-enum-told-5 invariant-loop2 decreases-loop2 invariant-loop3 decreases-loop3 invariant-loop decreases-loop

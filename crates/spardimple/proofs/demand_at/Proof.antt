@@ -2,14 +2,14 @@
 use mathlib.Core.Path.{◌≡◌, sym, ap, ◌∙◌}
 use Prim.Native.Nat.{ℕ, ◌/◌}
 use lib.ListN.{length}
-use Rattle.demand.specs.Answer.{demandFigure}
-use Rattle.demand.specs.Records.{recordsOf}
+use Rattle.demand.specs.Answer.{demand_figure}
+use Rattle.demand.specs.Records.{records_of}
 use Rattle.demand.specs.declared.Costs.{Costs}
 use Rattle.demand.specs.declared.Figure.{Figure}
 use Rattle.demand.specs.declared.Figure.TheVariants.{Of}
 use Rattle.demand.specs.declared.Found.{Found}
-use Rattle.spardimple.specs.Bytes.{pieces_of, costsSpelt}
-use Rattle.spardimple.specs.Whys.{figureNumber}
+use Rattle.spardimple.specs.Bytes.{pieces_of, costs_spelt}
+use Rattle.spardimple.specs.Whys.{figure_number}
 use Rattle.spardimple.proofs.ByteLaws.{pieces-length}
 use Rattle.spardimple.proofs.WhySteps.{demand-odd-records, demand-odd-costs, demand-formed, holds-demand}
 use borrow.Author.Rules.{rules}
@@ -61,13 +61,13 @@ returns-3 c =
     let if2 = c.before.before.before.before.before.before.before.if2 in
     let rs = s.records.now in
     let cs = s.costs.now in
-    let run = recordsOf read-records.new.0 in
-    let same : demand-of.result ≡ demandFigure (costsSpelt cs) (length (pieces_of rs)) (pieces_of rs) s.t =
+    let run = records_of read-records.new.0 in
+    let same : demand-of.result ≡ demand_figure (costs_spelt cs) (length (pieces_of rs)) (pieces_of rs) s.t =
     demand-of.ensures
-    ∙ (ap (λ (k : Costs). demandFigure k (length rs / 28) run s.t) read-costs.ensures
-    ∙ (ap (λ (n : ℕ). demandFigure (costsSpelt cs) n run s.t) (sym (pieces-length rs)) ∙ holds-demand (pieces_of rs) (costsSpelt cs) run read-records.ensures s.t)) in
-    let is = ap figureNumber same ∙ sym (demand-formed rs cs s.t if1.false if2.false) in
-    ap figureNumber (sym c.enum_told.given.1) ∙ is
+    ∙ (ap (λ (k : Costs). demand_figure k (length rs / 28) run s.t) read-costs.ensures
+    ∙ (ap (λ (n : ℕ). demand_figure (costs_spelt cs) n run s.t) (sym (pieces-length rs)) ∙ holds-demand (pieces_of rs) (costs_spelt cs) run read-records.ensures s.t)) in
+    let is = ap figure_number same ∙ sym (demand-formed rs cs s.t if1.false if2.false) in
+    ap figure_number (sym c.enum_told.given.1) ∙ is
 
 returns-4 : tie.Need-returns-4
 returns-4 c =
@@ -82,13 +82,13 @@ returns-4 c =
     let found = c.before.found in
     let rs = s.records.now in
     let cs = s.costs.now in
-    let run = recordsOf read-records.new.0 in
-    let same : demand-of.result ≡ demandFigure (costsSpelt cs) (length (pieces_of rs)) (pieces_of rs) s.t =
+    let run = records_of read-records.new.0 in
+    let same : demand-of.result ≡ demand_figure (costs_spelt cs) (length (pieces_of rs)) (pieces_of rs) s.t =
     demand-of.ensures
-    ∙ (ap (λ (k : Costs). demandFigure k (length rs / 28) run s.t) read-costs.ensures
-    ∙ (ap (λ (n : ℕ). demandFigure (costsSpelt cs) n run s.t) (sym (pieces-length rs)) ∙ holds-demand (pieces_of rs) (costsSpelt cs) run read-records.ensures s.t)) in
-    let is = ap figureNumber same ∙ sym (demand-formed rs cs s.t if1.false if2.false) in
-    ap figureNumber (sym (figure.given.1 ∙ ap (λ (f : Found). Of f) found.given.1)) ∙ is
+    ∙ (ap (λ (k : Costs). demand_figure k (length rs / 28) run s.t) read-costs.ensures
+    ∙ (ap (λ (n : ℕ). demand_figure (costs_spelt cs) n run s.t) (sym (pieces-length rs)) ∙ holds-demand (pieces_of rs) (costs_spelt cs) run read-records.ensures s.t)) in
+    let is = ap figure_number same ∙ sym (demand-formed rs cs s.t if1.false if2.false) in
+    ap figure_number (sym (figure.given.1 ∙ ap (λ (f : Found). Of f) found.given.1)) ∙ is
 
 returns-5 : tie.Need-returns-5
 returns-5 c =
@@ -101,13 +101,13 @@ returns-5 c =
     let figure = c.before.before.before.figure in
     let rs = s.records.now in
     let cs = s.costs.now in
-    let run = recordsOf read-records.new.0 in
-    let same : demand-of.result ≡ demandFigure (costsSpelt cs) (length (pieces_of rs)) (pieces_of rs) s.t =
+    let run = records_of read-records.new.0 in
+    let same : demand-of.result ≡ demand_figure (costs_spelt cs) (length (pieces_of rs)) (pieces_of rs) s.t =
     demand-of.ensures
-    ∙ (ap (λ (k : Costs). demandFigure k (length rs / 28) run s.t) read-costs.ensures
-    ∙ (ap (λ (n : ℕ). demandFigure (costsSpelt cs) n run s.t) (sym (pieces-length rs)) ∙ holds-demand (pieces_of rs) (costsSpelt cs) run read-records.ensures s.t)) in
-    let is = ap figureNumber same ∙ sym (demand-formed rs cs s.t if1.false if2.false) in
-    ap figureNumber (sym (figure.given.1 ∙ ap (λ (f : Found). Of f) c.enum-told2.given.1)) ∙ is
+    ∙ (ap (λ (k : Costs). demand_figure k (length rs / 28) run s.t) read-costs.ensures
+    ∙ (ap (λ (n : ℕ). demand_figure (costs_spelt cs) n run s.t) (sym (pieces-length rs)) ∙ holds-demand (pieces_of rs) (costs_spelt cs) run read-records.ensures s.t)) in
+    let is = ap figure_number same ∙ sym (demand-formed rs cs s.t if1.false if2.false) in
+    ap figure_number (sym (figure.given.1 ∙ ap (λ (f : Found). Of f) c.enum-told2.given.1)) ∙ is
 
 pub demand-at-spec : {M : Type 1} → statement M
 demand-at-spec =

@@ -5,8 +5,8 @@ use native.Mathlib.Omega.{arith}
 use lib.ListN.{length}
 use Rattle.sheet.specs.declared.Read.{Read}
 use Rattle.sheet.proofs.SmallLaws.{read_small}
-use Rattle.listing.specs.Diff.{diffOf}
-use Rattle.spardimple.specs.Diffs.{secondFrom, diffPaper, diffNumber, diffLeft}
+use Rattle.listing.specs.Diff.{diff_of}
+use Rattle.spardimple.specs.Diffs.{second_from, diff_paper, diff_number, diff_left}
 use Rattle.spardimple.proofs.SheetLaws.{reply-small, over-length}
 use Rattle.spardimple.proofs.WhySteps.{refused-told, refused-left}
 use Rattle.spardimple.proofs.DiffSteps.{first-unread, first-stuck, second-unread, second_stuck, both-planned, thousand, written-told, written-short, written-left}
@@ -37,7 +37,7 @@ numbered-requires c κs =
     (omega (arith, small.0), omega (arith, small.1))
 
 returns : tie.Need-returns
-unfolding diffNumber diffLeft
+unfolding diff_number diff_left
 returns c =
     let s = c.before.before.before.before.before.before.before.before.args in
     let a = s.sheet1.now in
@@ -45,8 +45,8 @@ returns c =
     let old = s.out.now in
     let r = c.before.before.before.before.read-sheet in
     let paper = first-unread a b r.result r.ensures c.before.before.if1.true in (
-      c.numbered.ensures ∙ refused-told (diffPaper a b) r.result.number r.result.carries paper (length old),
-      refused-left (diffPaper a b) r.result.number r.result.carries paper old,
+      c.numbered.ensures ∙ refused-told (diff_paper a b) r.result.number r.result.carries paper (length old),
+      refused-left (diff_paper a b) r.result.number r.result.carries paper old,
     )
 
 plan-tasks-requires : tie.Need-plan-tasks-requires
@@ -68,7 +68,7 @@ numbered-requires-2 c κs =
     (omega (arith, small.0), omega (arith, small.1))
 
 returns-2 : tie.Need-returns-2
-unfolding diffNumber diffLeft
+unfolding diff_number diff_left
 returns-2 c =
     let s = c.before.before.before.before.before.before.before.before.before.before.before.before.args in
     let a = s.sheet1.now in
@@ -77,8 +77,8 @@ returns-2 c =
     let r = c.before.before.before.before.before.before.before.before.read-sheet in
     let x = c.before.before.before.before.plan-tasks in
     let paper = first-stuck a b r.result r.ensures c.before.before.before.before.before.before.if1.false x.result x.ensures c.before.before.if2.true in (
-      c.numbered2.ensures ∙ refused-told (diffPaper a b) x.result.number x.result.carries paper (length old),
-      refused-left (diffPaper a b) x.result.number x.result.carries paper old,
+      c.numbered2.ensures ∙ refused-told (diff_paper a b) x.result.number x.result.carries paper (length old),
+      refused-left (diff_paper a b) x.result.number x.result.carries paper old,
     )
 
 read-sheet-requires-2 : tie.Need-read-sheet-requires-2
@@ -98,7 +98,7 @@ numbered-requires-3 c κs =
     (omega (arith, small.0), omega (arith, small.1))
 
 returns-3 : tie.Need-returns-3
-unfolding diffNumber diffLeft
+unfolding diff_number diff_left
 returns-3 c =
     let s = c.before.before.before.before.before.before.before.before.before.before.before.before.before.before.before.args in
     let a = s.sheet1.now in
@@ -110,8 +110,8 @@ returns-3 c =
     let paper = second-unread a b r.result r.ensures c.before.before.before.before.before.before.before.before.before.if1.false x.result x.ensures c.before.before.before.before.before.if2.false q.result q.ensures c.before.before.if3.true in (
       c.numbered3.ensures
           ∙ (ap (λ (n : ℕ). 2 ^ 32 * n + q.result.carries) (sym (thousand q.result.number))
-          ∙ refused-told (diffPaper a b) (secondFrom + q.result.number) q.result.carries paper (length old)),
-      refused-left (diffPaper a b) (secondFrom + q.result.number) q.result.carries paper old,
+          ∙ refused-told (diff_paper a b) (second_from + q.result.number) q.result.carries paper (length old)),
+      refused-left (diff_paper a b) (second_from + q.result.number) q.result.carries paper old,
     )
 
 plan-tasks-requires-2 : tie.Need-plan-tasks-requires-2
@@ -133,7 +133,7 @@ numbered-requires-4 c κs =
     (omega (arith, small.0), omega (arith, small.1))
 
 returns-4 : tie.Need-returns-4
-unfolding diffNumber diffLeft
+unfolding diff_number diff_left
 returns-4 c =
     let s = c.before.before.before.before.before.before.before.before.before.before.before.before.before.before.before.before.before.before.before.args in
     let a = s.sheet1.now in
@@ -148,8 +148,8 @@ returns-4 c =
     c.before.before.if4.true in (
       c.numbered4.ensures
           ∙ (ap (λ (n : ℕ). 2 ^ 32 * n + y.result.carries) (sym (thousand y.result.number))
-          ∙ refused-told (diffPaper a b) (secondFrom + y.result.number) y.result.carries paper (length old)),
-      refused-left (diffPaper a b) (secondFrom + y.result.number) y.result.carries paper old,
+          ∙ refused-told (diff_paper a b) (second_from + y.result.number) y.result.carries paper (length old)),
+      refused-left (diff_paper a b) (second_from + y.result.number) y.result.carries paper old,
     )
 
 write-diff-requires : tie.Need-write-diff-requires
@@ -162,7 +162,7 @@ same_length : tie.Need-same-length
 same_length c = search rules
 
 returns-5 : tie.Need-returns-5
-unfolding diffNumber diffLeft
+unfolding diff_number diff_left
 returns-5 c =
     let s = c.before.before.before.before.before.before.before.before.before.before.before.before.before.before.before.before.before.before.before.before.before.before.before.before.before.args in
     let a = s.sheet1.now in
@@ -173,14 +173,14 @@ returns-5 c =
     let q = c.before.before.before.before.before.before.before.before.before.before.before.before.before.before.read-sheet2 in
     let y = c.before.before.before.before.before.before.before.before.before.before.plan-tasks2 in
     let w = c.before.before.before.before.write-diff in
-    let text = diffOf x.result.plan y.result.plan in
+    let text = diff_of x.result.plan y.result.plan in
     let paper =
     both-planned a b r.result r.ensures c.before.before.before.before.before.before.before.before.before.before.before.before.before.before.before.before.before.before.before.if1.false x.result x.ensures c.before.before.before.before.before.before.before.before.before.before.before.before.before.before.before.if2.false q.result q.ensures c.before.before.before.before.before.before.before.before.before.before.before.before.if3.false y.result y.ensures
     c.before.before.before.before.before.before.before.before.if4.false in
     let same = ap length w.ensures.1 ∙ over-length text old in (
-      c.numbered5.ensures ∙ (ap (λ (n : ℕ). 2 ^ 32 * 110 + n) w.ensures.0 ∙ written-short (diffPaper a b) text paper (length old)
+      c.numbered5.ensures ∙ (ap (λ (n : ℕ). 2 ^ 32 * 110 + n) w.ensures.0 ∙ written-short (diff_paper a b) text paper (length old)
           (omega (arith, c.before.if5.true, w.ensures.0))),
-      w.ensures.1 ∙ written-left (diffPaper a b) text paper old,
+      w.ensures.1 ∙ written-left (diff_paper a b) text paper old,
     )
 
 numbered-requires-6 : tie.Need-numbered-requires-6
@@ -190,7 +190,7 @@ same-length-2 : tie.Need-same-length-2
 same-length-2 c = search rules
 
 returns-6 : tie.Need-returns-6
-unfolding diffNumber diffLeft
+unfolding diff_number diff_left
 returns-6 c =
     let s = c.before.before.before.before.before.before.before.before.before.before.before.before.before.before.before.before.before.before.before.before.before.before.before.before.before.args in
     let a = s.sheet1.now in
@@ -201,14 +201,14 @@ returns-6 c =
     let q = c.before.before.before.before.before.before.before.before.before.before.before.before.before.before.read-sheet2 in
     let y = c.before.before.before.before.before.before.before.before.before.before.plan-tasks2 in
     let w = c.before.before.before.before.write-diff in
-    let text = diffOf x.result.plan y.result.plan in
+    let text = diff_of x.result.plan y.result.plan in
     let paper =
     both-planned a b r.result r.ensures c.before.before.before.before.before.before.before.before.before.before.before.before.before.before.before.before.before.before.before.if1.false x.result x.ensures c.before.before.before.before.before.before.before.before.before.before.before.before.before.before.before.if2.false q.result q.ensures c.before.before.before.before.before.before.before.before.before.before.before.before.if3.false y.result y.ensures
     c.before.before.before.before.before.before.before.before.if4.false in
     let same = ap length w.ensures.1 ∙ over-length text old in (
-      c.numbered6.ensures ∙ (ap (λ (n : ℕ). 2 ^ 32 * 0 + n) w.ensures.0 ∙ written-told (diffPaper a b) text paper (length old)
+      c.numbered6.ensures ∙ (ap (λ (n : ℕ). 2 ^ 32 * 0 + n) w.ensures.0 ∙ written-told (diff_paper a b) text paper (length old)
           (omega (arith, c.before.if5.false, w.ensures.0))),
-      w.ensures.1 ∙ written-left (diffPaper a b) text paper old,
+      w.ensures.1 ∙ written-left (diff_paper a b) text paper old,
     )
 
 pub diff-listing-spec : {M : Type 1} → statement M

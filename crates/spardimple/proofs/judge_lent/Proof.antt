@@ -45,7 +45,7 @@ use Rattle.demand.specs.declared.Costs.{Costs}
 use Rattle.demand.specs.declared.Answer.{Answer}
 use Rattle.demand.specs.declared.Run.{Run}
 use Rattle.demand.specs.Answer.{answer_of}
-use Rattle.spardimple.specs.ways.CopiedRun.{Copied}
+use Rattle.spardimple.specs.Ways.CopiedRun.{Copied}
 use Rattle.spardimple.proofs.HoldingLaws.{holding-answer}
 use Rattle.demand.specs.contracts.Piece as P
 use Rattle.demand.specs.contracts.Costs as K

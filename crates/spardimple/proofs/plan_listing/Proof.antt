@@ -5,7 +5,7 @@ use Prim.Native.Nat.{ℕ, ◌+◌, ◌*◌, ◌^◌, ◌≤◌}
 use native.Mathlib.Omega.{arith}
 use lib.ListN.{length}
 use Rattle.sheet.specs.declared.Read.{Read}
-use Rattle.listing.specs.Listing.{listingOf}
+use Rattle.listing.specs.Listing.{listing_of}
 use Rattle.sheet.proofs.SmallLaws.{read_small}
 use Rattle.spardimple.proofs.SheetLaws.{paper-unread, paper-stuck, paper-written, reply-small, given-refused}
 use Rattle.spardimple.proofs.SheetLaws.{given-long, given-short, left-refused, left-written, over-length}
@@ -103,7 +103,7 @@ returns-3 c =
     let r = at-if2.before.before.before.before.before.before.read-sheet in
     let q = at-if2.before.before.plan-tasks in
     let w = c.before.before.before.before.write-listing in
-    let text = listingOf q.result.plan in
+    let text = listing_of q.result.plan in
     let if2 = at-if2.if2 in
     let if1 = at-if2.before.before.before.before.if1 in
     let paper = paper-written sheet r.result r.ensures if1.false q.result q.ensures if2.false in
@@ -128,7 +128,7 @@ returns-4 c =
     let r = at-if2.before.before.before.before.before.before.read-sheet in
     let q = at-if2.before.before.plan-tasks in
     let w = c.before.before.before.before.write-listing in
-    let text = listingOf q.result.plan in
+    let text = listing_of q.result.plan in
     let if2 = at-if2.if2 in
     let if1 = at-if2.before.before.before.before.if1 in
     let paper = paper-written sheet r.result r.ensures if1.false q.result q.ensures if2.false in

@@ -3,12 +3,12 @@ use mathlib.Core.Path.{◌≡◌, sym, ap, ◌∙◌}
 use native.Mathlib.Omega.{arith}
 use Prim.Native.Nat.{ℕ, ◌/◌}
 use lib.ListN.{length, length-replicate}
-use Rattle.demand.specs.Records.{recordsOf}
+use Rattle.demand.specs.Records.{records_of}
 use Rattle.demand.specs.declared.Answer.{Answer}
 use Rattle.demand.specs.declared.Costs.{Costs}
 use Rattle.demand.specs.Answer.{answer_of, told}
 use Rattle.demand.proofs.AnswerLaws.{answer-carries}
-use Rattle.spardimple.specs.Bytes.{pieces_of, costsSpelt}
+use Rattle.spardimple.specs.Bytes.{pieces_of, costs_spelt}
 use Rattle.spardimple.specs.Numbers.{number, malformed, said}
 use Rattle.spardimple.proofs.ByteLaws.{pieces-length}
 use Rattle.spardimple.proofs.HoldingLaws.{holds-answer}
@@ -70,7 +70,7 @@ number-of-requires c κs =
     omega (
       arith,
       ap (λ (a : Answer). (told a).carries) c.judge-records.ensures,
-      answer-carries c.before.before.read-costs.result n (recordsOf c.before.before.before.read-records.new.0),
+      answer-carries c.before.before.read-costs.result n (records_of c.before.before.before.read-records.new.0),
     )
 
 -- src/lib.rt:36:1
@@ -80,16 +80,16 @@ returns-3 c =
     let rs = start.records.now in
     let cs = start.costs.now in
     let read-records = c.before.before.before.before.read-records in
-    let run = recordsOf read-records.new.0 in
-    let answer : c.before.judge-records.result ≡ answer_of (costsSpelt cs) (length (pieces_of rs)) (pieces_of rs) =
+    let run = records_of read-records.new.0 in
+    let answer : c.before.judge-records.result ≡ answer_of (costs_spelt cs) (length (pieces_of rs)) (pieces_of rs) =
     c.before.judge-records.ensures
     ∙ (ap (λ (k : Costs). answer_of k (length rs / 28) run) c.before.before.before.read-costs.ensures
-    ∙ (ap (λ (n : ℕ). answer_of (costsSpelt cs) n run) (sym (pieces-length rs)) ∙ holds-answer (pieces_of rs) (costsSpelt cs) run read-records.ensures)) in
+    ∙ (ap (λ (n : ℕ). answer_of (costs_spelt cs) n run) (sym (pieces-length rs)) ∙ holds-answer (pieces_of rs) (costs_spelt cs) run read-records.ensures)) in
     let if2 = c.before.before.before.before.before.before.if2 in
     let if1 = c.before.before.before.before.before.before.before.if1 in
     c.number_of_lem.ensures
     ∙ (ap (λ (a : Answer). number (told a)) answer
-    ∙ sym (number-reply rs cs (said (answer_of (costsSpelt cs) (length (pieces_of rs)) (pieces_of rs))) (reply-formed rs cs if1.false if2.false)))
+    ∙ sym (number-reply rs cs (said (answer_of (costs_spelt cs) (length (pieces_of rs)) (pieces_of rs))) (reply-formed rs cs if1.false if2.false)))
 
 pub verdict-spec : {M : Type 1} → statement M
 verdict-spec =

@@ -7,10 +7,10 @@ use Rattle.sheet.specs.declared.Read.{Read}
 use Rattle.sheet.proofs.SmallLaws.{read_small}
 use Rattle.plan.specs.declared.Reply.{Reply}
 use Rattle.listing.specs.Papers.{Paper, left}
-use Rattle.listing.specs.Why.{whyOf}
+use Rattle.listing.specs.Why.{why_of}
 use Rattle.spardimple.specs.Numbers.{number}
-use Rattle.spardimple.specs.Sheets.{toldPaper}
-use Rattle.spardimple.specs.Whys.{whyReached, whyCore, whyCoreNumber, whyCoreLeft}
+use Rattle.spardimple.specs.Sheets.{told_paper}
+use Rattle.spardimple.specs.Whys.{why_reached, why_core, why_core_number, why_core_left}
 use Rattle.spardimple.proofs.WhySteps.{core-numbered, note-told, refused-told, refused-left, unread-core, read-core}
 use borrow.Author.Rules.{rules}
 use Rattle.spardimple.proofs.why_core.Statement.{statement}
@@ -42,13 +42,13 @@ numbered-requires c κs =
     (omega (arith, small.0), omega (arith, small.1))
 
 returns : tie.Need-returns
-unfolding whyCoreNumber whyCoreLeft
+unfolding why_core_number why_core_left
 returns c =
     let s = c.before.before.before.before.before.before.before.args in
     let r = c.before.before.before.before.read-sheet in
     let paper = unread-core s.sheet.now r.result r.ensures s.core c.before.before.if1.true in (
-      c.numbered.ensures ∙ refused-told (whyCore s.sheet.now s.core) r.result.number r.result.carries paper (length s.out.now),
-      refused-left (whyCore s.sheet.now s.core) r.result.number r.result.carries paper s.out.now,
+      c.numbered.ensures ∙ refused-told (why_core s.sheet.now s.core) r.result.number r.result.carries paper (length s.out.now),
+      refused-left (why_core s.sheet.now s.core) r.result.number r.result.carries paper s.out.now,
     )
 
 plan-reached-requires : tie.Need-plan-reached-requires
@@ -64,7 +64,7 @@ same_length : tie.Need-same-length
 same_length c = search rules
 
 returns-2 : tie.Need-returns-2
-unfolding whyCoreNumber whyCoreLeft
+unfolding why_core_number why_core_left
 returns-2 c =
     let s = c.before.before.before.before.before.before.before.before.before.before.before.before.before.args in
     let r = c.before.before.before.before.before.before.before.before.before.before.read-sheet in
@@ -72,11 +72,11 @@ returns-2 c =
     let w = c.before.before.before.why-plan in
     let if1 = c.before.before.before.before.before.before.before.before.if1 in
     let old = s.out.now in
-    let same : whyOf q.result.plan q.result.carries s.core ≡ whyCore s.sheet.now s.core =
-    ap (λ (x : Reply). whyReached x s.core) q.ensures ∙ sym (read-core s.sheet.now r.result r.ensures s.core if1.false) in (
+    let same : why_of q.result.plan q.result.carries s.core ≡ why_core s.sheet.now s.core =
+    ap (λ (x : Reply). why_reached x s.core) q.ensures ∙ sym (read-core s.sheet.now r.result r.ensures s.core if1.false) in (
       c.note-number.ensures
-          ∙ (note-told (whyOf q.result.plan q.result.carries s.core) (core-numbered q.result.plan q.result.carries s.core) (length old) w.result w.ensures.0
-          ∙ ap (λ (p : Paper). number (toldPaper p (length old))) same),
+          ∙ (note-told (why_of q.result.plan q.result.carries s.core) (core-numbered q.result.plan q.result.carries s.core) (length old) w.result w.ensures.0
+          ∙ ap (λ (p : Paper). number (told_paper p (length old))) same),
       w.ensures.1 ∙ ap (λ (p : Paper). left p old) same,
     )
 

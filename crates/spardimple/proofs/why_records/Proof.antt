@@ -3,14 +3,14 @@ use mathlib.Core.Path.{◌≡◌, sym, ap, ◌∙◌}
 use native.Mathlib.Omega.{arith}
 use Prim.Native.Nat.{ℕ, ◌+◌, ◌*◌, ◌/◌, ◌^◌}
 use lib.ListN.{length}
-use Rattle.demand.specs.Records.{recordsOf}
+use Rattle.demand.specs.Records.{records_of}
 use Rattle.demand.specs.declared.Costs.{Costs}
 use Rattle.listing.specs.Papers.{Paper, note_of, left}
-use Rattle.listing.specs.Why.{whyRun}
-use Rattle.spardimple.specs.Bytes.{pieces_of, costsSpelt}
+use Rattle.listing.specs.Why.{why_run}
+use Rattle.spardimple.specs.Bytes.{pieces_of, costs_spelt}
 use Rattle.spardimple.specs.Numbers.{number}
-use Rattle.spardimple.specs.Sheets.{toldPaper}
-use Rattle.spardimple.specs.Whys.{whyRecords, whyRecordsNumber, whyRecordsLeft}
+use Rattle.spardimple.specs.Sheets.{told_paper}
+use Rattle.spardimple.specs.Whys.{why_records, why_records_number, why_records_left}
 use Rattle.spardimple.proofs.ByteLaws.{pieces-length}
 use Rattle.spardimple.proofs.WhySteps.{run-numbered, note-told, refused-told, refused-left, odd-records, odd-costs, formed-records, holds-why}
 use borrow.Author.Rules.{rules}
@@ -28,25 +28,25 @@ numbered-requires : tie.Need-numbered-requires
 numbered-requires c κs = search rules
 
 returns : tie.Need-returns
-unfolding whyRecordsNumber whyRecordsLeft
+unfolding why_records_number why_records_left
 returns c =
     let s = c.before.before.before.before.before.args in
     let rs = s.records.now in
     let cs = s.costs.now in
     let paper = odd-records rs cs c.before.if1.true in
-    (c.numbered.ensures ∙ refused-told (whyRecords rs cs) 8 0 paper (length s.out.now), refused-left (whyRecords rs cs) 8 0 paper s.out.now)
+    (c.numbered.ensures ∙ refused-told (why_records rs cs) 8 0 paper (length s.out.now), refused-left (why_records rs cs) 8 0 paper s.out.now)
 
 numbered-requires-2 : tie.Need-numbered-requires-2
 numbered-requires-2 c κs = search rules
 
 returns-2 : tie.Need-returns-2
-unfolding whyRecordsNumber whyRecordsLeft
+unfolding why_records_number why_records_left
 returns-2 c =
     let s = c.before.before.before.before.before.before.args in
     let rs = s.records.now in
     let cs = s.costs.now in
     let paper = odd-costs rs cs c.before.before.if1.false c.before.if2.true in
-    (c.numbered2.ensures ∙ refused-told (whyRecords rs cs) 8 0 paper (length s.out.now), refused-left (whyRecords rs cs) 8 0 paper s.out.now)
+    (c.numbered2.ensures ∙ refused-told (why_records rs cs) 8 0 paper (length s.out.now), refused-left (why_records rs cs) 8 0 paper s.out.now)
 
 read-records-requires : tie.Need-read-records-requires
 read-records-requires c κs = search rules
@@ -64,7 +64,7 @@ same_length : tie.Need-same-length
 same_length c = search rules
 
 returns-3 : tie.Need-returns-3
-unfolding whyRecordsNumber whyRecordsLeft
+unfolding why_records_number why_records_left
 returns-3 c =
     let s = c.before.before.before.before.before.before.before.before.before.before.before.before.before.before.args in
     let w = c.before.before.before.why-run in
@@ -75,14 +75,14 @@ returns-3 c =
     let rs = s.records.now in
     let cs = s.costs.now in
     let old = s.out.now in
-    let run = recordsOf read-records.new.0 in
-    let same : whyRun read-costs.result (length rs / 28) run ≡ whyRecords rs cs =
-    ap (λ (k : Costs). whyRun k (length rs / 28) run) read-costs.ensures
-    ∙ (ap (λ (n : ℕ). whyRun (costsSpelt cs) n run) (sym (pieces-length rs))
-    ∙ (holds-why (pieces_of rs) (costsSpelt cs) run read-records.ensures ∙ sym (formed-records rs cs if1.false if2.false))) in (
+    let run = records_of read-records.new.0 in
+    let same : why_run read-costs.result (length rs / 28) run ≡ why_records rs cs =
+    ap (λ (k : Costs). why_run k (length rs / 28) run) read-costs.ensures
+    ∙ (ap (λ (n : ℕ). why_run (costs_spelt cs) n run) (sym (pieces-length rs))
+    ∙ (holds-why (pieces_of rs) (costs_spelt cs) run read-records.ensures ∙ sym (formed-records rs cs if1.false if2.false))) in (
       c.note-number.ensures
-          ∙ (note-told (whyRun read-costs.result (length rs / 28) run) (run-numbered read-costs.result (length rs / 28) run) (length old) w.result w.ensures.0
-          ∙ ap (λ (p : Paper). number (toldPaper p (length old))) same),
+          ∙ (note-told (why_run read-costs.result (length rs / 28) run) (run-numbered read-costs.result (length rs / 28) run) (length old) w.result w.ensures.0
+          ∙ ap (λ (p : Paper). number (told_paper p (length old))) same),
       w.ensures.1 ∙ ap (λ (p : Paper). left p old) same,
     )
 

@@ -2,7 +2,7 @@
 use mathlib.Core.Path.{◌≡◌, sym, ◌∙◌}
 use mathlib.Core.Bool.{true}
 use borrow.Author.Tests.{not-true, not-false, le-leb, lt-leb}
-use Rattle.task.specs.Tasks.{stateFault}
+use Rattle.task.specs.Tasks.{state_fault}
 use borrow.Author.Rules.{rules}
 use Rattle.task.proofs.state_fault.Statement.{statement}
 use Rattle.task.proofs.state_fault.Tie as tie
@@ -16,14 +16,14 @@ machine-within-requires : tie.Need-machine-within-requires
 machine-within-requires c κs = search rules
 
 returns : tie.Need-returns
-unfolding stateFault
+unfolding state_fault
 returns c = rw (sym c.before.machine-within.ensures ∙ not-true c.before.machine-within.result c.if1.true)
 
 costs-within-requires : tie.Need-costs-within-requires
 costs-within-requires c κs = search rules
 
 returns-2 : tie.Need-returns-2
-unfolding stateFault
+unfolding state_fault
 returns-2 c =
     let machine-within = c.before.before.before.machine-within in
     rw (
@@ -32,7 +32,7 @@ returns-2 c =
     )
 
 returns-3 : tie.Need-returns-3
-unfolding stateFault
+unfolding state_fault
 returns-3 c =
     let costs-within = c.before.before.before.costs-within in
     let if1 = c.before.before.before.before.if1 in
@@ -49,7 +49,7 @@ first-fault-requires : tie.Need-first-fault-requires
 first-fault-requires c κs = search rules
 
 returns-4 : tie.Need-returns-4
-unfolding stateFault
+unfolding state_fault
 returns-4 c =
     let costs-within = c.before.before.before.before.costs-within in
     let if1 = c.before.before.before.before.before.if1 in

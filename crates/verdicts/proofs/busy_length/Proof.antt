@@ -6,13 +6,13 @@ use lib.ListN.{take, length-replicate}
 use Rattle.demand.specs.declared.Charged.{Charged}
 use Rattle.demand.specs.declared.Found.{Found}
 use Rattle.demand.specs.declared.Figure.TheVariants.{Of}
-use Rattle.demand.specs.Sizes.{runMost}
-use Rattle.demand.specs.Records.{recordsOf}
+use Rattle.demand.specs.Sizes.{run_most}
+use Rattle.demand.specs.Records.{records_of}
 use Rattle.demand.specs.Charge.{core_of}
 use Rattle.demand.proofs.RunLaws.{laid-ranged, figure-fine, figure-bad, check-taken, taken-countable}
-use Rattle.verdicts.specs.ChargedArray.{chargedIn}
-use Rattle.demand.specs.Answer.{checkRun, busyFigure}
-use Rattle.demand.specs.Busy.{busyLength}
+use Rattle.verdicts.specs.ChargedArray.{charged_in}
+use Rattle.demand.specs.Answer.{check_run, busy_figure}
+use Rattle.demand.specs.Busy.{busy_length}
 use borrow.Author.Rules.{rules}
 use Rattle.verdicts.proofs.busy_length.Statement.{statement}
 use Rattle.verdicts.proofs.busy_length.Tie as tie
@@ -34,37 +34,37 @@ enum_told c = search rules
 lay-out-requires : tie.Need-lay-out-requires
 lay-out-requires c κs =
     let s = c.before.before.before.before.args in
-    let ps = recordsOf s.records.now in
+    let ps = records_of s.records.now in
     let ok = check-taken s.costs s.count ps (sym c.before.before.before.check-records.ensures ∙ c.before.enum_told.given.1) in
-    (ok.costs, (ok.few, taken-countable s.costs s.count ps ok, length-replicate {A = ℕ} (7 * runMost) 0))
+    (ok.costs, (ok.few, taken-countable s.costs s.count ps ok, length-replicate {A = ℕ} (7 * run_most) 0))
 
 climb-busy-requires : tie.Need-climb-busy-requires
 climb-busy-requires c κs =
     let s = c.before.before.before.before.before.before.args in
-    let ps = recordsOf s.records.now in
+    let ps = records_of s.records.now in
     let check-records = c.before.before.before.before.before.check-records in
     let ok = check-taken s.costs s.count ps (sym check-records.ensures ∙ c.before.before.before.enum_told.given.1) in
-    let laid = chargedIn c.before.lay-out.new.0 s.count in
+    let laid = charged_in c.before.lay-out.new.0 s.count in
     (ok.few, laid-ranged s.costs s.count ps ok laid c.before.lay-out.ensures.0)
 
 returns : tie.Need-returns
-unfolding busyFigure
+unfolding busy_figure
 returns c =
     let s = c.before.before.before.before.args in
-    let ps = recordsOf s.records.now in
-    figure-bad (checkRun s.costs s.count ps) (busyLength (core_of s.costs (take s.count ps))) c.before.why.given.0.0
+    let ps = records_of s.records.now in
+    figure-bad (check_run s.costs s.count ps) (busy_length (core_of s.costs (take s.count ps))) c.before.why.given.0.0
     (sym c.before.before.before.check-records.ensures ∙ c.before.why.given.1)
 
 returns-2 : tie.Need-returns-2
-unfolding busyFigure
+unfolding busy_figure
 returns-2 c =
     let s = c.before.before.before.before.before.before.before.args in
-    let ps = recordsOf s.records.now in
+    let ps = records_of s.records.now in
     let the-enum-told = c.before.before.before.before.enum_told in
     let check-records = c.before.before.before.before.before.before.check-records in
     let fine = sym check-records.ensures ∙ the-enum-told.given.1 in
-    ap (λ (f : Found). Of f) (c.climb-busy.ensures ∙ ap (λ (qs : List Charged). busyLength qs) c.before.before.lay-out.ensures.0)
-    ∙ figure-fine (checkRun s.costs s.count ps) (busyLength (core_of s.costs (take s.count ps))) fine
+    ap (λ (f : Found). Of f) (c.climb-busy.ensures ∙ ap (λ (qs : List Charged). busy_length qs) c.before.before.lay-out.ensures.0)
+    ∙ figure-fine (check_run s.costs s.count ps) (busy_length (core_of s.costs (take s.count ps))) fine
 
 pub busy-length-spec : {M : Type 1} → statement M
 busy-length-spec =

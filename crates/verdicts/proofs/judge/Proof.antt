@@ -5,8 +5,8 @@ use Rattle.demand.specs.declared.Piece.{Piece}
 use Prim.Native.Nat.{ℕ}
 use lib.ListN.{length}
 use Rattle.demand.specs.Answer.{answer_of}
-use Rattle.demand.specs.Records.{recordsOf}
-use Rattle.demand.specs.Sizes.{runMost}
+use Rattle.demand.specs.Records.{records_of}
+use Rattle.demand.specs.Sizes.{run_most}
 use Rattle.demand.proofs.RecordLaws.{lent-records}
 use Rattle.demand.proofs.RunLaws.{length-mapped}
 use borrow.Author.Rules.{rules}
@@ -26,8 +26,8 @@ judge-records-requires c κs = search rules
 returns : tie.Need-returns
 returns c =
     let s = c.before.before.before.args in
-    let long : length s.run.pieces ≡ runMost = search (rules, length-mapped) in
-    let read = ap (λ (a : List ℕ). recordsOf a) c.before.before.records-of.ensures ∙ lent-records s.run.pieces long in
+    let long : length s.run.pieces ≡ run_most = search (rules, length-mapped) in
+    let read = ap (λ (a : List ℕ). records_of a) c.before.before.records-of.ensures ∙ lent-records s.run.pieces long in
     c.judge-records.ensures ∙ ap (λ (ps : List Piece). answer_of s.costs s.run.count ps) read
 
 pub judge-spec : {M : Type 1} → statement M

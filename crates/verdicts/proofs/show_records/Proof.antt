@@ -7,9 +7,9 @@ use Rattle.demand.specs.declared.Charged.{Charged}
 use Rattle.demand.specs.declared.Shown.{Shown}
 use Rattle.demand.specs.declared.Showing.TheVariants.{Shows}
 use Rattle.demand.specs.Charge.{stall}
-use Rattle.demand.specs.Records.{recordsOf}
-use Rattle.demand.specs.Why.{coreShown, shownOf}
-use Rattle.verdicts.specs.ChargedArray.{chargedIn}
+use Rattle.demand.specs.Records.{records_of}
+use Rattle.demand.specs.Why.{core_shown, shown_of}
+use Rattle.verdicts.specs.ChargedArray.{charged_in}
 use Rattle.demand.proofs.RunLaws.{check-taken, taken-countable, laid-ranged, showing-fine, showing-bad}
 use borrow.Author.Rules.{rules}
 use Rattle.verdicts.proofs.show_records.Statement.{statement}
@@ -33,7 +33,7 @@ enum_told c = search rules
 lay-out-requires : tie.Need-lay-out-requires
 lay-out-requires c κs =
     let s = c.before.before.before.before.args in
-    let ps = recordsOf s.records.now in
+    let ps = records_of s.records.now in
     let ok = check-taken s.costs s.count ps (sym c.before.before.before.check-records.ensures ∙ c.before.enum_told.given.1) in
     (ok.costs, (ok.few, taken-countable s.costs s.count ps ok, length-replicate {A = ℕ} 553 0))
 
@@ -42,7 +42,7 @@ stall-of-requires c κs =
     let s = c.before.before.before.before.before.before.args in
     let check-records = c.before.before.before.before.before.check-records in
     let enum_told = c.before.before.before.enum_told in
-    (check-taken s.costs s.count (recordsOf s.records.now) (sym check-records.ensures ∙ enum_told.given.1)).costs
+    (check-taken s.costs s.count (records_of s.records.now) (sym check-records.ensures ∙ enum_told.given.1)).costs
 
 show-core-requires : tie.Need-show-core-requires
 show-core-requires c κs =
@@ -50,29 +50,29 @@ show-core-requires c κs =
     let lay-out = c.before.before.lay-out in
     let check-records = c.before.before.before.before.before.before.check-records in
     let enum_told = c.before.before.before.before.enum_told in
-    let ps = recordsOf s.records.now in
+    let ps = records_of s.records.now in
     let ok = check-taken s.costs s.count ps (sym check-records.ensures ∙ enum_told.given.1) in
-    ((ok.few, laid-ranged s.costs s.count ps ok (chargedIn lay-out.new.0 s.count) lay-out.ensures.0), c.stall-of.ensures.1)
+    ((ok.few, laid-ranged s.costs s.count ps ok (charged_in lay-out.new.0 s.count) lay-out.ensures.0), c.stall-of.ensures.1)
 
 returns : tie.Need-returns
 returns c =
     let s = c.before.before.before.before.args in
     let why = c.before.why in
     let check-records = c.before.before.before.check-records in
-    sym (showing-bad s.costs s.count (recordsOf s.records.now) why.given.0.0 (sym check-records.ensures ∙ why.given.1))
+    sym (showing-bad s.costs s.count (records_of s.records.now) why.given.0.0 (sym check-records.ensures ∙ why.given.1))
 
 returns-2 : tie.Need-returns-2
-unfolding shownOf
+unfolding shown_of
 returns-2 c =
     let s = c.before.before.before.before.before.before.before.before.args in
     let lay-out = c.before.before.before.lay-out in
     let stall-of = c.before.stall-of in
     let check-records = c.before.before.before.before.before.before.before.check-records in
     let enum_told = c.before.before.before.before.before.enum_told in
-    let laid = chargedIn lay-out.new.0 s.count in
-    ap (λ (v : Shown). Shows v) (c.show-core.ensures ∙ (ap (λ (b : ℕ). coreShown b laid) stall-of.ensures.0
-    ∙ ap (λ (qs : List Charged). coreShown (stall s.costs) qs) lay-out.ensures.0))
-    ∙ sym (showing-fine s.costs s.count (recordsOf s.records.now) (sym check-records.ensures ∙ enum_told.given.1))
+    let laid = charged_in lay-out.new.0 s.count in
+    ap (λ (v : Shown). Shows v) (c.show-core.ensures ∙ (ap (λ (b : ℕ). core_shown b laid) stall-of.ensures.0
+    ∙ ap (λ (qs : List Charged). core_shown (stall s.costs) qs) lay-out.ensures.0))
+    ∙ sym (showing-fine s.costs s.count (records_of s.records.now) (sym check-records.ensures ∙ enum_told.given.1))
 
 pub show-records-spec : {M : Type 1} → statement M
 show-records-spec =

@@ -1,5 +1,5 @@
 -- `charges::charged_of` meets its contract: field by field.
-use Rattle.demand.specs.Charge.{charged, ipiCost}
+use Rattle.demand.specs.Charge.{charged, ipi_cost}
 use borrow.Author.Rules.{rules}
 use Rattle.demand.proofs.charges.charged_of.Statement.{statement}
 use Rattle.demand.proofs.charges.charged_of.Tie as tie
@@ -22,7 +22,7 @@ if-arrives-requires c κs = search rules
 
 -- src/charges.rt:30:1
 returns : tie.Need-returns
-unfolding charged ipiCost
+unfolding charged ipi_cost
 returns c = cc
 
 pub charged-of-spec : {M : Type 1} → statement M

@@ -4,7 +4,7 @@ use mathlib.Core.Bool.{true, false}
 use borrow.Author.Rules.{rules}
 use borrow.Author.Tests.{not-true, not-false}
 use Rattle.demand.specs.Sizes.{SizedCosts, Tells}
-use Rattle.demand.specs.ways.Ranges.{Countable}
+use Rattle.demand.specs.Ways.Ranges.{Countable}
 use Rattle.demand.proofs.ChargeLaws.{charged-within, charged-no-costs, charged-no-piece}
 use Rattle.demand.proofs.SizeLaws.{sized-costs-is, countable-is}
 use Rattle.demand.proofs.charges.charged_piece.Statement.{statement}

@@ -1,5 +1,5 @@
 -- `pieces::first_piece` meets its contract: it is made as every piece is.
-use Rattle.demand.specs.Split.{firstPiece}
+use Rattle.demand.specs.Split.{first_piece}
 use borrow.Author.Rules.{rules}
 use Rattle.demand.proofs.pieces.first_piece.Statement.{statement}
 use Rattle.demand.proofs.pieces.first_piece.Tie as tie
@@ -11,7 +11,7 @@ piece-of-requires : tie.Need-piece-of-requires
 piece-of-requires c κs = search rules
 
 returns : tie.Need-returns
-unfolding firstPiece
+unfolding first_piece
 returns c = c.piece_of.ensures
 
 pub first-piece-spec : {M : Type 1} → statement M

@@ -1,5 +1,5 @@
 -- `pieces::last_piece` meets its contract: it is made as every piece is.
-use Rattle.demand.specs.Split.{lastPiece}
+use Rattle.demand.specs.Split.{last_piece}
 use borrow.Author.Rules.{rules}
 use Rattle.demand.proofs.pieces.last_piece.Statement.{statement}
 use Rattle.demand.proofs.pieces.last_piece.Tie as tie
@@ -27,7 +27,7 @@ piece-of-requires c κs = search rules
 
 -- src/pieces.rt:46:1
 returns : tie.Need-returns
-unfolding lastPiece
+unfolding last_piece
 returns c = cc
 
 pub last-piece-spec : {M : Type 1} → statement M

@@ -5,7 +5,7 @@ use mathlib.Core.List.{[], ◌∷◌, ◌++◌}
 use Prim.Native.Nat.{◌+◌}
 use native.Mathlib.Omega.{arith}
 use lib.ListN.{take}
-use Rattle.demand.specs.Records.{recordsOf}
+use Rattle.demand.specs.Records.{records_of}
 use Rattle.demand.proofs.RecordLaws.{records-length}
 use Rattle.demand.proofs.RunLaws.{check-many, behind-fine, behind-bad, behind-refused}
 use Rattle.demand.proofs.SizeLaws.{sized-is}
@@ -21,7 +21,7 @@ use Rattle.demand.proofs.sizes.sized_piece.Reads as sized-piece-reads
 returns : tie.Need-returns
 returns c =
     let s = c.before.args in
-    sym (check-many s.costs (s.n + 1) (take s.n (recordsOf s.records.now) ++ (s.task ∷ [])) (omega arith))
+    sym (check-many s.costs (s.n + 1) (take s.n (records_of s.records.now) ++ (s.task ∷ [])) (omega arith))
 
 -- src/sizes.rt:116:11
 check-records-requires : tie.Need-check-records-requires
@@ -43,7 +43,7 @@ sized-piece-requires c κs = search rules
 returns-2 : tie.Need-returns-2
 returns-2 c =
     let s = c.before.before.before.before.before.before.args in
-    let ps = recordsOf s.records.now in
+    let ps = records_of s.records.now in
     let good = sym (sized-is s.task c.before.sized-piece.result c.before.sized-piece.ensures) ∙ c.if2.true in
     let check-records = c.before.before.before.before.check-records in
     let if1 = c.before.before.before.before.before.if1 in
@@ -58,7 +58,7 @@ add-t12 c = search rules
 returns-3 : tie.Need-returns-3
 returns-3 c =
     let s = c.before.before.before.before.before.args in
-    let ps = recordsOf s.records.now in
+    let ps = records_of s.records.now in
     let if1 = c.before.before.before.before.if1 in
     sym (behind-refused s.costs s.n ps s.task (omega (arith, if1.false)) (omega (arith, if1.false, records-length s.records.now))
     c.before.why.given.0.0 (sym c.before.before.before.check-records.ensures ∙ c.before.why.given.1))
@@ -67,7 +67,7 @@ returns-3 c =
 returns-4 : tie.Need-returns-4
 returns-4 c =
     let s = c.before.before.before.before.before.before.args in
-    let ps = recordsOf s.records.now in
+    let ps = records_of s.records.now in
     let bad = sym (sized-is s.task c.before.sized-piece.result c.before.sized-piece.ensures) ∙ c.if2.false in
     let check-records = c.before.before.before.before.check-records in
     let if1 = c.before.before.before.before.before.if1 in

@@ -5,8 +5,8 @@ use mathlib.Core.Path.{◌≡◌, refl, sym, ◌∙◌}
 use Prim.Native.Nat.{ℕ, ◌+◌, ◌-◌, ◌≤◌}
 use native.Mathlib.Omega.{arith}
 use lib.ListN.{take, drop, length}
-use Rattle.demand.specs.Answer.{firstBad}
-use Rattle.demand.specs.Records.{outside, recordsOf}
+use Rattle.demand.specs.Answer.{first_bad}
+use Rattle.demand.specs.Records.{outside, records_of}
 use Rattle.demand.proofs.RecordLaws.{records-length, records-read}
 use Rattle.demand.proofs.RunLaws.{bad-good, bad-here, bad-end}
 use Rattle.demand.proofs.SizeLaws.{sized-is}
@@ -19,7 +19,7 @@ use Rattle.demand.proofs.sizes.sized_piece.Reads as sized-piece-reads
 
 abbrev invariant-loop : tie.invariant-loop
 invariant-loop records n i₀ place₀ i place = (i ≤ n) × (place ≡ i + 1)
-    × (firstBad 1 (take n (recordsOf records)) ≡ firstBad (i + 1) (drop i (take n (recordsOf records))))
+    × (first_bad 1 (take n (records_of records)) ≡ first_bad (i + 1) (drop i (take n (records_of records))))
 
 abbrev decreases-loop : tie.decreases-loop
 decreases-loop records n i₀ place₀ i place = n - i
@@ -49,7 +49,7 @@ returns c =
     cc (
       l.invariant.1,
       l.invariant.2,
-      bad-here s.n (recordsOf a) (omega (arith, records-length a)) l.i outside c.before.before.before.loop-test.true (rw read bad),
+      bad-here s.n (records_of a) (omega (arith, records-length a)) l.i outside c.before.before.before.loop-test.true (rw read bad),
     )
 
 -- src/sizes.rt:86:9
@@ -77,7 +77,7 @@ loop-again c =
       search rules,
       search rules,
       l.invariant.2
-          ∙ bad-good s.n (recordsOf a) (omega (arith, records-length a)) l.i outside c.before.before.before.loop-test.true (rw read good),
+          ∙ bad-good s.n (records_of a) (omega (arith, records-length a)) l.i outside c.before.before.before.loop-test.true (rw read good),
     )
 
 -- src/sizes.rt:76:1
@@ -86,7 +86,7 @@ returns-2 c =
     let s = c.before.before.args in
     let a = s.records.now in
     let e : c.before.loop.i ≡ s.n = omega arith in
-    sym (c.before.loop.invariant.2 ∙ rw e (bad-end s.n (recordsOf a) (omega (arith, records-length a)) (s.n + 1)))
+    sym (c.before.loop.invariant.2 ∙ rw e (bad-end s.n (records_of a) (omega (arith, records-length a)) (s.n + 1)))
 
 pub first-bad-spec : {M : Type 1} → statement M
 first-bad-spec =

@@ -6,7 +6,7 @@ use Prim.Native.Nat.{ℕ, ◌+◌, ◌-◌, ◌≤◌}
 use native.Mathlib.Omega.{arith}
 use lib.ListN.{length, drop}
 use Rattle.demand.specs.Records.{outside, put_all, lent_of}
-use Rattle.demand.specs.Sizes.{runMost}
+use Rattle.demand.specs.Sizes.{run_most}
 use Rattle.demand.proofs.RunLaws.{length-mapped}
 use Rattle.demand.proofs.RecordLaws.{put-all-next, put-all-end}
 use Rattle.demand.proofs.records.records_of.Statement.{statement}
@@ -16,10 +16,10 @@ use Rattle.demand.proofs.records.records_of.Lts as lts
 use Rattle.demand.proofs.records.put_record.Reads as put-record-reads
 
 abbrev invariant-loop : tie.invariant-loop
-invariant-loop run records₀ i₀ records i = (i ≤ runMost) × (put_all records i (drop i run.pieces) ≡ lent_of run.pieces)
+invariant-loop run records₀ i₀ records i = (i ≤ run_most) × (put_all records i (drop i run.pieces) ≡ lent_of run.pieces)
 
 abbrev decreases-loop : tie.decreases-loop
-decreases-loop run records₀ i₀ records i = runMost - i
+decreases-loop run records₀ i₀ records i = run_most - i
 
 -- src/records.rt:33:5
 loop-holds : tie.Need-loop-init invariant-loop decreases-loop
@@ -51,7 +51,7 @@ loop-again : tie.Need-loop-preserved invariant-loop decreases-loop
 loop-again c =
     let s = c.before.before.before.before.before.args in
     let l = c.before.before.before.before.loop in
-    let long : length s.t1.pieces ≡ runMost = search (rules, length-mapped) in
+    let long : length s.t1.pieces ≡ run_most = search (rules, length-mapped) in
     let one = put-all-next l.records s.t1.pieces l.i outside (omega arith) in
     (search rules, ap (λ (a : List ℕ). put_all a (l.i + 1) (drop (l.i + 1) s.t1.pieces)) c.put_record.ensures ∙ (sym one ∙ l.invariant.1))
 
@@ -59,7 +59,7 @@ returns : tie.Need-returns invariant-loop decreases-loop
 returns c =
     let s = c.before.before.args in
     let l = c.before.loop in
-    let long : length s.t1.pieces ≡ runMost = search (rules, length-mapped) in
+    let long : length s.t1.pieces ≡ run_most = search (rules, length-mapped) in
     sym (put-all-end l.records s.t1.pieces l.i (omega arith)) ∙ l.invariant.1
 
 pub records-of-spec : {M : Type 1} → statement M

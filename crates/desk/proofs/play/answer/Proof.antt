@@ -1,6 +1,6 @@
 -- `play::answer` meets its contract: the plan is the one that the line's order leaves.
 -- Assumes nothing.
-use Rattle.desk.proofs.DeskLaws.{after_line}
+use Rattle.desk.proofs.DeskLaws.{after-line}
 use borrow.Author.Rules.{rules}
 use Rattle.desk.proofs.play.answer.Statement.{statement}
 use Rattle.desk.proofs.play.answer.Tie as tie
@@ -19,7 +19,7 @@ returns c =
     let reply-to = c.before.before.reply-to in
     let order-in = c.before.before.before.order-in in
     let start = c.before.before.before.before.args in
-    after_line start.line start.state order-in.result reply-to.result order-in.ensures reply-to.ensures
+    after-line start.line start.state order-in.result reply-to.result order-in.ensures reply-to.ensures
 
 pub answer-spec : {M : Type 1} → statement M
 answer-spec = tie.close (tie.spec order-in-requires reply-to-requires tell-requires returns)

@@ -5,7 +5,7 @@ use mathlib.Core.Logic.{⊎_elim}
 use Prim.Native.Nat.{◌-◌, ◌≤◌, ◌<◌}
 use native.Mathlib.Omega.{arith}
 use lib.ListN.{length, drop}
-use Rattle.desk.specs.Desk.{playedBytes}
+use Rattle.desk.specs.Desk.{played_bytes}
 use Rattle.desk.proofs.DeskLaws.{desk, played-newline, played-other, played-end}
 use borrow.Author.Rules.{rules}
 use Rattle.desk.proofs.play.play_bytes.Statement.{statement}
@@ -13,7 +13,7 @@ use Rattle.desk.proofs.play.play_bytes.Tie as tie
 
 abbrev invariant-loop : tie.invariant-loop
 invariant-loop bytes start plan₀ line₀ i₀ plan line i =
-    (i ≤ length bytes) × (playedBytes (desk start plan₀ line₀) bytes ≡ playedBytes (desk start plan line) (drop i bytes))
+    (i ≤ length bytes) × (played_bytes (desk start plan₀ line₀) bytes ≡ played_bytes (desk start plan line) (drop i bytes))
 
 abbrev decreases-loop : tie.decreases-loop
 decreases-loop bytes start plan₀ line₀ i₀ plan line i =

@@ -5,9 +5,9 @@ use mathlib.Core.Bool.{true, false}
 use lib.ListN.{length}
 use Rattle.demand.specs.Sizes.{sized}
 use Rattle.task.specs.Names.{formed}
-use Rattle.task.specs.Tasks.{wholePiece}
+use Rattle.task.specs.Tasks.{whole_piece}
 use Rattle.demand.proofs.RunLaws.{length-mapped}
-use Rattle.edits.specs.Edits.{named, editFault}
+use Rattle.edits.specs.Edits.{named, edit_fault}
 use Rattle.task.specs.Tasks.{list_of}
 use Rattle.edits.proofs.ListLaws.{room-none, room-some}
 use Rattle.edits.proofs.EditLaws.{told-no, told-yes, sizes-no, sizes-yes, found-no, found-yes}
@@ -21,7 +21,7 @@ good c =
     let start = c.before.before.before.before.args in
     told-yes c.before.well-formed-2.result (formed start.task.name) c.before.well-formed-2.ensures c.if1.false
 
-fits : (c : tie.Else2) → sized (wholePiece c.before.before.before.before.before.before.before.args.task.times) ≡ true
+fits : (c : tie.Else2) → sized (whole_piece c.before.before.before.before.before.before.before.args.task.times) ≡ true
 fits c =
     let whole-piece = c.before.before.whole-piece in
     let start = c.before.before.before.before.before.before.before.args in
@@ -39,7 +39,7 @@ well-formed-requires : tie.Need-well-formed-requires
 well-formed-requires c κs = search rules
 
 returns : tie.Need-returns
-unfolding editFault
+unfolding edit_fault
 returns c =
     let start = c.before.before.before.before.args in
     rw (told-no c.before.well-formed-2.result (formed start.task.name) c.before.well-formed-2.ensures c.if1.true)
@@ -51,7 +51,7 @@ within-sizes-requires : tie.Need-within-sizes-requires
 within-sizes-requires c κs = search rules
 
 returns-2 : tie.Need-returns-2
-unfolding editFault
+unfolding edit_fault
 returns-2 c =
     let whole-piece = c.before.before.whole-piece in
     let start = c.before.before.before.before.before.before.before.args in
@@ -65,7 +65,7 @@ place-of-requires : tie.Need-place-of-requires
 place-of-requires c κs = search rules
 
 returns-3 : tie.Need-returns-3
-unfolding editFault
+unfolding edit_fault
 returns-3 c =
     let start = c.before.before.before.before.before.before.before.before.before.args in
     rw (
@@ -75,7 +75,7 @@ returns-3 c =
     )
 
 returns-4 : tie.Need-returns-4
-unfolding editFault
+unfolding edit_fault
 returns-4 c =
     let q = c.before.before.before.before.before.before.before.before.before.before.before.args.tasks in
     let long : length q.list ≡ 64 = search (rules, length-mapped) in
@@ -87,7 +87,7 @@ returns-4 c =
     )
 
 returns-5 : tie.Need-returns-5
-unfolding editFault
+unfolding edit_fault
 returns-5 c =
     let q = c.before.before.before.before.before.before.before.before.before.before.before.args.tasks in
     let long : length q.list ≡ 64 = search (rules, length-mapped) in

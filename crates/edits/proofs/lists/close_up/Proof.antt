@@ -6,7 +6,7 @@ use native.Mathlib.Omega.{arith}
 use lib.ListN.{length, take, get_or, length-set}
 use Rattle.task.specs.Tasks.{past}
 use Rattle.demand.proofs.RunLaws.{length-mapped}
-use Rattle.edits.specs.ways.ListInArray.{removed}
+use Rattle.edits.specs.Ways.ListInArray.{removed}
 use Rattle.edits.proofs.ListLaws.{remove-none, remove-more, lists-removed}
 use borrow.Author.Rules.{rules}
 use Rattle.edits.proofs.lists.close_up.Statement.{statement}

@@ -4,8 +4,8 @@ use mathlib.Core.Path.{◌≡◌}
 use mathlib.Core.Bool.{true}
 use Rattle.demand.specs.Sizes.{sized}
 use Rattle.task.specs.Names.{formed}
-use Rattle.task.specs.Tasks.{wholePiece, list_of}
-use Rattle.edits.specs.Edits.{editFault}
+use Rattle.task.specs.Tasks.{whole_piece, list_of}
+use Rattle.edits.specs.Edits.{edit_fault}
 use Rattle.edits.proofs.EditLaws.{told-no, told-yes, sizes-no, sizes-yes, found-no, found-yes}
 use borrow.Author.Rules.{rules}
 use Rattle.edits.proofs.lists.retime_fault.Statement.{statement}
@@ -17,7 +17,7 @@ good c =
     let start = c.before.before.before.before.args in
     told-yes c.before.well-formed-2.result (formed start.task.name) c.before.well-formed-2.ensures c.if1.false
 
-fits : (c : tie.Else2) → sized (wholePiece c.before.before.before.before.before.before.before.args.task.times) ≡ true
+fits : (c : tie.Else2) → sized (whole_piece c.before.before.before.before.before.before.before.args.task.times) ≡ true
 fits c =
     let whole-piece = c.before.before.whole-piece in
     let start = c.before.before.before.before.before.before.before.args in
@@ -28,7 +28,7 @@ well-formed-requires : tie.Need-well-formed-requires
 well-formed-requires c κs = search rules
 
 returns : tie.Need-returns
-unfolding editFault
+unfolding edit_fault
 returns c =
     let start = c.before.before.before.before.args in
     rw (told-no c.before.well-formed-2.result (formed start.task.name) c.before.well-formed-2.ensures c.if1.true)
@@ -40,7 +40,7 @@ within-sizes-requires : tie.Need-within-sizes-requires
 within-sizes-requires c κs = search rules
 
 returns-2 : tie.Need-returns-2
-unfolding editFault
+unfolding edit_fault
 returns-2 c =
     let whole-piece = c.before.before.whole-piece in
     let start = c.before.before.before.before.before.before.before.args in
@@ -54,7 +54,7 @@ place-of-requires : tie.Need-place-of-requires
 place-of-requires c κs = search rules
 
 returns-3 : tie.Need-returns-3
-unfolding editFault
+unfolding edit_fault
 returns-3 c =
     let start = c.before.before.before.before.before.before.before.before.before.args in
     rw (
@@ -64,7 +64,7 @@ returns-3 c =
     )
 
 returns-4 : tie.Need-returns-4
-unfolding editFault
+unfolding edit_fault
 returns-4 c =
     let start = c.before.before.before.before.before.before.before.before.before.args in
     rw (

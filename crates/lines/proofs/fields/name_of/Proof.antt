@@ -6,13 +6,13 @@ use Prim.Native.Nat.{◌-◌, ◌≤◌}
 use native.Mathlib.Omega.{arith}
 use lib.ListN.{take}
 use Rattle.demand.specs.Lists.{padded}
-use Rattle.task.specs.Names.{nameMost}
+use Rattle.task.specs.Names.{name_most}
 use Rattle.lines.proofs.FieldLaws.{name-more, name-all, name-cut}
 use Rattle.lines.proofs.fields.name_of.Statement.{statement}
 use Rattle.lines.proofs.fields.name_of.Tie as tie
 
 abbrev invariant-loop : tie.invariant-loop
-invariant-loop f bytes₀ len i₀ bytes i = (i ≤ len) × (i ≤ nameMost) × (bytes ≡ padded nameMost 0 (take i f))
+invariant-loop f bytes₀ len i₀ bytes i = (i ≤ len) × (i ≤ name_most) × (bytes ≡ padded name_most 0 (take i f))
 
 abbrev decreases-loop : tie.decreases-loop
 decreases-loop f bytes₀ len i₀ bytes i = len - i

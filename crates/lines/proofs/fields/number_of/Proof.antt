@@ -8,13 +8,13 @@ use Prim.Native.Nat.{ℕ, ◌+◌, ◌-◌, ◌*◌, ◌^◌, ◌≤◌, ◌<◌
 use native.Mathlib.Omega.{arith}
 use borrow.Author.Tests.{not-true, not-false}
 use lib.ListN.{length, drop, get_or}
-use Rattle.lines.specs.Lines.{isDigit, every, valueFrom, value_of}
+use Rattle.lines.specs.Lines.{is_digit, every, value_from, value_of}
 use Rattle.lines.proofs.FieldLaws.{every-at, every-end, value-at, value-end, digit_low, digit-high, digits-small, digits_more, number_short, number-long, number-led, number-other, number-yes}
 use Rattle.lines.proofs.fields.number_of.Statement.{statement}
 use Rattle.lines.proofs.fields.number_of.Tie as tie
 
 abbrev invariant-loop : tie.invariant-loop
-invariant-loop f n value₀ i₀ value i = (i ≤ n) × (value < 10 ^ i) × (every isDigit f ≡ every isDigit (drop i f)) × (value_of f ≡ valueFrom value (drop i f))
+invariant-loop f n value₀ i₀ value i = (i ≤ n) × (value < 10 ^ i) × (every is_digit f ≡ every is_digit (drop i f)) × (value_of f ≡ value_from value (drop i f))
 
 abbrev decreases-loop : tie.decreases-loop
 decreases-loop f n value₀ i₀ value i = n - i
@@ -64,10 +64,10 @@ returns-4 c =
     let loop = at-loop.loop in
     let i = loop.i in
     let is_digit = c.before.before.is_digit in
-    let bad : isDigit (get_or f i 0) ≡ false = sym is_digit.ensures ∙ not-true is_digit.result c.before.if4.true in
-    let rest = every isDigit (drop (i + 1) f) in
+    let bad : is_digit (get_or f i 0) ≡ false = sym is_digit.ensures ∙ not-true is_digit.result c.before.if4.true in
+    let rest = every is_digit (drop (i + 1) f) in
     let loop-test = c.before.before.before.before.loop-test in
-    c.no-number4.ensures ∙ number-other f (loop.invariant.2 ∙ every-at isDigit f i loop-test.true ∙ ap (λ (t : Bool). t && rest) bad)
+    c.no-number4.ensures ∙ number-other f (loop.invariant.2 ∙ every-at is_digit f i loop-test.true ∙ ap (λ (t : Bool). t && rest) bad)
 
 mul-value : tie.Need-overflow-mul-value invariant-loop decreases-loop
 mul-value c =
@@ -103,17 +103,17 @@ loop-again c =
     let i = loop.i in
     let b = get_or f i 0 in
     let is_digit = c.before.before.is_digit in
-    let digit : isDigit b ≡ true = sym is_digit.ensures ∙ not-false is_digit.result c.before.if4.false in
+    let digit : is_digit b ≡ true = sym is_digit.ensures ∙ not-false is_digit.result c.before.if4.false in
     let loop-test = c.before.before.before.before.loop-test in
     let low : i < length f = loop-test.true in
     let wide = c.wide.result in
     let same : wide ≡ b = c.wide.ensures.0 in
-    let rest = every isDigit (drop (i + 1) f) in
+    let rest = every is_digit (drop (i + 1) f) in
     let value = loop.value * 10 + (b - 48) in (
       omega arith,
       digits_more loop.value i (wide - 48) loop.invariant.1 (omega (arith, digit-high b digit)),
-      loop.invariant.2 ∙ every-at isDigit f i low ∙ ap (λ (t : Bool). t && rest) digit,
-      loop.invariant.3 ∙ value-at loop.value f i low ∙ ap (λ (v : ℕ). valueFrom (loop.value * 10 + (v - 48)) (drop (i + 1) f)) (sym same),
+      loop.invariant.2 ∙ every-at is_digit f i low ∙ ap (λ (t : Bool). t && rest) digit,
+      loop.invariant.3 ∙ value-at loop.value f i low ∙ ap (λ (v : ℕ). value_from (loop.value * 10 + (v - 48)) (drop (i + 1) f)) (sym same),
     )
 
 returns-5 : tie.Need-returns-5 invariant-loop decreases-loop
@@ -124,7 +124,7 @@ returns-5 c =
     let short : length f ≤ i = c.loop-test.false in
     let unled = c.before.before.before.unled in
     number-yes f loop.value (omega arith) (omega arith) (sym unled.ensures ∙ not-false unled.result c.before.before.if3.false)
-    (loop.invariant.2 ∙ every-end isDigit f i short) (sym (loop.invariant.3 ∙ value-end loop.value f i short))
+    (loop.invariant.2 ∙ every-end is_digit f i short) (sym (loop.invariant.3 ∙ value-end loop.value f i short))
 
 pub number-of-spec : {M : Type 1} → statement M
 number-of-spec =

@@ -5,14 +5,14 @@ use mathlib.Core.Path.{◌≡◌, sym, ◌∙◌}
 use Prim.Native.Nat.{◌-◌, ◌≤◌}
 use native.Mathlib.Omega.{arith}
 use lib.ListN.{length, drop}
-use Rattle.task.specs.Names.{sameBytes}
+use Rattle.task.specs.Names.{same_bytes}
 use Rattle.task.proofs.NameLaws.{same_step, same-differ, same_end}
 use Rattle.lines.proofs.LineLaws.{same-lengths}
 use Rattle.lines.proofs.fields.same_run.Statement.{statement}
 use Rattle.lines.proofs.fields.same_run.Tie as tie
 
 abbrev invariant-loop : tie.invariant-loop
-invariant-loop a b i₀ i = (i ≤ length a) × (sameBytes a b ≡ sameBytes (drop i a) (drop i b))
+invariant-loop a b i₀ i = (i ≤ length a) × (same_bytes a b ≡ same_bytes (drop i a) (drop i b))
 
 abbrev decreases-loop : tie.decreases-loop
 decreases-loop a b i₀ i = length a - i

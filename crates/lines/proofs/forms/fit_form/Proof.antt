@@ -141,7 +141,7 @@ returns-5 c =
     let until2 = c.before.before.before.before.before.until2 in
     let if2 = c.before.before.before.before.before.before.before.if2 in
     let well-formed = c.before.before.before.before.before.before.before.before.well-formed in
-    c.fit_line.ensures
+    c.fit-line.ensures
     ∙ fit-some s e run more n named until2.result until2.ensures if3.left name-of2.result name-of2.ensures
     (sym well-formed.ensures ∙ not-false well-formed.result if2.left)
     (sym well-formed2.ensures ∙ not-false well-formed2.result c.before.if4.left)

@@ -1,8 +1,8 @@
--- `forms::fit_line` meets its contract: each field is what its function gives.
+-- `forms::fit-line` meets its contract: each field is what its function gives.
 -- Assumes nothing.
 use borrow.Author.Rules.{rules}
-use Rattle.lines.proofs.forms.fit_line.Statement.{statement}
-use Rattle.lines.proofs.forms.fit_line.Tie as tie
+use Rattle.lines.proofs.forms.fit-line.Statement.{statement}
+use Rattle.lines.proofs.forms.fit-line.Tie as tie
 
 no-machine-requires : tie.Need-no-machine-requires
 no-machine-requires c κs = search rules

@@ -1,7 +1,7 @@
 -- `orders::only_word` meets its contract: of the words only `list` and `diff` stand alone.
 -- Assumes nothing.
 use Rattle.lines.specs.Forms.{part_form}
-use Rattle.lines.specs.Orders.{timedForm, withdrawForm}
+use Rattle.lines.specs.Orders.{timed_form, withdraw_form}
 use borrow.Author.Rules.{rules}
 use Rattle.lines.proofs.orders.only_word.Statement.{statement}
 use Rattle.lines.proofs.orders.only_word.Tie as tie
@@ -43,17 +43,17 @@ no-order-requires-4 : tie.Need-no-order-requires-4
 no-order-requires-4 c κs = search rules
 
 returns : tie.Need-returns
-unfolding part_form timedForm withdrawForm
+unfolding part_form timed_form withdraw_form
 returns c =
     rw c.before.enum_told.given.1 c.no-order.ensures
 
 returns-2 : tie.Need-returns-2
-unfolding part_form timedForm withdrawForm
+unfolding part_form timed_form withdraw_form
 returns-2 c =
     rw c.before.enum-told2.given.1 c.no-order2.ensures
 
 returns-3 : tie.Need-returns-3
-unfolding part_form timedForm withdrawForm
+unfolding part_form timed_form withdraw_form
 returns-3 c =
     rw c.before.enum-told3.given.1 c.no-order3.ensures
 

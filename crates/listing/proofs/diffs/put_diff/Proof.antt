@@ -4,11 +4,11 @@ use mathlib.Core.List.{List}
 use Prim.Native.Nat.{ℕ, ◌+◌, ◌*◌, ◌-◌, ◌≤◌}
 use native.Mathlib.Omega.{arith}
 use borrow.Author.Rules.{rules}
-use Rattle.plan.specs.ways.PlacedArray.{placedIn}
+use Rattle.plan.specs.Ways.PlacedArray.{placed_in}
 use Rattle.plan.proofs.LentLaws.{placed-length}
 use Rattle.listing.specs.Text.{Wrote}
 use Rattle.listing.specs.Listing.{spelling}
-use Rattle.listing.specs.ways.RankArrays.{nameWith, rankBlocks, rankedBelow}
+use Rattle.listing.specs.Ways.RankArrays.{name_with, rank_blocks, ranked_below}
 use Rattle.listing.proofs.TextLaws.{wrote_none, wrote-both, wrote-length}
 use Rattle.listing.proofs.DiffTextLaws.{blocks-alike, blocks_more, lesser-none, lesser-more, lesser-few}
 use Rattle.listing.proofs.diffs.put_diff.Statement.{statement}
@@ -22,8 +22,8 @@ use Rattle.listing.proofs.stands.alike.Reads as alike-reads
 
 abbrev invariant-loop : tie.invariant-loop
 invariant-loop buf₀ ranks tasks stands n others more rest m k₀ rank₀ buf k rank =
-    (rank ≤ 129) × (k ≤ 47 + 184 * rankedBelow rank (placedIn stands n) + 184 * rankedBelow rank (placedIn rest m))
-    × Wrote buf₀ k₀ (rankBlocks (λ r. nameWith r ranks tasks.list others more.list) (placedIn stands n) (placedIn rest m) rank) k buf
+    (rank ≤ 129) × (k ≤ 47 + 184 * ranked_below rank (placed_in stands n) + 184 * ranked_below rank (placed_in rest m))
+    × Wrote buf₀ k₀ (rank_blocks (λ r. name_with r ranks tasks.list others more.list) (placed_in stands n) (placed_in rest m) rank) k buf
 
 abbrev decreases-loop : tie.decreases-loop
 decreases-loop buf₀ ranks tasks stands n others more rest m k₀ rank₀ buf k rank = 129 - rank
@@ -34,8 +34,8 @@ put-diff-head-requires c κs = search rules
 loop-holds : tie.Need-loop-init invariant-loop decreases-loop
 loop-holds c =
     let s = c.before.before.before.before.before.args in
-    let l = placedIn s.stands.now s.n in
-    let k = placedIn s.rest.now s.m in
+    let l = placed_in s.stands.now s.n in
+    let k = placed_in s.rest.now s.m in
     (omega arith, omega (arith, c.before.before.put-diff-head.ensures.1, lesser-none l, lesser-none k), wrote_none _ _)
 
 alike-requires : tie.Need-alike-requires invariant-loop decreases-loop
@@ -52,9 +52,9 @@ loop-less c = search rules
 loop-again : tie.Need-loop-preserved invariant-loop decreases-loop
 loop-again c =
     let s = c.before.before.before.before.before.before.before.before.before.args in
-    let l = placedIn s.stands.now s.n in
-    let k = placedIn s.rest.now s.m in
-    let name : ℕ → List ℕ = (λ r. nameWith r s.ranks.now s.tasks.list s.others.now s.more.list) in
+    let l = placed_in s.stands.now s.n in
+    let k = placed_in s.rest.now s.m in
+    let name : ℕ → List ℕ = (λ r. name_with r s.ranks.now s.tasks.list s.others.now s.more.list) in
     let h = c.before.before.before.before.before.before.put-diff-head in
     let at = c.before.before.before.loop in (
       omega (arith, c.before.before.loop-test.true),
@@ -71,8 +71,8 @@ name-with-requires c κs =
 put-moved-requires : tie.Need-put-moved-requires invariant-loop decreases-loop
 put-moved-requires c κs =
     let s = c.before.before.before.before.before.before.before.before.before.before.before.args in
-    let l = placedIn s.stands.now s.n in
-    let k = placedIn s.rest.now s.m in
+    let l = placed_in s.stands.now s.n in
+    let k = placed_in s.rest.now s.m in
     let p = c.before.before.before.before.before.before.before.before.before.before.before.requires in
     let at = c.before.before.before.before.before.loop in (
       omega (
@@ -108,9 +108,9 @@ loop-again-2 c =
     let at-put-diff-head = c.before.before.before.before.before.before.before.before.before.before.before in
     let h = at-put-diff-head.put-diff-head in
     let s = at-put-diff-head.before.before.before.args in
-    let l = placedIn s.stands.now s.n in
-    let k = placedIn s.rest.now s.m in
-    let name : ℕ → List ℕ = (λ r. nameWith r s.ranks.now s.tasks.list s.others.now s.more.list) in (
+    let l = placed_in s.stands.now s.n in
+    let k = placed_in s.rest.now s.m in
+    let name : ℕ → List ℕ = (λ r. name_with r s.ranks.now s.tasks.list s.others.now s.more.list) in (
       omega (arith, loop-test.true),
       omega (arith, at.invariant.1, w.ensures.1, lesser-more at.rank l, lesser-more at.rank k),
       subst (λ (t : List ℕ). Wrote h.new.0 h.result t w.result w.new.0)
@@ -127,14 +127,14 @@ same_length c =
 returns : tie.Need-returns invariant-loop decreases-loop
 returns c =
     let s = c.before.before.before.before.before.before.before.args in
-    let l = placedIn s.stands.now s.n in
-    let k = placedIn s.rest.now s.m in
-    let name : ℕ → List ℕ = (λ r. nameWith r s.ranks.now s.tasks.list s.others.now s.more.list) in
+    let l = placed_in s.stands.now s.n in
+    let k = placed_in s.rest.now s.m in
+    let name : ℕ → List ℕ = (λ r. name_with r s.ranks.now s.tasks.list s.others.now s.more.list) in
     let h = c.before.before.before.before.put-diff-head in
     let at = c.before.loop in
     let all : at.rank ≡ 129 = omega (arith, at.invariant.0, c.loop-test.false) in
-    let blocks : Wrote h.new.0 h.result (rankBlocks name l k 129) at.k at.buf =
-    subst (λ (r : ℕ). Wrote h.new.0 h.result (rankBlocks name l k r) at.k at.buf) all at.invariant.2 in (
+    let blocks : Wrote h.new.0 h.result (rank_blocks name l k 129) at.k at.buf =
+    subst (λ (r : ℕ). Wrote h.new.0 h.result (rank_blocks name l k r) at.k at.buf) all at.invariant.2 in (
       wrote-both h.ensures.0 blocks,
       omega (
         arith,

@@ -1,7 +1,7 @@
 -- `diffs::put_diff_head` meets its contract: its three fields, one behind another.
 use mathlib.Core.Path.{sym}
 use native.Mathlib.Omega.{arith}
-use Rattle.listing.specs.Diff.{diffHead}
+use Rattle.listing.specs.Diff.{diff_head}
 use Rattle.listing.proofs.TextLaws.{wrote-both}
 use borrow.Author.Rules.{rules}
 use Rattle.listing.proofs.diffs.put_diff_head.Statement.{statement}
@@ -34,7 +34,7 @@ same_length : tie.Need-same-length
 same_length c = search rules
 
 returns : tie.Need-returns
-unfolding diffHead
+unfolding diff_head
 returns c =
     let d = c.before.before.put-number2 in
     let wide2 = c.before.before.before.wide2 in

@@ -5,10 +5,10 @@ use Prim.Native.Nat.{ℕ}
 use native.Mathlib.Omega.{arith}
 use lib.Dec.{eqb}
 use lib.ListN.{length}
-use Rattle.plan.specs.ways.PlacedArray.{placedIn}
+use Rattle.plan.specs.Ways.PlacedArray.{placed_in}
 use Rattle.listing.specs.Text.{Wrote}
 use Rattle.listing.specs.Listing.{spelling}
-use Rattle.listing.specs.Diff.{ofItem}
+use Rattle.listing.specs.Diff.{of_item}
 use Rattle.listing.proofs.TextLaws.{wrote-both}
 use Rattle.listing.proofs.DiffTextLaws.{of-few, block-second, block-first, block-both}
 use borrow.Author.Rules.{rules}
@@ -37,9 +37,9 @@ returns c =
     let if1 = c.before.before.before.before.before.if1 in
     let of-rank = c.before.before.before.before.before.before.of-rank in
     let s = c.before.before.before.before.before.before.before.before.args in
-    let l = placedIn s.stands.now s.n in
-    let k = placedIn s.others.now s.m in
-    let none : length (ofItem eqb s.rank l) ≡ 0 = sym of-rank.ensures ∙ if1.true in (
+    let l = placed_in s.stands.now s.n in
+    let k = placed_in s.others.now s.m in
+    let none : length (of_item eqb s.rank l) ≡ 0 = sym of-rank.ensures ∙ if1.true in (
       subst (λ (t : List ℕ). Wrote s.buf.now s.at t p.result p.new.0) (block-second (spelling s.name) s.rank l k none) p.ensures.0,
       omega (arith, p.ensures.1),
     )
@@ -64,10 +64,10 @@ returns-2 c =
     let if1 = c.before.before.before.before.before.before.before.if1 in
     let of-rank = c.before.before.before.before.before.before.before.before.of-rank in
     let s = c.before.before.before.before.before.before.before.before.before.before.args in
-    let l = placedIn s.stands.now s.n in
-    let k = placedIn s.others.now s.m in
-    let some : length (ofItem eqb s.rank l) ≡ 0 → ⊥ = (λ e. if1.false (of-rank.ensures ∙ e)) in
-    let none : length (ofItem eqb s.rank k) ≡ 0 = sym of-rank2.ensures ∙ if2.true in (
+    let l = placed_in s.stands.now s.n in
+    let k = placed_in s.others.now s.m in
+    let some : length (of_item eqb s.rank l) ≡ 0 → ⊥ = (λ e. if1.false (of-rank.ensures ∙ e)) in
+    let none : length (of_item eqb s.rank k) ≡ 0 = sym of-rank2.ensures ∙ if2.true in (
       subst (λ (t : List ℕ). Wrote s.buf.now s.at t p.result p.new.0)
           (block-first (spelling s.name) s.rank l k some none) p.ensures.0,
       omega (arith, p.ensures.1),
@@ -103,10 +103,10 @@ returns-3 c =
     let if1 = at-of-rank2.before.if1 in
     let of-rank = at-of-rank2.before.before.of-rank in
     let s = at-of-rank2.before.before.before.before.args in
-    let l = placedIn s.stands.now s.n in
-    let k = placedIn s.others.now s.m in
-    let some : length (ofItem eqb s.rank l) ≡ 0 → ⊥ = (λ e. if1.false (of-rank.ensures ∙ e)) in
-    let more : length (ofItem eqb s.rank k) ≡ 0 → ⊥ = (λ e. if2.false (of-rank2.ensures ∙ e)) in (
+    let l = placed_in s.stands.now s.n in
+    let k = placed_in s.others.now s.m in
+    let some : length (of_item eqb s.rank l) ≡ 0 → ⊥ = (λ e. if1.false (of-rank.ensures ∙ e)) in
+    let more : length (of_item eqb s.rank k) ≡ 0 → ⊥ = (λ e. if2.false (of-rank2.ensures ∙ e)) in (
       subst (λ (t : List ℕ). Wrote s.buf.now s.at t q.result q.new.0)
           (block-both (spelling s.name) s.rank l k some more) (wrote-both p.ensures.0 q.ensures.0),
       omega (arith, p.ensures.1, q.ensures.1),

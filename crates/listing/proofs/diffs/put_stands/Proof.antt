@@ -7,11 +7,11 @@ use borrow.Author.Rules.{rules}
 use lib.Dec.{eqb}
 use lib.ListN.{length}
 use Rattle.walks.specs.Way.{Placed}
-use Rattle.plan.specs.ways.PlacedArray.{placed_at, placedIn}
+use Rattle.plan.specs.Ways.PlacedArray.{placed_at, placed_in}
 use Rattle.plan.proofs.LentLaws.{placed-each}
 use Rattle.listing.specs.Text.{Wrote}
 use Rattle.listing.specs.Listing.{spelling}
-use Rattle.listing.specs.Diff.{ofItem}
+use Rattle.listing.specs.Diff.{of_item}
 use Rattle.listing.proofs.TextLaws.{wrote_none, wrote-both, wrote-length}
 use Rattle.listing.proofs.DiffTextLaws.{lines_of, lines_more, lines_stay, of-more, of-stay, of-few}
 use Rattle.listing.proofs.diffs.put_stands.Statement.{statement}
@@ -24,8 +24,8 @@ use Rattle.listing.proofs.stands.ranked_at.Reads as ranked-at-reads
 
 abbrev invariant-loop : tie.invariant-loop
 invariant-loop buf₀ at word name rank stands n k₀ i₀ buf k i =
-    (i ≤ n) × (k ≤ at + 184 * length (ofItem eqb rank (placedIn stands i)))
-    × Wrote buf₀ at (lines_of word (spelling name) rank (placedIn stands i)) k buf
+    (i ≤ n) × (k ≤ at + 184 * length (of_item eqb rank (placed_in stands i)))
+    × Wrote buf₀ at (lines_of word (spelling name) rank (placed_in stands i)) k buf
 
 abbrev decreases-loop : tie.decreases-loop
 decreases-loop buf₀ at word name rank stands n k₀ i₀ buf k i = n - i
@@ -105,8 +105,8 @@ returns c =
     let s = c.before.before.before.before.args in
     let a = s.stands.now in
     let all : l.i ≡ s.n = omega (arith, l.invariant.0, loop-test.false) in (
-      subst (λ (i : ℕ). Wrote s.buf.now s.at (lines_of s.word.now (spelling s.name) s.rank (placedIn a i)) l.k l.buf) all l.invariant.2,
-      subst (λ (i : ℕ). l.k ≤ s.at + 184 * length (ofItem eqb s.rank (placedIn a i))) all l.invariant.1,
+      subst (λ (i : ℕ). Wrote s.buf.now s.at (lines_of s.word.now (spelling s.name) s.rank (placed_in a i)) l.k l.buf) all l.invariant.2,
+      subst (λ (i : ℕ). l.k ≤ s.at + 184 * length (of_item eqb s.rank (placed_in a i))) all l.invariant.1,
     )
 
 pub put-stands-spec : {M : Type 1} → statement M

@@ -7,9 +7,9 @@ use lib.ListN.{length}
 use Rattle.demand.proofs.RunLaws.{length-mapped}
 use Rattle.plan.specs.declared.Stored.{Stored}
 use Rattle.plan.specs.Layout.{blank}
-use Rattle.listing.specs.ways.SeatArrays.{seatsLaid}
+use Rattle.listing.specs.Ways.SeatArrays.{seats_laid}
 use Rattle.listing.proofs.EntryLaws.{at-within}
-use Rattle.listing.proofs.SeatLaws.{rowTo, seats-more, seats-all, seats-past}
+use Rattle.listing.proofs.SeatLaws.{row_to, seats-more, seats-all, seats-past}
 use Rattle.listing.proofs.rows.lay_seats.Statement.{statement}
 use Rattle.listing.proofs.rows.lay_seats.Tie as tie
 use Rattle.listing.proofs.rows.lay_seats.Reads as reads
@@ -22,7 +22,7 @@ use Rattle.plan.proofs.stored_piece.Reads as stored-piece-reads
 
 abbrev invariant-loop : tie.invariant-loop
 invariant-loop records₀ places₀ core layout n i₀ records places i =
-    (i ≤ n) × (seatsLaid core places records i ≡ rowTo layout core i) × (length records ≡ 553) × (length places ≡ 79)
+    (i ≤ n) × (seats_laid core places records i ≡ row_to layout core i) × (length records ≡ 553) × (length places ≡ 79)
 
 abbrev decreases-loop : tie.decreases-loop
 decreases-loop records₀ places₀ core layout n i₀ records places i = n - i
@@ -122,8 +122,8 @@ returns-2 c =
     let l = c.before.loop in
     let n = c.before.before.seats in
     let all : l.i ≡ n.result = omega (arith, l.invariant.0, c.loop-test.false) in (
-      ap (λ (i : ℕ). seatsLaid s.core l.places l.records i) (sym all)
-          ∙ (l.invariant.1 ∙ (ap (rowTo s.t3 s.core) all
+      ap (λ (i : ℕ). seats_laid s.core l.places l.records i) (sym all)
+          ∙ (l.invariant.1 ∙ (ap (row_to s.t3 s.core) all
           ∙ seats-all s.t3 s.core (rows_long b) (omega (arith, c.before.before.before.before.if1.false)) n.result n.ensures.0 n.ensures.2)),
       n.ensures.1,
       l.invariant.2,

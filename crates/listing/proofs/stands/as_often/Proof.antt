@@ -8,9 +8,9 @@ use borrow.Author.Rules.{rules}
 use borrow.Author.Tests.{eq-eqb, ne_eqb}
 use lib.Dec.{eqb}
 use Rattle.walks.specs.Way.{Placed}
-use Rattle.plan.specs.ways.PlacedArray.{placed_at, placedIn}
+use Rattle.plan.specs.Ways.PlacedArray.{placed_at, placed_in}
 use Rattle.lines.specs.Lines.{every}
-use Rattle.listing.specs.Diff.{often, ofItem, asOften}
+use Rattle.listing.specs.Diff.{often, of_item, as_often}
 use Rattle.listing.proofs.RankLaws.{often-as, every_more, every-fails}
 use Rattle.listing.proofs.stands.as_often.Statement.{statement}
 use Rattle.listing.proofs.stands.as_often.Tie as tie
@@ -22,7 +22,7 @@ use Rattle.listing.proofs.stands.ranked_at.Reads as ranked-at-reads
 
 abbrev invariant-loop : tie.invariant-loop
 invariant-loop rank stands n others m i₀ i =
-    (i ≤ n) × (every (asOften eqb (placedIn stands n) (placedIn others m)) (ofItem eqb rank (placedIn stands i)) ≡ true)
+    (i ≤ n) × (every (as_often eqb (placed_in stands n) (placed_in others m)) (of_item eqb rank (placed_in stands i)) ≡ true)
 
 abbrev decreases-loop : tie.decreases-loop
 decreases-loop rank stands n others m i₀ i = n - i
@@ -49,12 +49,12 @@ returns c =
     let s = at-rank.before.before.before.args in
     let i = at-rank.before.before.loop.i in
     let a = s.stands.now in
-    let l = placedIn a s.n in
-    let k = placedIn s.others.now s.m in
+    let l = placed_in a s.n in
+    let k = placed_in s.others.now s.m in
     let e = placed_at a i in
     let here : c.before.before.often.result ≡ often eqb e l = often-as _ e l _ c.before.before.often.ensures ranked.ensures in
     let there : c.before.often2.result ≡ often eqb e k = often-as _ e k _ c.before.often2.ensures ranked.ensures in
-    sym (every-fails a (λ (f : Placed ℕ). eqb f.item s.rank) (asOften eqb l k) i s.n at-rank.before.loop-test.true
+    sym (every-fails a (λ (f : Placed ℕ). eqb f.item s.rank) (as_often eqb l k) i s.n at-rank.before.loop-test.true
     (eq-eqb e.item s.rank (sym at-rank.rank-at.ensures ∙ c.before.before.before.before.if1.true))
     (ne_eqb (often eqb e l) (often eqb e k) (λ same. c.if2.true (here ∙ (same ∙ sym there)))))
 
@@ -69,12 +69,12 @@ loop-again c =
     let s = c.before.before.before.before.args in
     let i = c.before.before.before.loop.i in
     let a = s.stands.now in
-    let l = placedIn a s.n in
-    let k = placedIn s.others.now s.m in
+    let l = placed_in a s.n in
+    let k = placed_in s.others.now s.m in
     let e = placed_at a i in
     let item : c.before.rank-at.result ≡ e.item = c.before.rank-at.ensures in (
       omega (arith, c.before.before.loop-test.true),
-      every_more a (λ (f : Placed ℕ). eqb f.item s.rank) (asOften eqb l k) i c.before.before.before.loop.invariant.1
+      every_more a (λ (f : Placed ℕ). eqb f.item s.rank) (as_often eqb l k) i c.before.before.before.loop.invariant.1
           (⊎_elim
           (λ came.
           let here : came.2.result ≡ often eqb e l = often-as _ e l _ came.2.ensures came.1.ensures in
@@ -89,10 +89,10 @@ loop-again c =
 returns-2 : tie.Need-returns-2 invariant-loop decreases-loop
 returns-2 c =
     let s = c.before.before.args in
-    let l = placedIn s.stands.now s.n in
-    let k = placedIn s.others.now s.m in
+    let l = placed_in s.stands.now s.n in
+    let k = placed_in s.others.now s.m in
     let all : c.before.loop.i ≡ s.n = omega (arith, c.before.loop.invariant.0, c.loop-test.false) in
-    sym (ap (λ (i : ℕ). every (asOften eqb l k) (ofItem eqb s.rank (placedIn s.stands.now i))) (sym all) ∙ c.before.loop.invariant.1)
+    sym (ap (λ (i : ℕ). every (as_often eqb l k) (of_item eqb s.rank (placed_in s.stands.now i))) (sym all) ∙ c.before.loop.invariant.1)
 
 pub as-often-spec : {M : Type 1} → statement M
 as-often-spec =

@@ -8,11 +8,11 @@ use lib.ListN.{length, get_or, get_or-eq_default}
 use Rattle.demand.proofs.RunLaws.{length-mapped}
 use Rattle.plan.specs.declared.Stored.{Stored}
 use Rattle.plan.specs.Layout.{blank}
-use Rattle.plan.specs.ways.PlacedArray.{placedIn}
-use Rattle.listing.specs.Diff.{seatsOn}
-use Rattle.listing.specs.ways.RankArrays.{rankedBy}
+use Rattle.plan.specs.Ways.PlacedArray.{placed_in}
+use Rattle.listing.specs.Diff.{seats_on}
+use Rattle.listing.specs.Ways.RankArrays.{ranked_by}
 use Rattle.listing.proofs.EntryLaws.{at-within, row-all}
-use Rattle.listing.proofs.SeatLaws.{rowTo}
+use Rattle.listing.proofs.SeatLaws.{row_to}
 use Rattle.listing.proofs.RankLaws.{stand-more, stands-over}
 use Rattle.listing.proofs.stands.lay_stands.Statement.{statement}
 use Rattle.listing.proofs.stands.lay_stands.Tie as tie
@@ -28,7 +28,7 @@ use Rattle.plan.proofs.stored_piece.Reads as stored-piece-reads
 abbrev invariant-loop : tie.invariant-loop
 invariant-loop stands₀ ranks layout n₀ core₀ i₀ stands n core i =
     (core ≤ 16) × (i ≤ 64) × (i ≤ get_or layout.lens core 0) × (n ≤ 64 * core + i) × (length stands ≡ 9216)
-    × (placedIn stands n ≡ map (rankedBy ranks) (seatsOn layout core ++ rowTo layout core i))
+    × (placed_in stands n ≡ map (ranked_by ranks) (seats_on layout core ++ row_to layout core i))
 
 abbrev decreases-loop : tie.decreases-loop
 decreases-loop stands₀ ranks layout n₀ core₀ i₀ stands n core i = 65 * (16 - core) - i
@@ -141,7 +141,7 @@ loop-again-2 c =
       omega arith,
       omega (arith, l.invariant.3, l.invariant.1),
       l.invariant.4,
-      l.invariant.5 ∙ ap (map (rankedBy s.ranks.now))
+      l.invariant.5 ∙ ap (map (ranked_by s.ranks.now))
           (stands-over s.t3 l.core (rows_long b) (omega (arith, at-loop-test.loop-test.true)) l.i l.invariant.2
           (λ (h : l.i < get_or s.t3.lens l.core 0). same ∙ n.ensures.2 (omega (arith, same)))),
     )
@@ -158,9 +158,9 @@ returns c =
       ap (λ (q : ℕ). get_or s.t3.lens q 0) all,
       get_or-eq_default s.t3.lens 0 {n = 16} (omega (arith, lens-long c.before.before)),
     ) in
-    let over : seatsOn s.t3 l.core ++ rowTo s.t3 l.core l.i ≡ seatsOn s.t3 16 =
-    rw (all, none) (append-nil (seatsOn s.t3 16)) in
-    (l.invariant.5 ∙ ap (map (rankedBy s.ranks.now)) over, omega (arith, l.invariant.3, none, all))
+    let over : seats_on s.t3 l.core ++ row_to s.t3 l.core l.i ≡ seats_on s.t3 16 =
+    rw (all, none) (append-nil (seats_on s.t3 16)) in
+    (l.invariant.5 ∙ ap (map (ranked_by s.ranks.now)) over, omega (arith, l.invariant.3, none, all))
 
 pub lay-stands-spec : {M : Type 1} → statement M
 lay-stands-spec =

@@ -8,8 +8,8 @@ use borrow.Author.Tests.{eq-eqb, ne_eqb}
 use lib.Dec.{eqb}
 use lib.ListN.{length}
 use Rattle.walks.specs.Way.{Placed}
-use Rattle.plan.specs.ways.PlacedArray.{placed_at, placedIn}
-use Rattle.listing.specs.Diff.{ofItem}
+use Rattle.plan.specs.Ways.PlacedArray.{placed_at, placed_in}
+use Rattle.listing.specs.Diff.{of_item}
 use Rattle.listing.proofs.RankLaws.{counted}
 use Rattle.listing.proofs.stands.of_rank.Statement.{statement}
 use Rattle.listing.proofs.stands.of_rank.Tie as tie
@@ -19,7 +19,7 @@ use Rattle.listing.proofs.stands.rank_at.Reads as rank-at-reads
 
 abbrev invariant-loop : tie.invariant-loop
 invariant-loop stands n rank count₀ i₀ count i =
-    (i ≤ n) × (count ≤ i) × (count ≡ length (ofItem eqb rank (placedIn stands i)))
+    (i ≤ n) × (count ≤ i) × (count ≡ length (of_item eqb rank (placed_in stands i)))
 
 abbrev decreases-loop : tie.decreases-loop
 decreases-loop stands n rank count₀ i₀ count i = n - i
@@ -56,7 +56,7 @@ returns : tie.Need-returns invariant-loop decreases-loop
 returns c =
     let l = c.before.loop in
     let all : l.i ≡ c.before.before.args.n = omega (arith, l.invariant.0, c.loop-test.false) in
-    l.invariant.2 ∙ ap (λ (k : ℕ). length (ofItem eqb c.before.before.args.rank (placedIn c.before.before.args.stands.now k))) all
+    l.invariant.2 ∙ ap (λ (k : ℕ). length (of_item eqb c.before.before.args.rank (placed_in c.before.before.args.stands.now k))) all
 
 pub of-rank-spec : {M : Type 1} → statement M
 of-rank-spec =

@@ -6,8 +6,8 @@ use Prim.Native.Nat.{ℕ, ◌-◌, ◌≤◌}
 use native.Mathlib.Omega.{arith}
 use borrow.Author.Rules.{rules}
 use lib.Dec.{eqb}
-use Rattle.plan.specs.ways.PlacedArray.{seatOf, placed_at, placedIn}
-use Rattle.listing.specs.Diff.{samePlaced, often}
+use Rattle.plan.specs.Ways.PlacedArray.{seat_of, placed_at, placed_in}
+use Rattle.listing.specs.Diff.{same_placed, often}
 use Rattle.listing.proofs.RankLaws.{counted, other-rank}
 use Rattle.listing.proofs.stands.often.Statement.{statement}
 use Rattle.listing.proofs.stands.often.Tie as tie
@@ -19,7 +19,7 @@ use Rattle.listing.proofs.stands.same_ranked.Reads as same-ranked-reads
 
 abbrev invariant-loop : tie.invariant-loop
 invariant-loop stands n e count₀ i₀ count i =
-    (i ≤ n) × (count ≤ i) × (count ≡ often eqb (seatOf e.core e.rank e.piece) (placedIn stands i))
+    (i ≤ n) × (count ≤ i) × (count ≡ often eqb (seat_of e.core e.rank e.piece) (placed_in stands i))
 
 abbrev decreases-loop : tie.decreases-loop
 decreases-loop stands n e count₀ i₀ count i = n - i
@@ -41,12 +41,12 @@ loop-again c =
     let s = c.before.before.before.before.before.args in
     let l = c.before.before.before.before.loop in
     let a = s.stands.now in
-    let e = seatOf s.e.core s.e.rank s.e.piece in
+    let e = seat_of s.e.core s.e.rank s.e.piece in
     let item : c.before.before.rank-at.result ≡ (placed_at a l.i).item = c.before.before.rank-at.ensures in
-    let other : samePlaced eqb e (placed_at a l.i) ≡ false = other-rank e (placed_at a l.i) (λ same. c.if1.true (item ∙ same)) in (
+    let other : same_placed eqb e (placed_at a l.i) ≡ false = other-rank e (placed_at a l.i) (λ same. c.if1.true (item ∙ same)) in (
       omega (arith, c.before.before.before.loop-test.true),
       omega (arith, l.invariant.1),
-      counted a (samePlaced eqb e) l.i l.count l.count l.invariant.2 (inr (other, refl)),
+      counted a (same_placed eqb e) l.i l.count l.count l.invariant.2 (inr (other, refl)),
     )
 
 ranked-at-requires : tie.Need-ranked-at-requires invariant-loop decreases-loop
@@ -69,12 +69,12 @@ loop-again-2 c =
     let s = c.before.before.before.before.before.before.before.before.args in
     let l = c.before.before.before.before.before.before.before.loop in
     let a = s.stands.now in
-    let e = seatOf s.e.core s.e.rank s.e.piece in
+    let e = seat_of s.e.core s.e.rank s.e.piece in
     let same = c.before.same-ranked in
-    let test : same.result ≡ samePlaced eqb e (placed_at a l.i) = same.ensures ∙ ap (samePlaced eqb e) c.before.before.ranked-at.ensures in (
+    let test : same.result ≡ same_placed eqb e (placed_at a l.i) = same.ensures ∙ ap (same_placed eqb e) c.before.before.ranked-at.ensures in (
       omega (arith, c.before.before.before.before.before.before.loop-test.true),
       ⊎_elim (λ came. omega (arith, came.1, l.invariant.1)) (λ came. omega (arith, came.1, l.invariant.1)) c.if2.branch,
-      counted a (samePlaced eqb e) l.i l.count c.if2.count l.invariant.2
+      counted a (same_placed eqb e) l.i l.count c.if2.count l.invariant.2
           (⊎_elim (λ came. inl (sym test ∙ came.0.taken, came.1)) (λ came. inr (sym test ∙ came.0.left, came.1)) c.if2.branch),
     )
 
@@ -83,7 +83,7 @@ returns c =
     let s = c.before.before.args in
     let l = c.before.loop in
     let all : l.i ≡ s.n = omega (arith, l.invariant.0, c.loop-test.false) in
-    l.invariant.2 ∙ ap (λ (k : ℕ). often eqb (seatOf s.e.core s.e.rank s.e.piece) (placedIn s.stands.now k)) all
+    l.invariant.2 ∙ ap (λ (k : ℕ). often eqb (seat_of s.e.core s.e.rank s.e.piece) (placed_in s.stands.now k)) all
 
 pub often-spec : {M : Type 1} → statement M
 often-spec =

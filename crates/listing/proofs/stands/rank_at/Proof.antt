@@ -1,5 +1,5 @@
 -- `rank_at` meets its contract: the second of a piece's nine numbers.
-use Rattle.plan.specs.ways.PlacedArray.{placed_at}
+use Rattle.plan.specs.Ways.PlacedArray.{placed_at}
 use borrow.Author.Rules.{rules}
 use Rattle.listing.proofs.stands.rank_at.Statement.{statement}
 use Rattle.listing.proofs.stands.rank_at.Tie as tie

@@ -1,8 +1,8 @@
 -- `same_piece` meets its contract: field by field.
 use mathlib.Core.Path.{◌≡◌, sym, ◌∙◌}
 use borrow.Author.Tests.{eq-eqb, ne_eqb}
-use Rattle.demand.specs.Kinds.{kindNumber}
-use Rattle.listing.specs.Diff.{samePiece}
+use Rattle.demand.specs.Kinds.{kind_number}
+use Rattle.listing.specs.Diff.{same_piece}
 use Rattle.listing.proofs.RankLaws.{and-false}
 use borrow.Author.Rules.{rules}
 use Rattle.listing.proofs.stands.same_piece.Statement.{statement}
@@ -18,45 +18,45 @@ kind-number-requires-2 : tie.Need-kind-number-requires-2
 kind-number-requires-2 c κs = search rules
 
 returns : tie.Need-returns
-unfolding samePiece
+unfolding same_piece
 returns c =
     let s = c.before.before.before.args in
-    let differ : kindNumber s.p.kind ≡ kindNumber s.q.kind → ⊥ =
+    let differ : kind_number s.p.kind ≡ kind_number s.q.kind → ⊥ =
     (λ same. c.if1.true (c.before.before.kind-number.ensures ∙ (same ∙ sym c.before.kind-number2.ensures))) in
-    simp (ne_eqb (kindNumber s.p.kind) (kindNumber s.q.kind) differ)
+    simp (ne_eqb (kind_number s.p.kind) (kind_number s.q.kind) differ)
 
 returns-2 : tie.Need-returns-2
-unfolding samePiece
+unfolding same_piece
 returns-2 c =
     let s = c.before.before.before.before.before.before.args in
     simp (ne_eqb s.p.budget s.q.budget c.if2.true, and-false)
 
 returns-3 : tie.Need-returns-3
-unfolding samePiece
+unfolding same_piece
 returns-3 c =
     let s = c.before.before.before.before.before.before.before.before.before.args in
     simp (ne_eqb s.p.window s.q.window c.if3.true, and-false)
 
 returns-4 : tie.Need-returns-4
-unfolding samePiece
+unfolding same_piece
 returns-4 c =
     let s = c.before.before.before.before.before.before.before.before.before.before.before.before.args in
     simp (ne_eqb s.p.period s.q.period c.if4.true, and-false)
 
 returns-5 : tie.Need-returns-5
-unfolding samePiece
+unfolding same_piece
 returns-5 c =
     let s = c.before.before.before.before.before.before.before.before.before.before.before.before.before.before.before.args in
     simp (ne_eqb s.p.jitter s.q.jitter c.if5.true, and-false)
 
 returns-6 : tie.Need-returns-6
-unfolding samePiece
+unfolding same_piece
 returns-6 c =
     let s = c.before.before.before.before.before.before.before.before.before.before.before.before.before.before.before.before.before.before.args in
     simp (ne_eqb s.p.preempt s.q.preempt c.if6.true, and-false)
 
 returns-7 : tie.Need-returns-7
-unfolding samePiece
+unfolding same_piece
 returns-7 c =
     let at-preempt = c.before.before in
     let at-jitter = at-preempt.before.before.before in
@@ -65,10 +65,10 @@ returns-7 c =
     let at-budget = at-window.before.before.before in
     let at-kind = at-budget.before.before.before in
     let s = at-kind.before.before.before.args in
-    let kind : kindNumber s.p.kind ≡ kindNumber s.q.kind =
+    let kind : kind_number s.p.kind ≡ kind_number s.q.kind =
     sym at-kind.before.before.kind-number.ensures ∙ (at-kind.if1.false ∙ at-kind.before.kind-number2.ensures) in
     simp (
-      eq-eqb (kindNumber s.p.kind) (kindNumber s.q.kind) kind,
+      eq-eqb (kind_number s.p.kind) (kind_number s.q.kind) kind,
       eq-eqb s.p.budget s.q.budget at-budget.if2.false,
       eq-eqb s.p.window s.q.window at-window.if3.false,
       eq-eqb s.p.period s.q.period at-period.if4.false,

@@ -6,7 +6,7 @@ use native.Mathlib.Omega.{arith}
 use borrow.Author.Rules.{rules}
 use lib.ListN.{length, take}
 use lib.Seq.{length-take-le}
-use Rattle.listing.specs.Text.{Wrote, endedBy}
+use Rattle.listing.specs.Text.{Wrote, ended_by}
 use Rattle.listing.specs.Listing.{spelling}
 use Rattle.listing.proofs.TextLaws.{ended-length}
 use Rattle.listing.proofs.EntryLaws.{spelling-capped}
@@ -57,7 +57,7 @@ returns c =
     let t : length (take k.result n.bytes) ≡ k.result = length-take-le k.result n.bytes (omega (arith, k.ensures.1)) in
     let w = p.ensures in
     let e : take k.result n.bytes ≡ spelling n = spelling-capped n k.result k.ensures.0 k.ensures.2 z in (
-      subst (λ (s : List ℕ). Wrote a.buf.now a.at (endedBy a.end s) p.result p.new.0) e w,
+      subst (λ (s : List ℕ). Wrote a.buf.now a.at (ended_by a.end s) p.result p.new.0) e w,
       omega (arith, w.place, k.ensures.1, ended-length a.end (take k.result n.bytes)),
     )
 

@@ -5,7 +5,7 @@ use Prim.Native.Nat.{ℕ, ◌-◌, ◌≤◌}
 use native.Mathlib.Omega.{arith}
 use borrow.Author.Rules.{rules}
 use lib.ListN.{length, set, length-set}
-use Rattle.listing.specs.Text.{Wrote, endedBy, decimal}
+use Rattle.listing.specs.Text.{Wrote, ended_by, decimal}
 use Rattle.listing.proofs.TextLaws.{Left, left-start, left_step, digits-whole, ended-length, decimal-few}
 use Rattle.listing.proofs.texts.put_number.Statement.{statement}
 use Rattle.listing.proofs.texts.put_number.Tie as tie
@@ -90,8 +90,8 @@ returns c =
     let p = c.before.before.put-bytes in
     let digit2 = c.before.before.before.before.before.before.digit2 in
     let e = digits-whole a.n l.d l.i l.m l.invariant (omega arith) digit2.result digit2.ensures in
-    let w : Wrote a.buf.now a.at (endedBy a.end (decimal a.n)) p.result p.new.0 =
-    subst (λ (ds : List ℕ). Wrote a.buf.now a.at (endedBy a.end ds) p.result p.new.0) e p.ensures in
+    let w : Wrote a.buf.now a.at (ended_by a.end (decimal a.n)) p.result p.new.0 =
+    subst (λ (ds : List ℕ). Wrote a.buf.now a.at (ended_by a.end ds) p.result p.new.0) e p.ensures in
     (w, omega (arith, w.place, decimal-few a.n, ended-length a.end (decimal a.n)))
 
 pub put-number-spec : {M : Type 1} → statement M

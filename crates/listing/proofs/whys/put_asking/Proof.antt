@@ -1,7 +1,7 @@
 -- `whys::put_asking` meets its contract: its fields, one behind another.
 use native.Mathlib.Omega.{arith}
 use Rattle.listing.proofs.TextLaws.{wrote-both}
-use Rattle.listing.specs.Why.{askLine}
+use Rattle.listing.specs.Why.{ask_line}
 use borrow.Author.Rules.{rules}
 use Rattle.listing.proofs.whys.put_asking.Statement.{statement}
 use Rattle.listing.proofs.whys.put_asking.Tie as tie
@@ -31,7 +31,7 @@ same_length : tie.Need-same-length
 same_length c = search rules
 
 returns : tie.Need-returns
-unfolding askLine
+unfolding ask_line
 returns c =
     let a = c.before.before.before.before.before.before.before.before.before.before.before.before.before.before.put-bytes in
     let t = c.before.before.before.before.before.before.before.before.before.before.put-title in

@@ -4,7 +4,7 @@ use Rattle.listing.proofs.TextLaws.{wrote-both}
 use mathlib.Core.Path.{◌≡◌, sym, subst}
 use mathlib.Core.List.{List, append_assoc}
 use Prim.Native.Nat.{ℕ}
-use Rattle.listing.specs.Why.{whyFoot}
+use Rattle.listing.specs.Why.{why_foot}
 use borrow.Author.Rules.{rules}
 use Rattle.listing.proofs.whys.put_foot.Statement.{statement}
 use Rattle.listing.proofs.whys.put_foot.Tie as tie
@@ -36,7 +36,7 @@ same_length : tie.Need-same-length
 same_length c = search rules
 
 returns : tie.Need-returns
-unfolding whyFoot
+unfolding why_foot
 returns c =
     let back = c.before.before.before.before.before.before.before.before.before.before.before.before in
     let a = back.before.before.before.put-bytes in

@@ -1,7 +1,7 @@
 -- `whys::put_head` meets its contract: its four fields, one behind another.
 use native.Mathlib.Omega.{arith}
 use Rattle.listing.proofs.TextLaws.{wrote-both}
-use Rattle.listing.specs.Why.{whyHead}
+use Rattle.listing.specs.Why.{why_head}
 use borrow.Author.Rules.{rules}
 use Rattle.listing.proofs.whys.put_head.Statement.{statement}
 use Rattle.listing.proofs.whys.put_head.Tie as tie
@@ -30,7 +30,7 @@ same_length : tie.Need-same-length
 same_length c = search rules
 
 returns : tie.Need-returns
-unfolding whyHead
+unfolding why_head
 returns c =
     let a = c.before.before.before.before.before.before.before.before.before.before.before.before.before.before.put-bytes in
     let v = c.before.before.before.before.before.before.before.before.before.before.put-verdict in

@@ -6,8 +6,8 @@ use mathlib.Core.List.{List}
 use Prim.Native.Nat.{ℕ}
 use Rattle.listing.specs.Text.{Wrote}
 use Rattle.listing.specs.Listing.{spelling}
-use Rattle.listing.specs.Why.{noRoomLine}
-use Rattle.listing.specs.ways.SeatArrays.{frontOf}
+use Rattle.listing.specs.Why.{no_room_line}
+use Rattle.listing.specs.Ways.SeatArrays.{front_of}
 use Rattle.listing.proofs.TextLaws.{wrote_none}
 use Rattle.listing.proofs.WhyTextLaws.{front-some}
 use borrow.Author.Rules.{rules}
@@ -44,7 +44,7 @@ same_length : tie.Need-same-length
 same_length c = search rules
 
 returns-2 : tie.Need-returns-2
-unfolding noRoomLine
+unfolding no_room_line
 returns-2 c =
     let back = c.before.before.before.before.before.before.before.before.before.before.before.before in
     let s = back.before.before.before.before.before.before.before.before.before.args in

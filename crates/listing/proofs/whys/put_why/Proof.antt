@@ -7,14 +7,14 @@ use native.Mathlib.Omega.{arith}
 use lib.ListN.{length, get_or, take}
 use Rattle.demand.proofs.RunLaws.{length-mapped}
 use Rattle.demand.specs.declared.Shown.{Shown}
-use Rattle.demand.specs.Records.{recordsOf}
-use Rattle.demand.specs.Why.{shownOf}
+use Rattle.demand.specs.Records.{records_of}
+use Rattle.demand.specs.Why.{shown_of}
 use Rattle.task.specs.declared.Task.{Task}
 use Rattle.task.specs.Tasks.{past}
 use Rattle.listing.specs.Text.{Wrote}
 use Rattle.listing.specs.Listing.{spelling}
-use Rattle.listing.specs.Why.{askLines, whyHead, whyBody, whyFoot, whyText}
-use Rattle.listing.specs.ways.SeatArrays.{titledAt, titledIn, frontOf}
+use Rattle.listing.specs.Why.{ask_lines, why_head, why_body, why_foot, why_text}
+use Rattle.listing.specs.Ways.SeatArrays.{titled_at, titled_in, front_of}
 use Rattle.listing.proofs.TextLaws.{wrote_none, wrote-both, wrote-length}
 use Rattle.listing.proofs.EntryLaws.{at-within}
 use Rattle.listing.proofs.WhyTextLaws.{title-is, asks-more, more-titled, line-is, why-none, why-some}
@@ -34,7 +34,7 @@ use Rattle.verdicts.proofs.ask_of.Reads as ask-of-reads
 
 abbrev invariant-loop : tie.invariant-loop
 invariant-loop buf₀ costs by_name places records n shown tasks front head verdict k₀ i₀ buf k i = (i ≤ n) × (k ≤ 131 + 100 * i)
-    × Wrote buf₀ k₀ (askLines costs shown (titledIn by_name tasks.list places records i)) k buf
+    × Wrote buf₀ k₀ (ask_lines costs shown (titled_in by_name tasks.list places records i)) k buf
 
 abbrev decreases-loop : tie.decreases-loop
 decreases-loop buf₀ costs by_name places records n shown tasks front head verdict k₀ i₀ buf k i = n - i
@@ -59,7 +59,7 @@ returns c =
     let pre = c.before.before.before.before.before.before.before.before.before.before.requires in
     let none : s.n ≡ 0 = c.if1.true in (
       subst (λ (t : List ℕ). Wrote s.buf.now 0 t head.result head.new.0)
-          (ap (λ (t : List ℕ). frontOf s.stuck.place (spelling s.stuck.name) s.stuck.cores ++ t)
+          (ap (λ (t : List ℕ). front_of s.stuck.place (spelling s.stuck.name) s.stuck.cores ++ t)
           (why-none s.costs s.by_name s.t5.list s.places.now s.records.now s.n s.shown none pre.1)) (wrote-both front.ensures.0 head.ensures.0),
       omega (arith, front.ensures.1, head.ensures.1),
     )
@@ -139,8 +139,8 @@ loop-again c =
       omega arith,
       omega (arith, f.ensures.1, now.invariant.1),
       subst (λ (t : List ℕ). Wrote head.new.0 head.result t f.result f.new.0)
-          (sym (asks-more s.costs s.shown (titledIn s.by_name s.t5.list s.places.now s.records.now now.i)
-          (titledAt s.by_name s.t5.list s.places.now s.records.now now.i))
+          (sym (asks-more s.costs s.shown (titled_in s.by_name s.t5.list s.places.now s.records.now now.i)
+          (titled_at s.by_name s.t5.list s.places.now s.records.now now.i))
           ∙ more-titled s.costs s.shown s.by_name s.t5.list s.places.now s.records.now now.i)
           (wrote-both now.invariant.2 (subst (λ (t : List ℕ). Wrote now.buf now.k t f.result f.new.0) line f.ensures.0)),
     )
@@ -171,10 +171,10 @@ returns-2 c =
     let if1 = c.before.before.before.before.before.before.if1 in
     let taken = pre.0 in
     let all : now.i ≡ s.n = omega arith in
-    let titles = titledIn s.by_name s.t5.list s.places.now s.records.now s.n in
-    let lines : Wrote head.new.0 head.result (askLines s.costs s.shown titles) now.k now.buf = rw all at now.invariant.2 in (
+    let titles = titled_in s.by_name s.t5.list s.places.now s.records.now s.n in
+    let lines : Wrote head.new.0 head.result (ask_lines s.costs s.shown titles) now.k now.buf = rw all at now.invariant.2 in (
       subst (λ (t : List ℕ). Wrote s.buf.now 0 t foot.result foot.new.0)
-          (ap (λ (t : List ℕ). frontOf s.stuck.place (spelling s.stuck.name) s.stuck.cores ++ t)
+          (ap (λ (t : List ℕ). front_of s.stuck.place (spelling s.stuck.name) s.stuck.cores ++ t)
           (why-some s.costs s.by_name s.t5.list s.places.now s.records.now s.n s.shown (omega (arith, if1.false)) pre.0.few pre.1))
           (wrote-both front.ensures.0 (wrote-both head.ensures.0 (wrote-both lines foot.ensures.0))),
       omega (arith, foot.ensures.1, now.invariant.1, now.invariant.0, pre.0.few),

@@ -5,12 +5,12 @@ use mathlib.Core.List.{List, ◌++◌}
 use Prim.Native.Nat.{ℕ, ◌≤◌, ◌<◌}
 use native.Mathlib.Omega.{arith}
 use lib.ListN.{length}
-use Rattle.demand.specs.Records.{recordsOf}
+use Rattle.demand.specs.Records.{records_of}
 use Rattle.demand.proofs.RunLaws.{check-taken}
 use Rattle.listing.specs.Text.{Wrote}
 use Rattle.listing.specs.Listing.{spelling}
-use Rattle.listing.specs.Why.{whyText, whyPaper}
-use Rattle.listing.specs.ways.SeatArrays.{titledIn, frontOf}
+use Rattle.listing.specs.Why.{why_text, why_paper}
+use Rattle.listing.specs.Ways.SeatArrays.{titled_in, front_of}
 use Rattle.listing.proofs.TextLaws.{first-pass}
 use Rattle.listing.proofs.WhyPaperLaws.{showing-shows, showing-unshown, why-written, why-barred, wrote-answers, count-answers}
 use borrow.Author.Rules.{rules}
@@ -38,16 +38,16 @@ mul-if1 : tie.Need-overflow-mul-if1
 mul-if1 c =
     let s = c.before.before.before.before.before.args in
     let shown = c.before.shown in
-    let so = showing-shows s.costs s.n (recordsOf s.records.now) shown.given.0.0 (sym c.before.before.before.show-records.ensures ∙ shown.given.1) in
-    let few = (check-taken s.costs s.n (recordsOf s.records.now) so.0).few in
+    let so = showing-shows s.costs s.n (records_of s.records.now) shown.given.0.0 (sym c.before.before.before.show-records.ensures ∙ shown.given.1) in
+    let few = (check-taken s.costs s.n (records_of s.records.now) so.0).few in
     record { fits = omega (arith, few) }
 
 add-if1 : tie.Need-overflow-add-if1
 add-if1 c =
     let s = c.before.before.before.before.before.args in
     let shown = c.before.shown in
-    let so = showing-shows s.costs s.n (recordsOf s.records.now) shown.given.0.0 (sym c.before.before.before.show-records.ensures ∙ shown.given.1) in
-    let few = (check-taken s.costs s.n (recordsOf s.records.now) so.0).few in
+    let so = showing-shows s.costs s.n (records_of s.records.now) shown.given.0.0 (sym c.before.before.before.show-records.ensures ∙ shown.given.1) in
+    let few = (check-taken s.costs s.n (records_of s.records.now) so.0).few in
     record { fits = omega (arith, few) }
 
 put-why-requires : tie.Need-put-why-requires
@@ -55,8 +55,8 @@ put-why-requires c κs =
     let s = c.before.before.before.before.before.before.before.args in
     let shown = c.before.before.before.shown in
     let show-records = c.before.before.before.before.before.show-records in
-    let so = showing-shows s.costs s.n (recordsOf s.records.now) shown.given.0.0 (sym show-records.ensures ∙ shown.given.1) in
-    (check-taken s.costs s.n (recordsOf s.records.now) so.0, so.1)
+    let so = showing-shows s.costs s.n (records_of s.records.now) shown.given.0.0 (sym show-records.ensures ∙ shown.given.1) in
+    (check-taken s.costs s.n (records_of s.records.now) so.0, so.1)
 
 same_length : tie.Need-same-length
 same_length c = search rules
@@ -68,13 +68,13 @@ returns c =
     let r = c.before.before.put-why in
     let show-records = c.before.before.before.before.before.before.before.before.show-records in
     let if1 = c.before.before.before.before.if1 in
-    let so = showing-shows s.costs s.n (recordsOf s.records.now) shown.given.0.0 (sym show-records.ensures ∙ shown.given.1) in
-    let few = (check-taken s.costs s.n (recordsOf s.records.now) so.0).few in
+    let so = showing-shows s.costs s.n (records_of s.records.now) shown.given.0.0 (sym show-records.ensures ∙ shown.given.1) in
+    let few = (check-taken s.costs s.n (records_of s.records.now) so.0).few in
     let old = s.buf.now in
-    let front = frontOf s.stuck.place (spelling s.stuck.name) s.stuck.cores in
-    let titles = titledIn s.by_name s.tasks.list s.places.now s.records.now in
-    let text = front ++ whyText s.costs (titles s.n) in
-    let paper = whyPaper front s.costs s.n (titles 79) in
+    let front = front_of s.stuck.place (spelling s.stuck.name) s.stuck.cores in
+    let titles = titled_in s.by_name s.tasks.list s.places.now s.records.now in
+    let text = front ++ why_text s.costs (titles s.n) in
+    let paper = why_paper front s.costs s.n (titles 79) in
     let is = why-written front s.costs s.n s.by_name s.tasks.list s.places.now s.records.now so.0 in
     (wrote-answers paper text old is r.new.0 r.result r.ensures.0 (omega (arith, r.ensures.1, if1.true)), (omega arith, omega (arith, r.ensures.1, few)))
 
@@ -89,8 +89,8 @@ put-why-requires-2 c κs =
     let s = c.before.before.before.before.before.before.before.args in
     let shown = c.before.before.before.shown in
     let show-records = c.before.before.before.before.before.show-records in
-    let so = showing-shows s.costs s.n (recordsOf s.records.now) shown.given.0.0 (sym show-records.ensures ∙ shown.given.1) in
-    (check-taken s.costs s.n (recordsOf s.records.now) so.0, so.1)
+    let so = showing-shows s.costs s.n (records_of s.records.now) shown.given.0.0 (sym show-records.ensures ∙ shown.given.1) in
+    (check-taken s.costs s.n (records_of s.records.now) so.0, so.1)
 
 same-length-2 : tie.Need-same-length-2
 same-length-2 c = search rules
@@ -101,13 +101,13 @@ returns-2 c =
     let shown = c.before.before.before.before.before.before.before.shown in
     let r = c.before.before.before.put-why2 in
     let show-records = c.before.before.before.before.before.before.before.before.before.show-records in
-    let so = showing-shows s.costs s.n (recordsOf s.records.now) shown.given.0.0 (sym show-records.ensures ∙ shown.given.1) in
-    let few = (check-taken s.costs s.n (recordsOf s.records.now) so.0).few in
+    let so = showing-shows s.costs s.n (records_of s.records.now) shown.given.0.0 (sym show-records.ensures ∙ shown.given.1) in
+    let few = (check-taken s.costs s.n (records_of s.records.now) so.0).few in
     let old = s.buf.now in
-    let front = frontOf s.stuck.place (spelling s.stuck.name) s.stuck.cores in
-    let titles = titledIn s.by_name s.tasks.list s.places.now s.records.now in
-    let text = front ++ whyText s.costs (titles s.n) in
-    let paper = whyPaper front s.costs s.n (titles 79) in
+    let front = front_of s.stuck.place (spelling s.stuck.name) s.stuck.cores in
+    let titles = titled_in s.by_name s.tasks.list s.places.now s.records.now in
+    let text = front ++ why_text s.costs (titles s.n) in
+    let paper = why_paper front s.costs s.n (titles 79) in
     let is = why-written front s.costs s.n s.by_name s.tasks.list s.places.now s.records.now so.0 in
     (count-answers paper text old is r.new.0 r.result r.ensures.0 c.if2.true, (omega arith, omega (arith, r.ensures.1, few)))
 
@@ -116,15 +116,15 @@ put-why-requires-3 c κs =
     let s = c.before.before.before.before.before.before.before.before.before.before.before.before.args in
     let shown = c.before.before.before.before.before.before.before.before.shown in
     let show-records = c.before.before.before.before.before.before.before.before.before.before.show-records in
-    let so = showing-shows s.costs s.n (recordsOf s.records.now) shown.given.0.0 (sym show-records.ensures ∙ shown.given.1) in
-    (check-taken s.costs s.n (recordsOf s.records.now) so.0, so.1)
+    let so = showing-shows s.costs s.n (records_of s.records.now) shown.given.0.0 (sym show-records.ensures ∙ shown.given.1) in
+    (check-taken s.costs s.n (records_of s.records.now) so.0, so.1)
 
 returns-3 : tie.Need-returns-3
 returns-3 c =
     let s = c.before.before.before.before.before.before.args in
     let why = c.before.before.why in
-    let bad = showing-unshown s.costs s.n (recordsOf s.records.now) why.given.0.0 (sym c.before.before.before.before.show-records.ensures ∙ why.given.1) in
-    let front = frontOf s.stuck.place (spelling s.stuck.name) s.stuck.cores in
+    let bad = showing-unshown s.costs s.n (records_of s.records.now) why.given.0.0 (sym c.before.before.before.before.show-records.ensures ∙ why.given.1) in
+    let front = front_of s.stuck.place (spelling s.stuck.name) s.stuck.cores in
     let barred = why-barred front s.costs s.n s.by_name s.tasks.list s.places.now s.records.now why.given.0.0 bad
     (length s.buf.now) s.buf.now in
     ((c.refusal-note.ensures ∙ barred.0, barred.1), rw c.refusal-note.ensures (barred.2, barred.3))
@@ -137,13 +137,13 @@ returns-4 c =
     let back = c.before.before.before.before.before.before.before.before.before.before.before.before in
     let s = back.before.before.before.args in
     let shown = c.before.before.before.before.before.before.before.before.before.before.before.shown in
-    let so = showing-shows s.costs s.n (recordsOf s.records.now) shown.given.0.0 (sym back.before.show-records.ensures ∙ shown.given.1) in
-    let few = (check-taken s.costs s.n (recordsOf s.records.now) so.0).few in
+    let so = showing-shows s.costs s.n (records_of s.records.now) shown.given.0.0 (sym back.before.show-records.ensures ∙ shown.given.1) in
+    let few = (check-taken s.costs s.n (records_of s.records.now) so.0).few in
     let old = s.buf.now in
-    let front = frontOf s.stuck.place (spelling s.stuck.name) s.stuck.cores in
-    let titles = titledIn s.by_name s.tasks.list s.places.now s.records.now in
-    let text = front ++ whyText s.costs (titles s.n) in
-    let paper = whyPaper front s.costs s.n (titles 79) in
+    let front = front_of s.stuck.place (spelling s.stuck.name) s.stuck.cores in
+    let titles = titled_in s.by_name s.tasks.list s.places.now s.records.now in
+    let text = front ++ why_text s.costs (titles s.n) in
+    let paper = why_paper front s.costs s.n (titles 79) in
     let is = why-written front s.costs s.n s.by_name s.tasks.list s.places.now s.records.now so.0 in
     let r = c.before.before.before.before.before.before.before.put-why2 in
     let q = c.before.before.put-why3 in

@@ -5,8 +5,8 @@ use Prim.Native.Nat.{ℕ, ◌≤◌, ◌-◌, ◌<◌}
 use native.Mathlib.Omega.{arith}
 use lib.ListN.{length, take}
 use Rattle.demand.proofs.Sums.{each_at}
-use Rattle.plan.specs.ways.PlacedArray.{placed_at}
-use Rattle.plan.specs.ways.WalkGoing.{firstRecords}
+use Rattle.plan.specs.Ways.PlacedArray.{placed_at}
+use Rattle.plan.specs.Ways.WalkGoing.{first_records}
 use Rattle.plan.proofs.RowLaws.{put-size, laid-piece}
 use borrow.Author.Rules.{rules}
 use Rattle.plan.proofs.rows.lay_row.Statement.{statement}
@@ -18,7 +18,7 @@ use Rattle.plan.proofs.seats.seat_at.Reads as seat-at-reads
 
 abbrev invariant-loop : tie.invariant-loop
 invariant-loop records₀ placed row i₀ records i = (i ≤ row.len)
-    × (firstRecords records i ≡ map (λ (k : ℕ). (placed_at placed k).piece) (take i row.numbers)) × (length records ≡ 553)
+    × (first_records records i ≡ map (λ (k : ℕ). (placed_at placed k).piece) (take i row.numbers)) × (length records ≡ 553)
 
 abbrev decreases-loop : tie.decreases-loop
 decreases-loop records₀ placed row i₀ records i = row.len - i

@@ -4,7 +4,7 @@ use Prim.Native.Nat.{ℕ, ◌≤◌, ◌-◌}
 use native.Mathlib.Omega.{arith}
 use lib.ListN.{length, take, length-replicate}
 use Rattle.demand.proofs.RunLaws.{length-mapped}
-use Rattle.plan.specs.ways.TimesArray.{Laid}
+use Rattle.plan.specs.Ways.TimesArray.{Laid}
 use Rattle.plan.proofs.LentLaws.{laid_none, laid_more}
 use borrow.Author.Rules.{rules}
 use Rattle.plan.proofs.times.lay_times.Statement.{statement}

@@ -1,5 +1,5 @@
 -- `times::times_at` meets its contract: six reads.
-use Rattle.plan.specs.ways.TimesArray.{timesAt}
+use Rattle.plan.specs.Ways.TimesArray.{times_at}
 use borrow.Author.Rules.{rules}
 use Rattle.plan.proofs.times.times_at.Statement.{statement}
 use Rattle.plan.proofs.times.times_at.Tie as tie
@@ -61,7 +61,7 @@ element-copy-out-t32 : tie.Need-element-copy-out-t32
 element-copy-out-t32 c = search rules
 
 returns : tie.Need-returns
-unfolding timesAt
+unfolding times_at
 returns c = search rules
 
 pub times-at-spec : {M : Type 1} → statement M

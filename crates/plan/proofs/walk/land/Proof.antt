@@ -3,7 +3,7 @@ use mathlib.Core.Path.{◌≡◌, refl, ap}
 use Prim.Native.Nat.{◌-◌, ◌+◌}
 use native.Mathlib.Omega.{arith}
 use Rattle.plan.specs.declared.Going.{Going}
-use Rattle.plan.specs.ways.WalkGoing.{next_of}
+use Rattle.plan.specs.Ways.WalkGoing.{next_of}
 use Rattle.plan.proofs.GoingLaws.{Under, not-passes, row_reads, ask-fits, ask-fits-still, seat-fits}
 use Rattle.plan.proofs.GoingLaws.{both-fit, one-done, stuck-done, both-done, next_under}
 use borrow.Author.Rules.{rules}

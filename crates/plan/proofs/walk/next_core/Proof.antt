@@ -1,6 +1,6 @@
 -- `walk::next_core` meets its contract.
 use mathlib.Core.Path.{refl}
-use Rattle.plan.specs.ways.WalkGoing.{next_of}
+use Rattle.plan.specs.Ways.WalkGoing.{next_of}
 use borrow.Author.Rules.{rules}
 use Rattle.plan.proofs.walk.next_core.Statement.{statement}
 use Rattle.plan.proofs.walk.next_core.Tie as tie

@@ -1,6 +1,6 @@
 -- `walk::seat` meets its contract: the piece is placed, and its number goes behind the row.
 use mathlib.Core.Path.{refl}
-use Rattle.plan.specs.ways.WalkGoing.{seatedOf}
+use Rattle.plan.specs.Ways.WalkGoing.{seated_of}
 use borrow.Author.Rules.{rules}
 use Rattle.plan.proofs.walk.seat.Statement.{statement}
 use Rattle.plan.proofs.walk.seat.Tie as tie
@@ -24,7 +24,7 @@ add-next : tie.Need-overflow-add-next
 add-next c = search rules
 
 returns : tie.Need-returns
-unfolding seatedOf
+unfolding seated_of
 returns c = (refl, c.before.put-seat.ensures)
 
 pub seat-spec : {M : Type 1} → statement M

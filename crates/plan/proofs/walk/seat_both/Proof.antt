@@ -2,7 +2,7 @@
 use mathlib.Core.Path.{◌≡◌, ap, ◌∙◌}
 use native.Mathlib.Omega.{arith}
 use Rattle.plan.specs.declared.Going.{Going}
-use Rattle.plan.specs.ways.WalkGoing.{seatedOf, next_of}
+use Rattle.plan.specs.Ways.WalkGoing.{seated_of, next_of}
 use Rattle.plan.proofs.GoingLaws.{both-put}
 use borrow.Author.Rules.{rules}
 use Rattle.plan.proofs.walk.seat_both.Statement.{statement}
@@ -21,7 +21,7 @@ seat-requires : tie.Need-seat-requires
 seat-requires c κs = search rules
 
 next-core-requires : tie.Need-next-core-requires
-unfolding seatedOf
+unfolding seated_of
 next-core-requires c κs =
     let e : c.seat.result.core ≡ c.before.before.before.args.going.core = ap (λ (z : Going). z.core) c.seat.ensures.0 in
     omega (arith, c.before.before.before.requires.core)
@@ -30,7 +30,7 @@ last-piece-requires : tie.Need-last-piece-requires
 last-piece-requires c κs = search rules
 
 seat-requires-2 : tie.Need-seat-requires-2
-unfolding seatedOf next_of
+unfolding seated_of next_of
 seat-requires-2 c κs =
     let next-core = c.before.before.next-core in
     let seat = c.before.before.before.seat in
@@ -47,7 +47,7 @@ returns c =
     let next-core = c.before.before.before.next-core in
     let seat = c.before.before.before.before.seat in
     let first_piece = c.before.before.before.before.before.first_piece in (
-      c.seat2.ensures.0 ∙ ap seatedOf (next-core.ensures ∙ ap next_of seat.ensures.0),
+      c.seat2.ensures.0 ∙ ap seated_of (next-core.ensures ∙ ap next_of seat.ensures.0),
       rw (← first_piece.ensures, ← c.before.last-piece.ensures)
           (both-put s.placed.now _ _ s.going seat.result next-core.result s.k first_piece.result
           c.before.last-piece.result seat.ensures.0 next-core.ensures seat.ensures.1 c.seat2.ensures.1),

@@ -1,6 +1,6 @@
 -- `walk::stick` meets its contract.
 use mathlib.Core.Path.{refl}
-use Rattle.plan.specs.ways.WalkGoing.{stickOf}
+use Rattle.plan.specs.Ways.WalkGoing.{stick_of}
 use borrow.Author.Rules.{rules}
 use Rattle.plan.proofs.walk.stick.Statement.{statement}
 use Rattle.plan.proofs.walk.stick.Tie as tie
@@ -11,7 +11,7 @@ add-next : tie.Need-overflow-add-next
 add-next c = search rules
 
 returns : tie.Need-returns
-unfolding stickOf
+unfolding stick_of
 returns c = refl
 
 pub stick-spec : {M : Type 1} → statement M

@@ -5,11 +5,11 @@ use native.Mathlib.Omega.{arith}
 use lib.ListN.{length, take, get_or}
 use Rattle.demand.specs.Sizes.{Sized}
 use Rattle.demand.proofs.Sums.{each_at}
-use Rattle.task.specs.Tasks.{wholePiece}
-use Rattle.plan.specs.ways.TimesArray.{wholeIn}
-use Rattle.walks.specs.Way.{walkOver}
-use Rattle.plan.specs.Walk.{wayFor}
-use Rattle.plan.specs.ways.WalkGoing.{ReachOver}
+use Rattle.task.specs.Tasks.{whole_piece}
+use Rattle.plan.specs.Ways.TimesArray.{whole_in}
+use Rattle.walks.specs.Way.{walk_over}
+use Rattle.plan.specs.Walk.{way_for}
+use Rattle.plan.specs.Ways.WalkGoing.{ReachOver}
 use Rattle.plan.proofs.OverLaws.{Walking, land-fits, land-reach, still-walking, walk-ended, begins, walking-reach}
 use borrow.Author.Rules.{rules}
 use Rattle.plan.proofs.walk.walk_over.Statement.{statement}
@@ -23,7 +23,7 @@ use Rattle.task.proofs.whole_piece.Reads as whole-piece-reads
 
 abbrev invariant-loop : tie.invariant-loop
 invariant-loop machine costs times n order placed₀ records₀ going₀ i₀ placed records going i = (i ≤ n)
-    × Walking placed records going (walkOver (wayFor machine costs (wholeIn times)) (take i order))
+    × Walking placed records going (walk_over (way_for machine costs (whole_in times)) (take i order))
 
 abbrev decreases-loop : tie.decreases-loop
 decreases-loop machine costs times n order placed₀ records₀ going₀ i₀ placed records going i = n - i
@@ -36,7 +36,7 @@ loop-holds c =
     let s = c.before.args in
     let fits = c.before.requires in (
       search rules,
-      rw c.begin.ensures (begins s.machine s.costs (wholeIn s.times.now) s.order.now s.placed.now
+      rw c.begin.ensures (begins s.machine s.costs (whole_in s.times.now) s.order.now s.placed.now
           s.records.now fits.placed-size fits.records-size),
     )
 
@@ -69,7 +69,7 @@ land-requires c κs =
       land-fits s.machine s.costs s.times.now s.order.now s.n fits.some fits.few fits.costs fits.sizes now.i
           loop-test.true (omega (arith, fits.count)) (omega (arith, fits.count)) now.placed now.records now.going now.invariant.1 below,
       rw (c.before.before.whole-piece.ensures, c.before.before.before.times-at.ensures) (each_at (λ (k : ℕ). Sized
-          (wholeIn s.times.now k)) s.n s.order.now fits.sizes now.i 0 loop-test.true (omega (arith, fits.count))),
+          (whole_in s.times.now k)) s.n s.order.now fits.sizes now.i 0 loop-test.true (omega (arith, fits.count))),
     )
 
 returns : tie.Need-returns invariant-loop decreases-loop
@@ -86,8 +86,8 @@ returns c =
     let there =
     land-reach s.machine s.costs s.times.now s.order.now s.n fits.some fits.few fits.costs fits.sizes now.i
     loop-test.true (omega (arith, fits.count)) (omega (arith, fits.count)) now.placed now.records now.going now.invariant.1
-    whole-piece.result (ap wholePiece (sym times-at.ensures) ∙ sym whole-piece.ensures) _ _ land.result land.ensures in
-    walk-ended _ _ land.result s.machine s.costs (wholeIn s.times.now) s.order.now (now.i + 1) s.n (omega arith) there c.if1.true
+    whole-piece.result (ap whole_piece (sym times-at.ensures) ∙ sym whole-piece.ensures) _ _ land.result land.ensures in
+    walk-ended _ _ land.result s.machine s.costs (whole_in s.times.now) s.order.now (now.i + 1) s.n (omega arith) there c.if1.true
 
 add-i : tie.Need-overflow-add-i invariant-loop decreases-loop
 add-i c = search rules
@@ -109,10 +109,10 @@ loop-again c =
     let there =
     land-reach s.machine s.costs s.times.now s.order.now s.n fits.some fits.few fits.costs fits.sizes now.i
     loop-test.true (omega (arith, fits.count)) (omega (arith, fits.count)) now.placed now.records now.going now.invariant.1
-    whole-piece.result (ap wholePiece (sym times-at.ensures) ∙ sym whole-piece.ensures) _ _ land.result land.ensures in (
+    whole-piece.result (ap whole_piece (sym times-at.ensures) ∙ sym whole-piece.ensures) _ _ land.result land.ensures in (
       omega arith,
       still-walking _ _ land.result
-          (walkOver (wayFor s.machine s.costs (wholeIn s.times.now)) (take (now.i + 1) s.order.now)) _ there (omega arith),
+          (walk_over (way_for s.machine s.costs (whole_in s.times.now)) (take (now.i + 1) s.order.now)) _ there (omega arith),
     )
 
 returns-2 : tie.Need-returns-2 invariant-loop decreases-loop
@@ -121,8 +121,8 @@ returns-2 c =
     let fits = c.before.before.before.requires in
     let now = c.before.loop in
     let e : now.i ≡ s.n = omega arith in
-    subst (λ (k : ℕ). ReachOver s.machine s.costs (wholeIn s.times.now) now.placed now.records now.going (take k s.order.now)) e
-    (walking-reach now.placed now.records now.going s.machine s.costs (wholeIn s.times.now) (take now.i s.order.now) now.invariant.1)
+    subst (λ (k : ℕ). ReachOver s.machine s.costs (whole_in s.times.now) now.placed now.records now.going (take k s.order.now)) e
+    (walking-reach now.placed now.records now.going s.machine s.costs (whole_in s.times.now) (take now.i s.order.now) now.invariant.1)
 
 pub walk-over-spec : {M : Type 1} → statement M
 walk-over-spec =

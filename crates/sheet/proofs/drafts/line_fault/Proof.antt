@@ -1,7 +1,7 @@
 -- `drafts::line_fault` meets its contract: the rules of its word, by what was found.
 -- Assumes nothing.
 use mathlib.Core.Path.{◌∙◌}
-use Rattle.sheet.specs.Sheet.{lineFault}
+use Rattle.sheet.specs.Sheet.{line_fault}
 use Rattle.sheet.proofs.DraftLaws.{found_part, found-fit}
 use borrow.Author.Rules.{rules}
 use Rattle.sheet.proofs.drafts.line_fault.Statement.{statement}
@@ -41,11 +41,11 @@ enum-told-5 : tie.Need-enum-told-5
 enum-told-5 c = search rules
 
 returns : tie.Need-returns
-unfolding lineFault
+unfolding line_fault
 returns c a stage found = rw (c.before.before.enum_told.given.1, stage) c.machine-fault.ensures
 
 returns-2 : tie.Need-returns-2
-unfolding lineFault
+unfolding line_fault
 returns-2 c a stage found = rw (c.before.before.enum-told2.given.1, stage) c.cost-fault.ensures
 
 returns-3 : tie.Need-returns-3
@@ -59,7 +59,7 @@ returns-4 c a stage found =
     c.fit-fault.ensures ∙ rw (← stage) (found-fit a start.line _ _ _ _ found c.before.enum-told4.given.1)
 
 returns-5 : tie.Need-returns-5
-unfolding lineFault
+unfolding line_fault
 returns-5 c a stage found = rw c.enum-told5.given.1
 
 pub line-fault-spec : {M : Type 1} → statement M

@@ -2,20 +2,20 @@
 -- Assumes nothing.
 use mathlib.Core.Path.{sym, ◌∙◌}
 use borrow.Author.Tests.{eq-eqb, ne_eqb, not-true, not-false}
-use Rattle.sheet.specs.Sheet.{machineFault}
+use Rattle.sheet.specs.Sheet.{machine_fault}
 use borrow.Author.Rules.{rules}
 use Rattle.sheet.proofs.drafts.machine_fault.Statement.{statement}
 use Rattle.sheet.proofs.drafts.machine_fault.Tie as tie
 
 returns : tie.Need-returns
-unfolding machineFault
+unfolding machine_fault
 returns c = rw (ne_eqb c.before.args.stage 0 c.if1.true)
 
 machine-within-requires : tie.Need-machine-within-requires
 machine-within-requires c κs = search rules
 
 returns-2 : tie.Need-returns-2
-unfolding machineFault
+unfolding machine_fault
 returns-2 c =
     rw (
       eq-eqb c.before.before.before.args.stage 0 c.before.before.if1.false,
@@ -23,7 +23,7 @@ returns-2 c =
     )
 
 returns-3 : tie.Need-returns-3
-unfolding machineFault
+unfolding machine_fault
 returns-3 c =
     rw (
       eq-eqb c.before.before.before.args.stage 0 c.before.before.if1.false,

@@ -1,5 +1,5 @@
 -- `bytes::read_costs` meets its contract: nine numbers, each within the 36 bytes.
-use Rattle.spardimple.specs.Bytes.{costsSpelt}
+use Rattle.spardimple.specs.Bytes.{costs_spelt}
 use borrow.Author.Rules.{rules}
 use Rattle.spardimple.proofs.bytes.read_costs.Statement.{statement}
 use Rattle.spardimple.proofs.bytes.read_costs.Tie as tie
@@ -35,7 +35,7 @@ number-at-requires-9 : tie.Need-number-at-requires-9
 number-at-requires-9 c κs = search rules
 
 returns : tie.Need-returns
-unfolding costsSpelt
+unfolding costs_spelt
 returns c =
     λ i. record {
       relo = c.before.before.before.before.before.before.before.before.number-at.ensures i;

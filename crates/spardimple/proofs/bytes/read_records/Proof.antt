@@ -6,7 +6,7 @@ use Prim.Native.Nat.{◌*◌, ◌-◌, ◌/◌, ◌≤◌}
 use native.Mathlib.Omega.{arith}
 use lib.ListN.{length, take, length-set}
 use Rattle.demand.specs.Lists.{firsts}
-use Rattle.demand.specs.Sizes.{runMost}
+use Rattle.demand.specs.Sizes.{run_most}
 use Rattle.spardimple.specs.Bytes.{number_at}
 use Rattle.spardimple.proofs.ByteLaws.{pieces-length, copied_next, copied-records}
 use Rattle.spardimple.proofs.bytes.read_records.Statement.{statement}
@@ -17,7 +17,7 @@ use Rattle.spardimple.proofs.bytes.number_at.Reads as number-at-reads
 use Rattle.spardimple.proofs.bytes.room_for.Reads as room-for-reads
 
 abbrev invariant-loop : tie.invariant-loop
-invariant-loop records₀ s most i₀ records i = (i ≤ most) × (length records ≡ 7 * runMost) × (take i records ≡ firsts (number_at s) i)
+invariant-loop records₀ s most i₀ records i = (i ≤ most) × (length records ≡ 7 * run_most) × (take i records ≡ firsts (number_at s) i)
 
 abbrev decreases-loop : tie.decreases-loop
 decreases-loop records₀ s most i₀ records i = most - i

@@ -54,7 +54,7 @@ use denote.Exit.{yes}
 use Rattle.demand.specs.declared.Piece.{Piece}
 use Rattle.demand.specs.declared.Run.{Run}
 use Rattle.demand.specs.Records.{outside}
-use Rattle.spardimple.specs.ways.CopiedRun.{Copied}
+use Rattle.spardimple.specs.Ways.CopiedRun.{Copied}
 use Rattle.spardimple.proofs.HoldingLaws.{Filled, filled_none, filled_put, filled-holding}
 use Rattle.demand.specs.contracts.Piece as P
 use Rattle.demand.proofs.Piece.TheLaws as P'
@@ -107,8 +107,8 @@ ptr = sp ty_ptr
 abbrev run_t : Ty
 run_t = sp (pointee (R.the_row).written)
 
-abbrev pieceT : Ty
-pieceT = sp (pointee (P.the_row).written)
+abbrev piece_t : Ty
+piece_t = sp (pointee (P.the_row).written)
 
 abbrev slice : Ty
 slice = sp (slice_ty (ty_ref (named 0) imm (pointee (P.the_row).written)))
@@ -193,15 +193,15 @@ module _ {M : Type 1} {𝓤 : Ura M} (𝓛 : Logic 𝓤) (at_mem : Memory → SP
 
     module _ (l₀ l₁ l₂ l₃ l₄ l₅ l₆ l₇ l₈ : ℕ) where
       abbrev En : Env 𝓤 H
-      En = (run_t, l₀) ∷ (slice, l₁) ∷ (run_t, l₂) ∷ (word, l₃) ∷ (word, l₄) ∷ (word, l₅) ∷ (flag, l₆) ∷ (ptr, l₇) ∷ (pieceT, l₈) ∷ []
+      En = (run_t, l₀) ∷ (slice, l₁) ∷ (run_t, l₂) ∷ (word, l₃) ∷ (word, l₄) ∷ (word, l₅) ∷ (flag, l₆) ∷ (ptr, l₇) ∷ (piece_t, l₈) ∷ []
 
       abbrev At : ℕ → Run → List (Item 𝓤)
       At i s = ‵ (fshr_bor κ (λ (u : Share). (arr_parts (shares P.the_row) n).part u ys b o)) ∷ ‵ (flft κ q)
           ∷ ‵ (fat full_share run_t l₂ 0 (r-val s)) ∷ ‵ (fat full_share word l₃ 0 (vint w64 i)) ∷ ‵ (froom word l₅ 0) ∷ ‵ (froom flag l₆ 0)
-          ∷ ‵ (froom ptr l₇ 0) ∷ ‵ (froom pieceT l₈ 0)
+          ∷ ‵ (froom ptr l₇ 0) ∷ ‵ (froom piece_t l₈ 0)
           ∷ ‵ (fat full_share slice l₁ 0 (slice_val (b, o) n)) ∷ ‵ (froom run_t l₀ 0) ∷ ‵ Own
           ∷ ‵ (fdies run_t l₀) ∷ ‵ (fdies slice l₁) ∷ ‵ (fdies run_t l₂) ∷ ‵ (fdies word l₃) ∷ ‵ (fdies word l₅) ∷ ‵ (fdies flag l₆)
-          ∷ ‵ (fdies ptr l₇) ∷ ‵ (fdies pieceT l₈)
+          ∷ ‵ (fdies ptr l₇) ∷ ‵ (fdies piece_t l₈)
           ∷ ‵ (froom word l₄ 0) ∷ ‵ (fdies word l₄) ∷ []
 
       abbrev Facts : ℕ → ℕ → Run → Type 0
@@ -315,7 +315,7 @@ module _ {M : Type 1} {𝓤 : Ura M} (𝓛 : Logic 𝓤) (at_mem : Memory → SP
 
       -- after `empty` has returned
       abbrev Begun : Run → List (Item 𝓤)
-      Begun s = ‵ (froom pieceT l₈ 0) ∷ ‵ (fdies pieceT l₈) ∷ ‵ (froom ptr l₇ 0) ∷ ‵ (fdies ptr l₇) ∷ ‵ (froom flag l₆ 0)
+      Begun s = ‵ (froom piece_t l₈ 0) ∷ ‵ (fdies piece_t l₈) ∷ ‵ (froom ptr l₇ 0) ∷ ‵ (fdies ptr l₇) ∷ ‵ (froom flag l₆ 0)
           ∷ ‵ (fdies flag l₆) ∷ ‵ (froom word l₅ 0) ∷ ‵ (fdies word l₅)
           ∷ ‵ (froom word l₄ 0) ∷ ‵ (fdies word l₄) ∷ ‵ (froom word l₃ 0) ∷ ‵ (fdies word l₃) ∷ ‵ (fat full_share run_t l₂ 0 (r-val s))
           ∷ ‵ (fdies run_t l₂) ∷ ‵ (fat full_share slice l₁ 0 (slice_val (b, o) n)) ∷ ‵ (fdies slice l₁)
@@ -333,7 +333,7 @@ module _ {M : Type 1} {𝓤 : Ura M} (𝓛 : Logic 𝓤) (at_mem : Memory → SP
 
       -- before `empty` is called
       abbrev Entered : List (Item 𝓤)
-      Entered = ‵ (froom pieceT l₈ 0) ∷ ‵ (fdies pieceT l₈) ∷ ‵ (froom ptr l₇ 0) ∷ ‵ (fdies ptr l₇) ∷ ‵ (froom flag l₆ 0)
+      Entered = ‵ (froom piece_t l₈ 0) ∷ ‵ (fdies piece_t l₈) ∷ ‵ (froom ptr l₇ 0) ∷ ‵ (fdies ptr l₇) ∷ ‵ (froom flag l₆ 0)
           ∷ ‵ (fdies flag l₆) ∷ ‵ (froom word l₅ 0) ∷ ‵ (fdies word l₅)
           ∷ ‵ (froom word l₄ 0) ∷ ‵ (fdies word l₄) ∷ ‵ (froom word l₃ 0) ∷ ‵ (fdies word l₃) ∷ ‵ (froom run_t l₂ 0) ∷ ‵ (fdies run_t l₂)
           ∷ ‵ (fat full_share slice l₁ 0 (slice_val (b, o) n)) ∷ ‵ (fdies slice l₁)

@@ -5,9 +5,9 @@ use Prim.Native.Nat.{◌+◌}
 use native.Mathlib.Omega.{arith}
 use Rattle.demand.specs.declared.Charged.{Charged}
 use Rattle.splits.specs.declared.charge_bounds.Bound.TheVariants.{AtMost}
-use Rattle.splits.specs.ways.ChargeBounds.{Bounds}
-use Rattle.verdicts.specs.ChargedArray.{chargedIn}
-use Rattle.demand.specs.ways.Ranges.{Ranged}
+use Rattle.splits.specs.Ways.ChargeBounds.{Bounds}
+use Rattle.verdicts.specs.ChargedArray.{charged_in}
+use Rattle.demand.specs.Ways.Ranges.{Ranged}
 use Rattle.demand.proofs.BusyLaws.{busy-length-within}
 use Rattle.splits.proofs.ChargeBoundLaws.{bound-most, bound-unsettled, unsettled-from}
 use Rattle.verdicts.proofs.ChargedArrayLaws.{charged-in-is, charged-in-front, charged-at-each}
@@ -46,14 +46,14 @@ cap-of-requires c κs =
 returns : tie.Need-returns
 returns c =
     let s = c.before.before.before.before.before.before.before.before.args in
-    let qs = chargedIn s.core.now s.n in
+    let qs = charged_in s.core.now s.n in
     let charged-at = c.before.before.before.before.before.before.charged-at in
     let q = charged-at.result in
     let cap-of = c.before.before.cap-of in
     let least-live = c.before.before.before.before.least-live in
     let pre = c.before.before.before.before.before.before.before.before.requires in (
       subst (λ (r : Charged). Bounds s.b qs r (AtMost cap-of.result)) charged-at.ensures
-          (bound-most s.b qs (chargedIn s.core.now (s.n + 1)) q (charged-in-is s.core.now s.n q charged-at.ensures)
+          (bound-most s.b qs (charged_in s.core.now (s.n + 1)) q (charged-in-is s.core.now s.n q charged-at.ensures)
           least-live.result cap-of.result least-live.ensures.0 c.if1.true cap-of.ensures),
       record { same = refl; long = pre.0.1 },
     )
@@ -80,8 +80,8 @@ busy-cap-requires : tie.Need-busy-cap-requires
 busy-cap-requires c κs =
     let at-climb-busy = c.before.before.before.before.before in
     let s = at-climb-busy.before.before.before.before.before.before.before.before.before.before.args in
-    let qs = chargedIn s.core.now s.n in
-    let rs = chargedIn s.core.now (s.n + 1) in
+    let qs = charged_in s.core.now s.n in
+    let rs = charged_in s.core.now (s.n + 1) in
     let charged-at = at-climb-busy.before.before.before.before.before.before.before.before.charged-at in
     let q = charged-at.result in
     let pre = at-climb-busy.before.before.before.before.before.before.before.before.before.before.requires in
@@ -104,7 +104,7 @@ bound-within-requires : tie.Need-bound-within-requires
 bound-within-requires c κs =
     let at-least-live = c.before.before.before.before.before.before.before.before.before.before in
     let s = at-least-live.before.before.before.before.args in
-    let rs = chargedIn s.core.now (s.n + 1) in
+    let rs = charged_in s.core.now (s.n + 1) in
     let l = c.before.before.l in
     let climb-busy = c.before.before.before.before.climb-busy in
     let busy = sym climb-busy.ensures ∙ l.given.1 in
@@ -126,11 +126,11 @@ returns-2 : tie.Need-returns-2
 returns-2 c =
     let earlier = c.before.before.before.before.before.before.before in
     let s = earlier.before.before.before.before.before.before.before.before.before.args in
-    let qs = chargedIn s.core.now s.n in
+    let qs = charged_in s.core.now s.n in
     let charged-at = earlier.before.before.before.before.before.before.before.charged-at in
     let q = charged-at.result in (
       subst (λ (r : Charged). Bounds s.b qs r (AtMost c.busy-cap.result)) charged-at.ensures
-          (bound-unsettled s.b qs (chargedIn s.core.now (s.n + 1)) q (charged-in-is s.core.now s.n q charged-at.ensures)
+          (bound-unsettled s.b qs (charged_in s.core.now (s.n + 1)) q (charged-in-is s.core.now s.n q charged-at.ensures)
           c.busy-cap.result c.busy-cap.ensures.0 c.busy-cap.ensures.1),
       c.busy-cap.ensures.2,
     )

@@ -7,11 +7,11 @@ use native.Mathlib.Omega.{arith}
 use Rattle.demand.specs.declared.Charged.{Charged}
 use Rattle.demand.specs.declared.Verdict.TheVariants.{Passes}
 use Rattle.splits.specs.declared.charge_bounds.Bound.TheVariants.{Stands, Falls, AtMost}
-use Rattle.demand.specs.Demand.{largestWindow}
-use Rattle.splits.specs.ways.ChargeBounds.{Bounds}
-use Rattle.verdicts.specs.ChargedArray.{chargedIn}
-use Rattle.demand.specs.Sizes.{timeMost, Each}
-use Rattle.demand.specs.ways.Ranges.{Ranged}
+use Rattle.demand.specs.Demand.{largest_window}
+use Rattle.splits.specs.Ways.ChargeBounds.{Bounds}
+use Rattle.verdicts.specs.ChargedArray.{charged_in}
+use Rattle.demand.specs.Sizes.{time_most, Each}
+use Rattle.demand.specs.Ways.Ranges.{Ranged}
 use Rattle.demand.specs.Verdict.{scan}
 use Rattle.splits.proofs.ChargeBoundLaws.{largest-fits, bound-squeezed, bound-own, bound-never, bound-stands}
 use Rattle.demand.proofs.ChargeLaws.{all-recurs}
@@ -37,7 +37,7 @@ squeeze-requires c κs =
     let q = c.charged-at.result in
     let pre = c.before.requires in
     let ranged : Ranged q = rw c.charged-at.ensures (charged-at-each Ranged s.core.now (s.n + 1) pre.0.1 s.n (omega arith)) in
-    let qs = chargedIn s.core.now s.n in
+    let qs = charged_in s.core.now s.n in
     let front : Each Ranged qs = charged-in-front Ranged s.core.now s.n pre.0.1 in
     ((omega arith, front), (ranged, (pre.1.0.0, ranged.charge-fits, omega (arith, pre.1.0.1, pre.1.0.2))))
 
@@ -48,9 +48,9 @@ returns c =
     let q = charged-at.result in
     let pre = c.before.before.before.before.requires in
     let ranged : Ranged q = rw charged-at.ensures (charged-at-each Ranged s.core.now (s.n + 1) pre.0.1 s.n (omega arith)) in
-    let qs = chargedIn s.core.now s.n in
+    let qs = charged_in s.core.now s.n in
     let front : Each Ranged qs = charged-in-front Ranged s.core.now s.n pre.0.1 in
-    let rs = chargedIn s.core.now (s.n + 1) in
+    let rs = charged_in s.core.now (s.n + 1) in
     let laid = charged-in-is s.core.now s.n q charged-at.ensures in
     let squeeze = c.before.before.squeeze in
     subst (λ (r : Charged). Bounds s.b qs r (AtMost squeeze.result)) charged-at.ensures
@@ -72,13 +72,13 @@ returns-2 c =
     let q = charged-at.result in
     let pre = c.before.before.before.before.before.before.before.before.requires in
     let ranged : Ranged q = rw charged-at.ensures (charged-at-each Ranged s.core.now (s.n + 1) pre.0.1 s.n (omega arith)) in
-    let qs = chargedIn s.core.now s.n in
+    let qs = charged_in s.core.now s.n in
     let front : Each Ranged qs = charged-in-front Ranged s.core.now s.n pre.0.1 in
-    let rs = chargedIn s.core.now (s.n + 1) in
+    let rs = charged_in s.core.now (s.n + 1) in
     let laid = charged-in-is s.core.now s.n q charged-at.ensures in
     let own = c.before.before.greater.result in
     let some : 1 ≤ q.charge = rw charged-at.ensures pre.1.0.3 in
-    let is : own ≡ max s.a (largestWindow qs) = c.before.before.greater.ensures
+    let is : own ≡ max s.a (largest_window qs) = c.before.before.greater.ensures
     ∙ ap (λ (w : ℕ). max s.a w) c.before.before.before.largest-window.ensures in
     let mine : scan s.b rs own (q.window - own) ≡ Passes =
     (let none : q.window - own ≡ 0 = omega (arith, c.before.less.ensures, c.if2.true) in rw none) in
@@ -98,7 +98,7 @@ descend-requires c κs =
     let q = charged-at.result in
     let pre = c.before.before.before.before.before.before.before.before.requires in
     let ranged : Ranged q = rw charged-at.ensures (charged-at-each Ranged s.core.now (s.n + 1) pre.0.1 s.n (omega arith)) in
-    let qs = chargedIn s.core.now s.n in
+    let qs = charged_in s.core.now s.n in
     let front : Each Ranged qs = charged-in-front Ranged s.core.now s.n pre.0.1 in (
       (omega arith, pre.0.1),
       (
@@ -125,15 +125,15 @@ returns-3 c =
     let q = charged-at.result in
     let pre = at-charged-at.before.requires in
     let ranged : Ranged q = rw charged-at.ensures (charged-at-each Ranged s.core.now (s.n + 1) pre.0.1 s.n (omega arith)) in
-    let qs = chargedIn s.core.now s.n in
+    let qs = charged_in s.core.now s.n in
     let front : Each Ranged qs = charged-in-front Ranged s.core.now s.n pre.0.1 in
-    let rs = chargedIn s.core.now (s.n + 1) in
+    let rs = charged_in s.core.now (s.n + 1) in
     let laid = charged-in-is s.core.now s.n q charged-at.ensures in
     let greater = c.before.before.before.before.before.greater in
     let own = greater.result in
     let some : 1 ≤ q.charge = rw charged-at.ensures pre.1.0.3 in
     let largest-window = c.before.before.before.before.before.before.largest-window in
-    let is : own ≡ max s.a (largestWindow qs) = greater.ensures ∙ ap (λ (w : ℕ). max s.a w) largest-window.ensures in
+    let is : own ≡ max s.a (largest_window qs) = greater.ensures ∙ ap (λ (w : ℕ). max s.a w) largest-window.ensures in
     let less = c.before.before.before.before.less in
     let mine : scan s.b rs own (q.window - own) ≡ Passes = ap (λ (k : ℕ). scan s.b rs own k) (sym less.ensures)
     ∙ (sym c.before.before.descend.ensures ∙ c.enum_told.given.1) in
@@ -151,14 +151,14 @@ returns-4 c =
     let q = charged-at.result in
     let pre = at-largest-window.before.before.before.before.before.requires in
     let ranged : Ranged q = rw charged-at.ensures (charged-at-each Ranged s.core.now (s.n + 1) pre.0.1 s.n (omega arith)) in
-    let qs = chargedIn s.core.now s.n in
+    let qs = charged_in s.core.now s.n in
     let front : Each Ranged qs = charged-in-front Ranged s.core.now s.n pre.0.1 in
-    let rs = chargedIn s.core.now (s.n + 1) in
+    let rs = charged_in s.core.now (s.n + 1) in
     let laid = charged-in-is s.core.now s.n q charged-at.ensures in
     let t = c.before.t.given.0.0 in
     let less = c.before.before.before.before.before.less in
     let greater = c.before.before.before.before.before.before.greater in
-    let within : greater.result + less.result ≤ timeMost =
+    let within : greater.result + less.result ≤ time_most =
     omega (
       arith,
       greater.ensures,
@@ -180,9 +180,9 @@ returns-5 c =
     let q = charged-at.result in
     let pre = at-charged-at.before.requires in
     let ranged : Ranged q = rw charged-at.ensures (charged-at-each Ranged s.core.now (s.n + 1) pre.0.1 s.n (omega arith)) in
-    let qs = chargedIn s.core.now s.n in
+    let qs = charged_in s.core.now s.n in
     let front : Each Ranged qs = charged-in-front Ranged s.core.now s.n pre.0.1 in
-    let rs = chargedIn s.core.now (s.n + 1) in
+    let rs = charged_in s.core.now (s.n + 1) in
     let laid = charged-in-is s.core.now s.n q charged-at.ensures in
     let less = c.before.before.before.before.less in
     let greater = c.before.before.before.before.before.greater in

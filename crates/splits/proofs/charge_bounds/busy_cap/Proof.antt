@@ -6,10 +6,10 @@ use mathlib.Core.Logic.{⊎_elim}
 use Prim.Native.Nat.{◌+◌, ◌-◌, ◌/◌, ◌<◌}
 use native.Mathlib.Omega.{arith}
 use Rattle.demand.specs.declared.Charged.{Charged}
-use Rattle.splits.specs.ways.ChargeBounds.{Unsettled}
-use Rattle.verdicts.specs.ChargedArray.{chargedIn}
-use Rattle.splits.specs.ways.MonotoneSearch.{ShowsIf, Lowered}
-use Rattle.splits.specs.ways.SplitSearch.{SameCore}
+use Rattle.splits.specs.Ways.ChargeBounds.{Unsettled}
+use Rattle.verdicts.specs.ChargedArray.{charged_in}
+use Rattle.splits.specs.Ways.MonotoneSearch.{ShowsIf, Lowered}
+use Rattle.splits.specs.Ways.SplitSearch.{SameCore}
 use Rattle.splits.proofs.MonotoneSearchLaws.{lowered-start, lowered-next, nearer}
 use Rattle.splits.proofs.SplitSearchLaws.{kept_again}
 use Rattle.splits.proofs.charge_bounds.busy_cap.Statement.{statement}
@@ -20,7 +20,7 @@ use Rattle.splits.proofs.charge_bounds.unsettled.Reads as unsettled-reads
 use Rattle.splits.proofs.monotone_search.pick.Reads as pick-reads
 
 abbrev invariant-loop : tie.invariant-loop
-invariant-loop core₀ n q from low₀ high₀ core low high = SameCore core₀ core n × (low < high) × Lowered (Unsettled (chargedIn core₀ n) q) q.charge high
+invariant-loop core₀ n q from low₀ high₀ core low high = SameCore core₀ core n × (low < high) × Lowered (Unsettled (charged_in core₀ n) q) q.charge high
 
 abbrev decreases-loop : tie.decreases-loop
 decreases-loop core₀ n q from low₀ high₀ core low high = high - low
@@ -28,7 +28,7 @@ decreases-loop core₀ n q from low₀ high₀ core low high = high - low
 loop-holds : tie.Need-loop-init invariant-loop decreases-loop
 loop-holds c =
     let s = c.args in
-    (record { same = refl; long = c.requires.0.1 }, c.requires.1.1.0, lowered-start (Unsettled (chargedIn s.core.now s.n) s.q) s.q.charge)
+    (record { same = refl; long = c.requires.0.1 }, c.requires.1.1.0, lowered-start (Unsettled (charged_in s.core.now s.n) s.q) s.q.charge)
 
 add-loop : tie.Need-overflow-add-loop invariant-loop decreases-loop
 add-loop c = omega (arith, c.loop.invariant.1, c.loop.invariant.2.most, c.before.requires.1.0.charge-fits)
@@ -60,7 +60,7 @@ loop-less c =
 loop-again : tie.Need-loop-preserved invariant-loop decreases-loop
 loop-again c =
     let s = c.before.before.before.before.before.before.args in
-    let qs = chargedIn s.core.now s.n in
+    let qs = charged_in s.core.now s.n in
     let loop = c.before.before.before.before.before.loop in
     let low = loop.low in
     let f = (low + loop.high) / 2 in
@@ -81,7 +81,7 @@ returns : tie.Need-returns invariant-loop decreases-loop
 returns c =
     let s = c.before.before.args in
     let e : c.before.loop.high - 1 + 1 ≡ c.before.loop.high = omega (arith, c.before.loop.invariant.1) in
-    let none : Unsettled (chargedIn s.core.now s.n) s.q c.before.loop.high =
+    let none : Unsettled (charged_in s.core.now s.n) s.q c.before.loop.high =
     ⊎_elim (λ same. rw same c.before.before.requires.1.1.1) (λ none. none) c.before.loop.invariant.2.told in
     (omega (arith, c.before.loop.invariant.1, c.before.loop.invariant.2.most), rw e none, c.before.loop.invariant.0)
 

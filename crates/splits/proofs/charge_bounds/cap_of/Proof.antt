@@ -1,7 +1,7 @@
 -- `charge_bounds::cap_of` meets its contract: the second walk caps what the first left.
 use Prim.Native.Nat.{◌*◌}
 use native.Mathlib.Omega.{arith}
-use Rattle.verdicts.specs.ChargedArray.{chargedIn}
+use Rattle.verdicts.specs.ChargedArray.{charged_in}
 use Rattle.splits.proofs.ChargeBoundLaws.{caps-both}
 use Rattle.verdicts.proofs.MostFittingLaws.{squeezed-is}
 use borrow.Author.Rules.{rules}
@@ -20,7 +20,7 @@ mul-squeeze c = search rules
 squeeze-requires-2 : tie.Need-squeeze-requires-2
 squeeze-requires-2 c κs =
     let s = c.before.before.args in
-    let far = squeezed-is s.b (chargedIn s.core.now s.n) s.q 100000000 1 s.f c.before.squeeze.result c.before.squeeze.ensures in
+    let far = squeezed-is s.b (charged_in s.core.now s.n) s.q 100000000 1 s.f c.before.squeeze.result c.before.squeeze.ensures in
     let pre = c.before.before.requires in
     (pre.0, (pre.1.0, (pre.1.1.0, omega (arith, far.most), omega (arith, pre.1.0.period-fits))))
 
@@ -28,7 +28,7 @@ returns : tie.Need-returns
 returns c =
     let s = c.before.before.before.args in
     let squeeze = c.before.before.squeeze in
-    caps-both s.b (chargedIn s.core.now s.n) s.q s.f s.a 100000000 1 (4 * s.q.period) squeeze.result
+    caps-both s.b (charged_in s.core.now s.n) s.q s.f s.a 100000000 1 (4 * s.q.period) squeeze.result
     c.squeeze2.result (omega arith) squeeze.ensures c.squeeze2.ensures
 
 pub cap-of-spec : {M : Type 1} → statement M

@@ -4,9 +4,9 @@ use mathlib.Core.List.{List, [], ◌∷◌, ◌++◌}
 use Prim.Native.Nat.{◌+◌}
 use native.Mathlib.Omega.{arith}
 use Rattle.demand.specs.declared.Charged.{Charged}
-use Rattle.demand.specs.ways.Ranges.{Ranged}
-use Rattle.verdicts.specs.ChargedArray.{chargedIn}
-use Rattle.splits.specs.ways.ChargeBounds.{withCharge}
+use Rattle.demand.specs.Ways.Ranges.{Ranged}
+use Rattle.verdicts.specs.ChargedArray.{charged_in}
+use Rattle.splits.specs.Ways.ChargeBounds.{with_charge}
 use Rattle.demand.proofs.Sums.{each_snoc}
 use Rattle.verdicts.proofs.ChargedArrayLaws.{charged-in-kept}
 use Rattle.splits.proofs.ChargeBoundLaws.{charge-ranged, stalled-rest, stalled-jobs, stalled-over, stalled-free, stalled-fits}
@@ -36,13 +36,13 @@ sum-at-requires c κs =
     let s = c.before.before.before.before.args in
     let a = s.core.now in
     let d = c.before.put-charged.new.0 in
-    let qs = chargedIn a s.n in
-    let first : chargedIn d (s.n + 1) ≡ qs ++ (withCharge s.q 0 ∷ []) = c.before.put-charged.ensures.0
+    let qs = charged_in a s.n in
+    let first : charged_in d (s.n + 1) ≡ qs ++ (with_charge s.q 0 ∷ []) = c.before.put-charged.ensures.0
     ∙ ap (λ (r : Charged). qs ++ (r ∷ [])) c.before.before.with-charge.ensures in
     let pre = c.before.before.before.before.requires in (
       (
         omega (arith, pre.0.0),
-        rw first (each_snoc Ranged qs (withCharge s.q 0) pre.0.2 (charge-ranged s.q 0 pre.1.0 (omega arith))),
+        rw first (each_snoc Ranged qs (with_charge s.q 0) pre.0.2 (charge-ranged s.q 0 pre.1.0 (omega arith))),
       ),
       pre.1.1.2,
     )
@@ -62,19 +62,19 @@ sum-at-requires-2 c κs =
     let a = s.core.now in
     let put-charged = c.before.before.before.before.before.before.put-charged in
     let d = put-charged.new.0 in
-    let qs = chargedIn a s.n in
+    let qs = charged_in a s.n in
     let with-charge = c.before.before.before.before.before.before.before.with-charge in
-    let first : chargedIn d (s.n + 1) ≡ qs ++ (withCharge s.q 0 ∷ []) = put-charged.ensures.0
+    let first : charged_in d (s.n + 1) ≡ qs ++ (with_charge s.q 0 ∷ []) = put-charged.ensures.0
     ∙ ap (λ (r : Charged). qs ++ (r ∷ [])) with-charge.ensures in
     let e = c.before.put-charged2.new.0 in
-    let same = charged-in-kept a d s.n (withCharge s.q 0) first in
+    let same = charged-in-kept a d s.n (with_charge s.q 0) first in
     let with-charge2 = c.before.before.with-charge2 in
-    let second : chargedIn e (s.n + 1) ≡ qs ++ (withCharge s.q 1 ∷ []) = c.before.put-charged2.ensures.0
+    let second : charged_in e (s.n + 1) ≡ qs ++ (with_charge s.q 1 ∷ []) = c.before.put-charged2.ensures.0
     ∙ (ap (λ (l : List Charged). l ++ (with-charge2.result ∷ [])) same ∙ ap (λ (r : Charged). qs ++ (r ∷ [])) with-charge2.ensures) in
     let pre = c.before.before.before.before.before.before.before.before.before.requires in (
       (
         omega (arith, pre.0.0),
-        rw second (each_snoc Ranged qs (withCharge s.q 1) pre.0.2 (charge-ranged s.q 1 pre.1.0 (omega arith))),
+        rw second (each_snoc Ranged qs (with_charge s.q 1) pre.0.2 (charge-ranged s.q 1 pre.1.0 (omega arith))),
       ),
       pre.1.1.2,
     )
@@ -92,22 +92,22 @@ returns c =
     let a = s.core.now in
     let put-charged = c.before.before.before.before.before.before.before.before.before.put-charged in
     let d = put-charged.new.0 in
-    let qs = chargedIn a s.n in
-    let first : chargedIn d (s.n + 1) ≡ qs ++ (withCharge s.q 0 ∷ []) = put-charged.ensures.0
+    let qs = charged_in a s.n in
+    let first : charged_in d (s.n + 1) ≡ qs ++ (with_charge s.q 0 ∷ []) = put-charged.ensures.0
     ∙ ap (λ (r : Charged). qs ++ (r ∷ [])) at-with-charge.with-charge.ensures in
     let put-charged2 = c.before.before.before.before.put-charged2 in
     let e = put-charged2.new.0 in
-    let same = charged-in-kept a d s.n (withCharge s.q 0) first in
+    let same = charged-in-kept a d s.n (with_charge s.q 0) first in
     let with-charge2 = c.before.before.before.before.before.with-charge2 in
-    let second : chargedIn e (s.n + 1) ≡ qs ++ (withCharge s.q 1 ∷ []) = put-charged2.ensures.0
+    let second : charged_in e (s.n + 1) ≡ qs ++ (with_charge s.q 1 ∷ []) = put-charged2.ensures.0
     ∙ (ap (λ (l : List Charged). l ++ (with-charge2.result ∷ [])) same ∙ ap (λ (r : Charged). qs ++ (r ∷ [])) with-charge2.ensures) in
     let sum-at = c.before.before.before.before.before.before.before.sum-at in
-    let rest = stalled-rest qs s.q s.t (chargedIn d (s.n + 1)) sum-at.result first sum-at.ensures.0 in
+    let rest = stalled-rest qs s.q s.t (charged_in d (s.n + 1)) sum-at.result first sum-at.ensures.0 in
     let sum-at2 = c.before.before.sum-at2 in
     let jobs =
-    stalled-jobs qs s.q s.t (chargedIn e (s.n + 1)) sum-at2.result sum-at.result c.before.less.result second
+    stalled-jobs qs s.q s.t (charged_in e (s.n + 1)) sum-at2.result sum-at.result c.before.less.result second
     sum-at2.ensures.0 rest c.before.less.ensures in
-    let kept = laid_kept a e s.n (withCharge s.q 1) second put-charged2.ensures.1 in
+    let kept = laid_kept a e s.n (with_charge s.q 1) second put-charged2.ensures.1 in
     let pre = at-with-charge.before.before.requires in
     (stalled-over qs s.q s.t s.b sum-at.result c.before.less.result rest jobs pre.1.1.1 c.if1.true, kept)
 
@@ -124,24 +124,24 @@ returns-2 c =
     let a = s.core.now in
     let put-charged = at-sum-at.before.before.put-charged in
     let d = put-charged.new.0 in
-    let qs = chargedIn a s.n in
+    let qs = charged_in a s.n in
     let with-charge = at-sum-at.before.before.before.with-charge in
-    let first : chargedIn d (s.n + 1) ≡ qs ++ (withCharge s.q 0 ∷ []) = put-charged.ensures.0
+    let first : charged_in d (s.n + 1) ≡ qs ++ (with_charge s.q 0 ∷ []) = put-charged.ensures.0
     ∙ ap (λ (r : Charged). qs ++ (r ∷ [])) with-charge.ensures in
     let put-charged2 = c.before.before.before.before.before.before.put-charged2 in
     let e = put-charged2.new.0 in
-    let same = charged-in-kept a d s.n (withCharge s.q 0) first in
+    let same = charged-in-kept a d s.n (with_charge s.q 0) first in
     let with-charge2 = c.before.before.before.before.before.before.before.with-charge2 in
-    let second : chargedIn e (s.n + 1) ≡ qs ++ (withCharge s.q 1 ∷ []) = put-charged2.ensures.0
+    let second : charged_in e (s.n + 1) ≡ qs ++ (with_charge s.q 1 ∷ []) = put-charged2.ensures.0
     ∙ (ap (λ (l : List Charged). l ++ (with-charge2.result ∷ [])) same ∙ ap (λ (r : Charged). qs ++ (r ∷ [])) with-charge2.ensures) in
     let sum-at = at-sum-at.sum-at in
-    let rest = stalled-rest qs s.q s.t (chargedIn d (s.n + 1)) sum-at.result first sum-at.ensures.0 in
+    let rest = stalled-rest qs s.q s.t (charged_in d (s.n + 1)) sum-at.result first sum-at.ensures.0 in
     let less = c.before.before.before.less in
     let sum-at2 = c.before.before.before.before.sum-at2 in
     let jobs =
-    stalled-jobs qs s.q s.t (chargedIn e (s.n + 1)) sum-at2.result sum-at.result less.result second
+    stalled-jobs qs s.q s.t (charged_in e (s.n + 1)) sum-at2.result sum-at.result less.result second
     sum-at2.ensures.0 rest less.ensures in
-    let kept = laid_kept a e s.n (withCharge s.q 1) second put-charged2.ensures.1 in
+    let kept = laid_kept a e s.n (with_charge s.q 1) second put-charged2.ensures.1 in
     let pre = at-sum-at.before.before.before.before.before.requires in
     (stalled-free qs s.q s.t s.b sum-at.result less.result rest jobs pre.1.1.1 c.before.if2.true, kept)
 
@@ -170,24 +170,24 @@ returns-3 c =
     let a = s.core.now in
     let put-charged = at-sum-at.before.before.put-charged in
     let d = put-charged.new.0 in
-    let qs = chargedIn a s.n in
+    let qs = charged_in a s.n in
     let with-charge = at-sum-at.before.before.before.with-charge in
-    let first : chargedIn d (s.n + 1) ≡ qs ++ (withCharge s.q 0 ∷ []) = put-charged.ensures.0
+    let first : charged_in d (s.n + 1) ≡ qs ++ (with_charge s.q 0 ∷ []) = put-charged.ensures.0
     ∙ ap (λ (r : Charged). qs ++ (r ∷ [])) with-charge.ensures in
     let put-charged2 = c.before.before.before.before.before.before.before.put-charged2 in
     let e = put-charged2.new.0 in
-    let same = charged-in-kept a d s.n (withCharge s.q 0) first in
+    let same = charged-in-kept a d s.n (with_charge s.q 0) first in
     let with-charge2 = c.before.before.before.before.before.before.before.before.with-charge2 in
-    let second : chargedIn e (s.n + 1) ≡ qs ++ (withCharge s.q 1 ∷ []) = put-charged2.ensures.0
+    let second : charged_in e (s.n + 1) ≡ qs ++ (with_charge s.q 1 ∷ []) = put-charged2.ensures.0
     ∙ (ap (λ (l : List Charged). l ++ (with-charge2.result ∷ [])) same ∙ ap (λ (r : Charged). qs ++ (r ∷ [])) with-charge2.ensures) in
     let sum-at = at-sum-at.sum-at in
-    let rest = stalled-rest qs s.q s.t (chargedIn d (s.n + 1)) sum-at.result first sum-at.ensures.0 in
+    let rest = stalled-rest qs s.q s.t (charged_in d (s.n + 1)) sum-at.result first sum-at.ensures.0 in
     let less = c.before.before.before.before.less in
     let sum-at2 = c.before.before.before.before.before.sum-at2 in
     let jobs =
-    stalled-jobs qs s.q s.t (chargedIn e (s.n + 1)) sum-at2.result sum-at.result less.result second
+    stalled-jobs qs s.q s.t (charged_in e (s.n + 1)) sum-at2.result sum-at.result less.result second
     sum-at2.ensures.0 rest less.ensures in
-    let kept = laid_kept a e s.n (withCharge s.q 1) second put-charged2.ensures.1 in
+    let kept = laid_kept a e s.n (with_charge s.q 1) second put-charged2.ensures.1 in
     let pre = at-sum-at.before.before.before.before.before.requires in (
       stalled-fits qs s.q s.t s.b sum-at.result less.result rest jobs pre.1.1.1
           (omega (arith, c.before.before.before.if1.false)) (omega (arith, c.before.before.if2.false)) c.lesser.result c.lesser.ensures,

@@ -3,8 +3,8 @@ use borrow.Author.Rules.{rules}
 use Prim.Native.Nat.{◌+◌, ◌-◌, ◌≤◌, ◌<◌}
 use native.Mathlib.Nat.{div-mul-le_self}
 use native.Mathlib.Omega.{arith}
-use Rattle.demand.specs.Sizes.{busyMost}
-use Rattle.demand.specs.ways.Ranges.{Ranged}
+use Rattle.demand.specs.Sizes.{busy_most}
+use Rattle.demand.specs.Ways.Ranges.{Ranged}
 use Rattle.verdicts.proofs.ChargedArrayLaws.{charged-at-each}
 use Rattle.splits.proofs.charge_bounds.guess.Statement.{statement}
 use Rattle.splits.proofs.charge_bounds.guess.Tie as tie
@@ -33,12 +33,12 @@ div-guess-at c =
     c.before.before.before.loop.i (omega arith)).period-some
 
 mul-guess-at : tie.Need-overflow-mul-guess-at invariant-loop decreases-loop
-mul-guess-at c = omega (arith, div-mul-le_self busyMost c.before.before.charged-at.result.period)
+mul-guess-at c = omega (arith, div-mul-le_self busy_most c.before.before.charged-at.result.period)
 
 guess-at-requires : tie.Need-guess-at-requires invariant-loop decreases-loop
 guess-at-requires c κs =
     let pre = c.before.before.before.before.before.requires in
-    (pre.0, (pre.1.0, (pre.1.1, omega (arith, div-mul-le_self busyMost c.before.before.charged-at.result.period))))
+    (pre.0, (pre.1.0, (pre.1.1, omega (arith, div-mul-le_self busy_most c.before.before.charged-at.result.period))))
 
 greater-requires : tie.Need-greater-requires invariant-loop decreases-loop
 greater-requires c κs = search rules

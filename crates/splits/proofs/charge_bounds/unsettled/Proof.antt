@@ -4,9 +4,9 @@ use mathlib.Core.List.{[], ◌∷◌, ◌++◌}
 use Prim.Native.Nat.{◌+◌}
 use native.Mathlib.Omega.{arith}
 use Rattle.demand.specs.declared.Charged.{Charged}
-use Rattle.splits.specs.ways.ChargeBounds.{withCharge}
-use Rattle.verdicts.specs.ChargedArray.{chargedIn}
-use Rattle.demand.specs.ways.Ranges.{Ranged}
+use Rattle.splits.specs.Ways.ChargeBounds.{with_charge}
+use Rattle.verdicts.specs.ChargedArray.{charged_in}
+use Rattle.demand.specs.Ways.Ranges.{Ranged}
 use Rattle.splits.proofs.ChargeBoundLaws.{charge-ranged, unsettled-from}
 use Rattle.splits.proofs.SplitSearchLaws.{laid_kept}
 use Rattle.demand.proofs.Sums.{each_snoc}
@@ -31,11 +31,11 @@ add-climb-busy c = search rules
 climb-busy-requires : tie.Need-climb-busy-requires
 climb-busy-requires c κs =
     let s = c.before.before.before.before.args in
-    let r = withCharge s.q s.f in
+    let r = with_charge s.q s.f in
     let laid = c.before.put-charged.ensures.0
-    ∙ ap (λ (o : Charged). chargedIn s.core.now s.n ++ (o ∷ [])) c.before.before.with-charge.ensures in
+    ∙ ap (λ (o : Charged). charged_in s.core.now s.n ++ (o ∷ [])) c.before.before.with-charge.ensures in
     let pre = c.before.before.before.before.requires in
-    (omega (arith, pre.0.0), rw laid (each_snoc Ranged (chargedIn s.core.now s.n) r pre.0.2 (charge-ranged s.q s.f pre.1.0 pre.1.1)))
+    (omega (arith, pre.0.0), rw laid (each_snoc Ranged (charged_in s.core.now s.n) r pre.0.2 (charge-ranged s.q s.f pre.1.0 pre.1.1)))
 
 enum_told : tie.Need-enum-told
 enum_told c = search rules
@@ -44,15 +44,15 @@ enum-known-l : tie.Need-enum-known-l
 enum-known-l c = search rules
 
 returns : tie.Need-returns
-unfolding withCharge
+unfolding with_charge
 returns c =
     let s = c.before.before.before.before.before.before.before.args in
-    let qs = chargedIn s.core.now s.n in
-    let r = withCharge s.q s.f in
+    let qs = charged_in s.core.now s.n in
+    let r = with_charge s.q s.f in
     let put-charged = c.before.before.before.before.put-charged in
     let with-charge = c.before.before.before.before.before.with-charge in
     let laid = put-charged.ensures.0 ∙ ap (λ (o : Charged). qs ++ (o ∷ [])) with-charge.ensures in
-    let rs = chargedIn put-charged.new.0 (s.n + 1) in (
+    let rs = charged_in put-charged.new.0 (s.n + 1) in (
       unsettled-from qs s.q r refl refl refl rs laid (sym c.before.before.climb-busy.ensures ∙ c.enum_told.given.1),
       laid_kept s.core.now put-charged.new.0 s.n r laid put-charged.ensures.1,
     )

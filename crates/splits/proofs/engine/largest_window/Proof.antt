@@ -2,7 +2,7 @@
 use mathlib.Core.Path.{ap, ◌∙◌}
 use mathlib.Core.List.{List}
 use Rattle.demand.specs.declared.Charged.{Charged}
-use Rattle.demand.specs.Demand.{largestWindow}
+use Rattle.demand.specs.Demand.{largest_window}
 use Rattle.verdicts.proofs.LaidLaws.{laid-pieces-is}
 use borrow.Author.Rules.{rules}
 use Rattle.splits.proofs.engine.largest_window.Statement.{statement}
@@ -16,7 +16,7 @@ laid-largest-window-requires c κs = search rules
 
 returns : tie.Need-returns
 returns c = c.laid-largest-window.ensures
-    ∙ ap (λ (qs : List Charged). largestWindow qs) (laid-pieces-is c.before.args.core.now c.before.args.n c.before.requires)
+    ∙ ap (λ (qs : List Charged). largest_window qs) (laid-pieces-is c.before.args.core.now c.before.args.n c.before.requires)
 
 pub largest-window-spec : {M : Type 1} → statement M
 largest-window-spec = tie.close (tie.spec laid-largest-window-requires returns)

@@ -2,8 +2,8 @@
 use mathlib.Core.Path.{ap, ◌∙◌}
 use mathlib.Core.List.{List}
 use Rattle.demand.specs.declared.Charged.{Charged}
-use Rattle.demand.specs.Demand.{leastLive}
-use Rattle.verdicts.specs.ChargedArray.{chargedIn}
+use Rattle.demand.specs.Demand.{least_live}
+use Rattle.verdicts.specs.ChargedArray.{charged_in}
 use Rattle.verdicts.proofs.LaidLaws.{laid-pieces-is, least-live-fits}
 use borrow.Author.Rules.{rules}
 use Rattle.splits.proofs.engine.least_live.Statement.{statement}
@@ -18,8 +18,8 @@ laid-least-live-requires c κs = search rules
 returns : tie.Need-returns
 returns c =
     let start = c.before.args in
-    let is = c.laid-least-live.ensures ∙ ap (λ (qs : List Charged). leastLive qs) (laid-pieces-is start.core.now start.n c.before.requires.1) in
-    (is, rw is (least-live-fits (chargedIn start.core.now start.n) c.before.requires.2))
+    let is = c.laid-least-live.ensures ∙ ap (λ (qs : List Charged). least_live qs) (laid-pieces-is start.core.now start.n c.before.requires.1) in
+    (is, rw is (least-live-fits (charged_in start.core.now start.n) c.before.requires.2))
 
 pub least-live-spec : {M : Type 1} → statement M
 least-live-spec = tie.close (tie.spec laid-least-live-requires returns)

@@ -3,8 +3,8 @@ use mathlib.Core.Path.{◌≡◌, ap, ◌∙◌}
 use Prim.Native.Nat.{◌+◌}
 use Rattle.demand.specs.declared.Piece.{Piece}
 use Rattle.demand.specs.Charge.{charged}
-use Rattle.verdicts.specs.ChargedArray.{chargedIn}
-use Rattle.demand.specs.ways.ChargedSplit.{withFirst}
+use Rattle.verdicts.specs.ChargedArray.{charged_in}
+use Rattle.demand.specs.Ways.ChargedSplit.{with_first}
 use Rattle.demand.proofs.ChargedSplitLaws.{first-countable, with-ranged}
 use Rattle.splits.proofs.SplitSearchLaws.{laid-first, laid_kept}
 use borrow.Author.Rules.{rules}
@@ -33,13 +33,13 @@ returns c =
     let s = c.before.before.before.before.args in
     let old = s.core.now in
     let new = c.put-charged.new.0 in
-    let row : chargedIn new (s.n + 1) ≡ withFirst s.costs (chargedIn old s.n) s.task s.x s.w =
+    let row : charged_in new (s.n + 1) ≡ with_first s.costs (charged_in old s.n) s.task s.x s.w =
     laid-first old new s.n c.before.charged-of.result c.put-charged.ensures.0 s.costs s.task s.x s.w
     (c.before.charged-of.ensures ∙ ap (λ (q : Piece). charged s.costs q) c.before.before.first_piece.ensures) in
     let pre = c.before.before.before.before.requires in (
       row,
       laid_kept old new s.n c.before.charged-of.result c.put-charged.ensures.0 c.put-charged.ensures.1,
-      rw row (with-ranged s.costs (chargedIn old s.n) s.task s.x s.w pre.0 pre.1.0 pre.1.1.1.0 pre.1.1.1.1
+      rw row (with-ranged s.costs (charged_in old s.n) s.task s.x s.w pre.0 pre.1.0 pre.1.1.1.0 pre.1.1.1.1
           pre.1.1.0.ranged),
     )
 

@@ -4,9 +4,9 @@ use mathlib.Core.List.{List}
 use Rattle.demand.specs.declared.Charged.{Charged}
 use Rattle.demand.specs.declared.Piece.{Piece}
 use Rattle.demand.specs.Charge.{charged}
-use Rattle.verdicts.specs.ChargedArray.{chargedIn}
-use Rattle.demand.specs.ways.ChargedSplit.{lastAlone}
-use Rattle.demand.specs.ways.Ranges.{Ranged}
+use Rattle.verdicts.specs.ChargedArray.{charged_in}
+use Rattle.demand.specs.Ways.ChargedSplit.{last_alone}
+use Rattle.demand.specs.Ways.Ranges.{Ranged}
 use Rattle.demand.specs.Sizes.{Each}
 use Rattle.demand.proofs.ChargedSplitLaws.{last-countable, alone-ranged}
 use Rattle.splits.proofs.SplitSearchLaws.{laid-alone}
@@ -34,7 +34,7 @@ put-charged-requires c κs = search rules
 returns : tie.Need-returns
 returns c =
     let s = c.before.before.before.before.args in
-    let row : chargedIn c.put-charged.new.0 1 ≡ lastAlone s.costs s.task s.x s.w =
+    let row : charged_in c.put-charged.new.0 1 ≡ last_alone s.costs s.task s.x s.w =
     laid-alone s.costs s.task s.x s.w s.alone.now c.put-charged.new.0
     c.before.charged-of.result c.put-charged.ensures.0
     (c.before.charged-of.ensures ∙ ap (λ (q : Piece). charged s.costs q) c.before.before.last-piece.ensures) in

@@ -2,9 +2,9 @@
 use borrow.Author.Rules.{rules}
 use Prim.Native.Nat.{◌+◌, ◌-◌, ◌≤◌, ◌<◌}
 use native.Mathlib.Omega.{arith}
-use Rattle.verdicts.specs.ChargedArray.{chargedIn}
-use Rattle.splits.specs.ways.MonotoneSearch.{ProbeRefuses, Lowered}
-use Rattle.demand.specs.Sizes.{timeMost}
+use Rattle.verdicts.specs.ChargedArray.{charged_in}
+use Rattle.splits.specs.Ways.MonotoneSearch.{ProbeRefuses, Lowered}
+use Rattle.demand.specs.Sizes.{time_most}
 use Rattle.splits.proofs.MonotoneSearchLaws.{lowered-start, lowered-next, low-next, nearer}
 use Rattle.splits.proofs.monotone_search.lowered.Statement.{statement}
 use Rattle.splits.proofs.monotone_search.lowered.Tie as tie
@@ -15,7 +15,7 @@ use Rattle.splits.proofs.monotone_search.pick.Reads as pick-reads
 use Rattle.splits.proofs.monotone_search.refused.Reads as refused-reads
 
 abbrev invariant-loop : tie.invariant-loop
-invariant-loop core n probe from top low₀ high₀ low high = (from ≤ low) × (low ≤ timeMost) × Lowered (ProbeRefuses (chargedIn core n) probe) top high
+invariant-loop core n probe from top low₀ high₀ low high = (from ≤ low) × (low ≤ time_most) × Lowered (ProbeRefuses (charged_in core n) probe) top high
 
 abbrev decreases-loop : tie.decreases-loop
 decreases-loop core n probe from top low₀ high₀ low high = high - low
@@ -23,7 +23,7 @@ decreases-loop core n probe from top low₀ high₀ low high = high - low
 loop-holds : tie.Need-loop-init invariant-loop decreases-loop
 loop-holds c =
     let s = c.args in
-    (omega arith, c.requires.1.1, lowered-start (ProbeRefuses (chargedIn s.core.now s.n) s.probe) s.top)
+    (omega arith, c.requires.1.1, lowered-start (ProbeRefuses (charged_in s.core.now s.n) s.probe) s.top)
 
 add-loop : tie.Need-overflow-add-loop invariant-loop decreases-loop
 add-loop c = search rules
@@ -75,7 +75,7 @@ loop-again c =
     let pre = c.before.before.before.before.before.before.requires in (
       omega (arith, next.0, loop.invariant.0),
       omega (arith, next.1, loop.invariant.2.most, pre.1.2),
-      lowered-next (ProbeRefuses (chargedIn s.core.now s.n) s.probe) refused.result s.top low m loop.high
+      lowered-next (ProbeRefuses (charged_in s.core.now s.n) s.probe) refused.result s.top low m loop.high
           c.pick2.result above below c.pick2.ensures refused.ensures loop.invariant.2,
     )
 

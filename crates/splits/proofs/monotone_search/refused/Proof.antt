@@ -3,8 +3,8 @@ use Prim.Native.Nat.{◌+◌}
 use mathlib.Core.Path.{sym, subst, ◌∙◌}
 use native.Mathlib.Omega.{arith}
 use Rattle.splits.specs.declared.monotone_search.Probe.{Probe}
-use Rattle.verdicts.specs.ChargedArray.{chargedIn}
-use Rattle.splits.specs.ways.MonotoneSearch.{ProbeRefuses, Askable}
+use Rattle.verdicts.specs.ChargedArray.{charged_in}
+use Rattle.splits.specs.Ways.MonotoneSearch.{ProbeRefuses, Askable}
 use Rattle.splits.proofs.MonotoneSearchLaws.{shows-le, shows-lt, climbed-none}
 use borrow.Author.Rules.{rules}
 use Rattle.splits.proofs.monotone_search.refused.Statement.{statement}
@@ -50,7 +50,7 @@ sum-at-requires-2 c κs = search rules
 returns : tie.Need-returns
 returns c =
     let s = c.before.before.before.before.before.before.args in
-    let qs = chargedIn s.core.now s.n in
+    let qs = charged_in s.core.now s.n in
     let probe = c.before.before.before.before.probe in
     subst (λ (k : Probe). ProbeRefuses qs k s.m) (sym probe.given.1)
     (climbed-none qs probe.given.0.0 probe.given.0.1.0 s.m
@@ -62,7 +62,7 @@ returns-2 c = search rules
 returns-3 : tie.Need-returns-3
 returns-3 c =
     let s = c.before.before.before.before.args in
-    let qs = chargedIn s.core.now s.n in
+    let qs = charged_in s.core.now s.n in
     let probe2 = c.before.before.probe2 in
     shows-le (ProbeRefuses qs s.probe s.m) probe2.given.0.0 c.sum-at.result
     (λ come. subst (λ (k : Probe). ProbeRefuses qs k s.m) (sym probe2.given.1) (omega (arith, come, c.sum-at.ensures.0)))
@@ -70,7 +70,7 @@ returns-3 c =
 returns-4 : tie.Need-returns-4
 returns-4 c =
     let s = c.before.before.before.before.args in
-    let qs = chargedIn s.core.now s.n in
+    let qs = charged_in s.core.now s.n in
     let probe3 = c.before.before.probe3 in
     shows-lt (ProbeRefuses qs s.probe s.m) probe3.given.0.0 c.sum-at2.result
     (λ more. subst (λ (k : Probe). ProbeRefuses qs k s.m) (sym probe3.given.1) (omega (arith, more, c.sum-at2.ensures.0)))

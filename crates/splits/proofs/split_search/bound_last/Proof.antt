@@ -5,9 +5,9 @@ use Prim.Native.Nat.{ℕ, ◌+◌, ◌-◌}
 use native.Mathlib.Omega.{arith}
 use Rattle.demand.specs.declared.Charged.{Charged}
 use Rattle.demand.specs.Charge.{stall}
-use Rattle.demand.specs.Demand.{largestWindow, leastLive, demand}
-use Rattle.verdicts.specs.ChargedArray.{chargedIn}
-use Rattle.demand.specs.ways.ChargedSplit.{lastAlone}
+use Rattle.demand.specs.Demand.{largest_window, least_live, demand}
+use Rattle.verdicts.specs.ChargedArray.{charged_in}
+use Rattle.demand.specs.Ways.ChargedSplit.{last_alone}
 use Rattle.demand.proofs.ChargedSplitLaws.{last-largest, last-undecided}
 use Rattle.splits.proofs.SplitSearchLaws.{judged-last}
 use Rattle.splits.proofs.SkipLaws.{over-within, last-falls}
@@ -48,7 +48,7 @@ excess-at-requires : tie.Need-excess-at-requires
 excess-at-requires c κs =
     let s = c.before.before.before.before.before.before.before.before.before.before.args in
     let lay-last = c.before.before.before.before.before.before.before.before.lay-last in
-    let rs = chargedIn lay-last.new.0 1 in
+    let rs = charged_in lay-last.new.0 1 in
     let judge-core = c.before.before.before.before.before.judge-core in
     let stall-of = c.before.before.before.before.before.before.before.stall-of in
     let judged =
@@ -59,7 +59,7 @@ excess-at-requires c κs =
       lay-last.ensures.1,
       (
         stall-of.ensures.1,
-        sym (ap (λ (qs : List Charged). largestWindow qs) lay-last.ensures.0 ∙ last-largest s.costs s.task s.x s.w),
+        sym (ap (λ (qs : List Charged). largest_window qs) lay-last.ensures.0 ∙ last-largest s.costs s.task s.x s.w),
         over-within s.costs s.task pre.1.0 s.x s.w t.given.0.0 (sym judged ∙ t.given.1),
       ),
     )
@@ -76,7 +76,7 @@ excess-at-requires-2 c κs =
       lay-last.ensures.1,
       (
         stall-of.ensures.1,
-        sym (ap (λ (qs : List Charged). largestWindow qs) lay-last.ensures.0 ∙ last-largest s.costs s.task s.x s.w),
+        sym (ap (λ (qs : List Charged). largest_window qs) lay-last.ensures.0 ∙ last-largest s.costs s.task s.x s.w),
         omega (arith, c.least-live.ensures.1),
       ),
     )
@@ -88,7 +88,7 @@ returns : tie.Need-returns
 returns c =
     let s = c.before.before.before.before.before.before.before.args in
     let lay-last = c.before.before.before.before.before.lay-last in
-    let rs = chargedIn lay-last.new.0 1 in
+    let rs = charged_in lay-last.new.0 1 in
     let judge-core = c.before.before.judge-core in
     let stall-of = c.before.before.before.before.stall-of in
     let judged =
@@ -100,7 +100,7 @@ returns-2 : tie.Need-returns-2
 returns-2 c =
     let s = c.before.before.before.before.before.before.before.args in
     let lay-last = c.before.before.before.before.before.lay-last in
-    let rs = chargedIn lay-last.new.0 1 in
+    let rs = charged_in lay-last.new.0 1 in
     let judge-core = c.before.before.judge-core in
     let stall-of = c.before.before.before.before.stall-of in
     let judged =
@@ -121,7 +121,7 @@ returns-3 c =
     let at-lay-last = late.before.before.before.before.before.before.before.before.before in
     let s = at-lay-last.before.before.args in
     let lay-last = at-lay-last.lay-last in
-    let rs = chargedIn lay-last.new.0 1 in
+    let rs = charged_in lay-last.new.0 1 in
     let judge-core = late.before.before.before.before.before.before.judge-core in
     let stall-of = late.before.before.before.before.before.before.before.before.stall-of in
     let judged =
@@ -131,12 +131,12 @@ returns-3 c =
     let t = the-t.given.0.0 in
     let live = c.before.before.least-live in
     let a = live.result in
-    let asked : (u : ℕ) → demand stall-of.result rs u ≡ demand (stall s.costs) (lastAlone s.costs s.task s.x s.w) u =
+    let asked : (u : ℕ) → demand stall-of.result rs u ≡ demand (stall s.costs) (last_alone s.costs s.task s.x s.w) u =
     λ u. rw (stall-of.ensures.0, lay-last.ensures.0) refl in
     let pre = at-lay-last.before.before.requires in (
       last-falls s.costs s.task pre.1.0 s.x s.w t (sym judged ∙ the-t.given.1) pre.1.1.1.1 pre.1.1.1.2
           a late.excess-at.result c.before.excess-at2.result c.greater.result
-          (live.ensures.0 ∙ ap (λ (qs : List Charged). leastLive qs) lay-last.ensures.0)
+          (live.ensures.0 ∙ ap (λ (qs : List Charged). least_live qs) lay-last.ensures.0)
           (late.excess-at.ensures ∙ ap (λ (g : ℕ). g - (t + 1)) (asked t))
           (c.before.excess-at2.ensures ∙ ap (λ (g : ℕ). g - (a + 1)) (asked a)) c.greater.ensures,
       lay-last.ensures.2,

@@ -1,8 +1,8 @@
 -- `split_search::due_by` meets its contract.
 use Prim.Native.Nat.{◌≤◌, ◌<◌, max}
 use native.Mathlib.Omega.{arith}
-use Rattle.demand.specs.Demand.{largestWindow, leastLive}
-use Rattle.verdicts.specs.ChargedArray.{chargedIn}
+use Rattle.demand.specs.Demand.{largest_window, least_live}
+use Rattle.verdicts.specs.ChargedArray.{charged_in}
 use Rattle.splits.proofs.MonotoneSearchLaws.{shows-lt}
 use borrow.Author.Rules.{rules}
 use Rattle.splits.proofs.split_search.due_by.Statement.{statement}
@@ -31,9 +31,9 @@ greater-requires c κs = search rules
 returns-3 : tie.Need-returns-3
 returns-3 c =
     let s = c.before.before.before.before.before.args in
-    let qs = chargedIn s.core.now s.n in
+    let qs = charged_in s.core.now s.n in
     let if1 = c.before.before.before.before.if1 in
-    shows-lt ((1 ≤ s.n) × (leastLive qs ≤ s.t) × (s.t < max (largestWindow qs) s.w)) s.t c.greater.result
+    shows-lt ((1 ≤ s.n) × (least_live qs ≤ s.t) × (s.t < max (largest_window qs) s.w)) s.t c.greater.result
     (λ early. (
       omega (arith, if1.false),
       omega (arith, c.before.before.if2.false, c.before.before.before.least-live.ensures.0),

@@ -1,6 +1,6 @@
 -- `split_search::excess_at` meets its contract: w is the largest window, so the test decides the blocking.
 use native.Mathlib.Omega.{arith}
-use Rattle.verdicts.specs.ChargedArray.{chargedIn}
+use Rattle.verdicts.specs.ChargedArray.{charged_in}
 use Rattle.demand.proofs.DemandLaws.{demand-below, demand-above}
 use borrow.Author.Rules.{rules}
 use Rattle.splits.proofs.split_search.excess_at.Statement.{statement}
@@ -28,7 +28,7 @@ returns c =
     omega (
       arith,
       c.less.ensures,
-      demand-below start.b (chargedIn start.alone.now 1) start.t
+      demand-below start.b (charged_in start.alone.now 1) start.t
           (omega (arith, c.before.before.before.requires.1)),
       c.before.before.sum-at.ensures.0,
     )
@@ -45,7 +45,7 @@ returns-2 c =
     omega (
       arith,
       c.less2.ensures,
-      demand-above start.b (chargedIn start.alone.now 1) start.t
+      demand-above start.b (charged_in start.alone.now 1) start.t
           (omega (arith, c.before.before.before.requires.1)),
       c.before.before.sum-at.ensures.0,
     )

@@ -7,10 +7,10 @@ use native.Mathlib.Omega.{arith}
 use lib.ListN.{take, length, length-replicate}
 use Rattle.demand.specs.declared.Charged.{Charged}
 use Rattle.demand.specs.Charge.{core_of}
-use Rattle.verdicts.specs.ChargedArray.{chargedIn}
-use Rattle.demand.specs.Records.{recordsOf}
-use Rattle.splits.specs.ways.SplitSearch.{Ready, SameCore, Starts}
-use Rattle.demand.specs.ways.ChargedSplit.{Chosen, tightBeside}
+use Rattle.verdicts.specs.ChargedArray.{charged_in}
+use Rattle.demand.specs.Records.{records_of}
+use Rattle.splits.specs.Ways.SplitSearch.{Ready, SameCore, Starts}
+use Rattle.demand.specs.Ways.ChargedSplit.{Chosen, tight_beside}
 use Rattle.demand.proofs.ChargeLaws.{all-countable}
 use Rattle.splits.proofs.SplitSearchLaws.{ready-laid, ready-kept, kept_again}
 use Rattle.demand.proofs.ChargedSplitLaws.{splits_of}
@@ -27,18 +27,18 @@ use Rattle.splits.proofs.starts.start_of.Reads as start-of-reads
 returns : tie.Need-returns
 returns c =
     let s = c.before.args in
-    rw c.if1.true (sym (split-none s.costs (take s.n (recordsOf s.records.now)) s.task))
+    rw c.if1.true (sym (split-none s.costs (take s.n (records_of s.records.now)) s.task))
 
 lay-out-requires : tie.Need-lay-out-requires
 lay-out-requires c κs =
     let s = c.before.before.args in
     let pre = c.before.before.requires in
-    (pre.0, (omega arith, all-countable (take s.n (recordsOf s.records.now)) pre.1.0.1, length-replicate {A = ℕ} 553 0))
+    (pre.0, (omega arith, all-countable (take s.n (records_of s.records.now)) pre.1.0.1, length-replicate {A = ℕ} 553 0))
 
 least-sum-requires : tie.Need-least-sum-requires
 least-sum-requires c κs =
     let s = c.before.before.before.before.args in
-    let ps = take s.n (recordsOf s.records.now) in
+    let ps = take s.n (records_of s.records.now) in
     let pre = c.before.before.before.before.requires in (
       pre.0,
       (
@@ -51,7 +51,7 @@ least-sum-requires c κs =
 start-of-requires : tie.Need-start-of-requires
 start-of-requires c κs =
     let s = c.before.before.before.before.before.before.args in
-    let ps = take s.n (recordsOf s.records.now) in
+    let ps = take s.n (records_of s.records.now) in
     let lay-out = c.before.before.before.lay-out in
     let pre = c.before.before.before.before.before.before.requires in
     let ready : Ready lay-out.new.0 s.n =
@@ -64,7 +64,7 @@ start-of-requires c κs =
           ready-kept lay-out.new.0 least-sum.new.0 s.n ready least-sum.ensures.2,
           (
             least-sum.ensures.0
-                ∙ ap (λ (qs : List Charged). tightBeside s.costs qs s.task 0 1) (sym least-sum.ensures.2.same),
+                ∙ ap (λ (qs : List Charged). tight_beside s.costs qs s.task 0 1) (sym least-sum.ensures.2.same),
             least-sum.ensures.1,
           ),
         ),
@@ -75,7 +75,7 @@ search-requires : tie.Need-search-requires
 search-requires c κs =
     let s = c.before.before.before.before.before.before.before.before.before.args in
     let n = s.n in
-    let ps = take n (recordsOf s.records.now) in
+    let ps = take n (records_of s.records.now) in
     let lay-out = c.before.before.before.before.before.before.lay-out in
     let pre = c.before.before.before.before.before.before.before.before.before.requires in
     let ready : Ready lay-out.new.0 n =
@@ -101,11 +101,11 @@ returns-2 : tie.Need-returns-2
 returns-2 c =
     let s = c.before.before.before.before.before.before.before.before.before.before.args in
     let n = s.n in
-    let ps = take n (recordsOf s.records.now) in
+    let ps = take n (records_of s.records.now) in
     let start_of_lem = c.before.before.before.start_of_lem in
     let least-sum = c.before.before.before.before.before.least-sum in
     let lay-out = c.before.before.before.before.before.before.before.lay-out in
-    let row : chargedIn start_of_lem.new.0 n ≡ core_of s.costs ps = start_of_lem.ensures.1.same ∙ (least-sum.ensures.2.same ∙ lay-out.ensures.0) in
+    let row : charged_in start_of_lem.new.0 n ≡ core_of s.costs ps = start_of_lem.ensures.1.same ∙ (least-sum.ensures.2.same ∙ lay-out.ensures.0) in
     let chosen = subst (λ (qs : List Charged). Chosen s.costs s.grain qs s.task c.search.result) row c.search.ensures in
     sym ((split-exact s.costs s.grain ps s.task c.search.result).1
     (splits_of s.costs ps s.task s.grain c.search.result chosen))

@@ -4,9 +4,9 @@ use mathlib.Core.List.{List}
 use Prim.Native.Nat.{ℕ, ◌+◌, ◌-◌}
 use native.Mathlib.Omega.{arith}
 use Rattle.demand.specs.declared.Charged.{Charged}
-use Rattle.verdicts.specs.ChargedArray.{chargedIn}
-use Rattle.demand.specs.ways.ChargedSplit.{Tight}
-use Rattle.splits.specs.ways.SplitSearch.{Misses}
+use Rattle.verdicts.specs.ChargedArray.{charged_in}
+use Rattle.demand.specs.Ways.ChargedSplit.{Tight}
+use Rattle.splits.specs.Ways.SplitSearch.{Misses}
 use Rattle.splits.proofs.SplitSearchLaws.{ready-kept, kept_again}
 use Rattle.splits.proofs.SkipLaws.{skips-last}
 use borrow.Author.Rules.{rules}
@@ -69,7 +69,7 @@ window-below-requires c κs =
 returns : tie.Need-returns
 returns c =
     let s = c.before.before.before.before.before.before.before.before.before.before.args in
-    let qs = chargedIn s.core.now s.n in
+    let qs = charged_in s.core.now s.n in
     let lay-first = c.before.before.before.before.before.before.before.before.lay-first in
     let new = lay-first.new.0 in
     let pre = c.before.before.before.before.before.before.before.before.before.before.requires in
@@ -84,7 +84,7 @@ returns c =
     let less = c.before.before.before.less in
     let sum-at = c.before.before.before.before.before.sum-at in (
       skips-last s.costs qs s.task s.x t s.w s.s tight
-          (omega (arith, found.3)) pre.1.1.1.1 (chargedIn new (s.n + 1)) lay-first.ensures.0 sum-at.result less.result
+          (omega (arith, found.3)) pre.1.1.1.1 (charged_in new (s.n + 1)) lay-first.ensures.0 sum-at.result less.result
           lowered.result c.window-below.result sum-at.ensures.0 less.ensures lowered.ensures misses,
       kept_again s.core.now new c.window-below.new.0 s.n lay-first.ensures.1 c.window-below.ensures.1,
     )

@@ -5,12 +5,12 @@ use Prim.Native.Nat.{ℕ}
 use native.Mathlib.Omega.{arith}
 use Rattle.demand.specs.declared.Charged.{Charged}
 use Rattle.demand.specs.declared.Piece.{Piece}
-use Rattle.splits.specs.ways.ChargeBounds.{Stalled}
+use Rattle.splits.specs.Ways.ChargeBounds.{Stalled}
 use Rattle.demand.specs.Charge.{charged}
-use Rattle.verdicts.specs.ChargedArray.{chargedIn}
-use Rattle.splits.specs.ways.SplitSearch.{Misses}
-use Rattle.demand.specs.ways.Ranges.{Ranged}
-use Rattle.demand.specs.Split.{firstPiece}
+use Rattle.verdicts.specs.ChargedArray.{charged_in}
+use Rattle.splits.specs.Ways.SplitSearch.{Misses}
+use Rattle.demand.specs.Ways.Ranges.{Ranged}
+use Rattle.demand.specs.Split.{first_piece}
 use Rattle.demand.proofs.ChargeLaws.{all-recurs, charged-ranged}
 use Rattle.demand.proofs.ChargedSplitLaws.{first-charge, first-countable}
 use Rattle.splits.proofs.SkipLaws.{skips-own}
@@ -49,7 +49,7 @@ fit-stalled-requires c κs =
     let pre = c.before.before.before.before.requires in
     let ready = pre.1.1.0 in
     let found = pre.1.1.1.0.2 in
-    let q = firstPiece s.task s.x s.w in
+    let q = first_piece s.task s.x s.w in
     let charged-of = c.before.before.charged-of in
     let e : charged-of.result ≡ charged s.costs q =
     (charged-of.ensures ∙ ap (λ (r : Piece). charged s.costs r) c.before.before.before.first_piece.ensures) in
@@ -95,7 +95,7 @@ sub-less c =
     let s = c.before.before.before.before.before.before.before.before.before.args in
     let charged-of = c.before.before.before.before.before.before.before.charged-of in
     let first_piece = c.before.before.before.before.before.before.before.before.first_piece in
-    let e : charged-of.result ≡ charged s.costs (firstPiece s.task s.x s.w) =
+    let e : charged-of.result ≡ charged s.costs (first_piece s.task s.x s.w) =
     (charged-of.ensures ∙ ap (λ (r : Piece). charged s.costs r) first_piece.ensures) in
     omega (arith, ap (λ (r : Charged). r.charge) e, first-charge s.costs s.task s.x s.w)
 
@@ -109,10 +109,10 @@ returns : tie.Need-returns
 returns c =
     let at-first-piece = c.before.before.before.before.before.before.before.before.before.before in
     let s = at-first-piece.before.args in
-    let qs = chargedIn s.core.now s.n in
+    let qs = charged_in s.core.now s.n in
     let pre = at-first-piece.before.requires in
     let found = pre.1.1.1.0.2 in
-    let q = charged s.costs (firstPiece s.task s.x s.w) in
+    let q = charged s.costs (first_piece s.task s.x s.w) in
     let fit-stalled = c.before.before.before.before.before.before.fit-stalled in
     let most = fit-stalled.result in
     let kept = fit-stalled.ensures.1 in

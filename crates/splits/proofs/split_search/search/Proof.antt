@@ -5,12 +5,12 @@ use mathlib.Core.List.{List}
 use Prim.Native.Nat.{◌*◌, ◌-◌, ◌<◌}
 use native.Mathlib.Omega.{arith}
 use lib.ListN.{length}
-use Rattle.demand.specs.Sizes.{runMost}
+use Rattle.demand.specs.Sizes.{run_most}
 use Rattle.demand.specs.declared.Charged.{Charged}
 use Rattle.splits.specs.declared.split_search.Step.{Step}
-use Rattle.verdicts.specs.ChargedArray.{chargedIn}
-use Rattle.splits.specs.ways.SplitSearch.{SameCore, Steps}
-use Rattle.demand.specs.ways.ChargedSplit.{NoneAbove}
+use Rattle.verdicts.specs.ChargedArray.{charged_in}
+use Rattle.splits.specs.Ways.SplitSearch.{SameCore, Steps}
+use Rattle.demand.specs.Ways.ChargedSplit.{NoneAbove}
 use Rattle.splits.proofs.SplitSearchLaws.{ready-kept, kept_same, kept_again, none-start}
 use Rattle.demand.proofs.ChargedSplitLaws.{none-next, none_end, next-less, next-below, start-below, multiple-some}
 use Rattle.splits.proofs.split_search.search.Statement.{statement}
@@ -20,8 +20,8 @@ use Rattle.splits.proofs.split_search.search.Lts as lts
 use Rattle.splits.proofs.split_search.try_split.Reads as try-split-reads
 
 abbrev invariant-loop : tie.invariant-loop
-invariant-loop core₀ alone₀ n costs task top grain k₀ core alone k = SameCore core₀ core n × (length alone ≡ 7 * runMost)
-    × (k * grain < task.budget) × NoneAbove costs grain (chargedIn core₀ n) task (k * grain)
+invariant-loop core₀ alone₀ n costs task top grain k₀ core alone k = SameCore core₀ core n × (length alone ≡ 7 * run_most)
+    × (k * grain < task.budget) × NoneAbove costs grain (charged_in core₀ n) task (k * grain)
 
 abbrev decreases-loop : tie.decreases-loop
 decreases-loop core₀ alone₀ n costs task top grain k₀ core alone k = k
@@ -35,7 +35,7 @@ loop-holds c =
       kept_same s.core.now s.n c.requires.1.1.0.0,
       c.requires.1.1.0.1,
       start-below s.grain s.task c.requires.1.1.1.1 s.top c.requires.1.1.1.0.0,
-      none-start s.grain s.task c.requires.1.1.1.1 s.costs (chargedIn s.core.now s.n) s.top c.requires.1.1.1.0,
+      none-start s.grain s.task c.requires.1.1.1.1 s.costs (charged_in s.core.now s.n) s.top c.requires.1.1.1.0,
     )
 
 mul-x : tie.Need-overflow-mul-x invariant-loop decreases-loop
@@ -64,7 +64,7 @@ enum-known-w c = search rules
 returns : tie.Need-returns invariant-loop decreases-loop
 returns c =
     let s = c.before.before.before.before.before.before.before.before.args in
-    let qs = chargedIn s.core.now s.n in
+    let qs = charged_in s.core.now s.n in
     let loop = c.before.before.before.before.before.before.before.loop in
     let x = loop.k * s.grain in
     let try-split = c.before.before.before.try-split in
@@ -95,7 +95,7 @@ loop-less c =
     let loop = c.before.before.before.before.before.before.before.loop in
     let x = loop.k * s.grain in
     let step =
-    subst (λ (r : Step). Steps s.costs (chargedIn loop.core s.n) s.task x r) c.before.y.given.1
+    subst (λ (r : Step). Steps s.costs (charged_in loop.core s.n) s.task x r) c.before.y.given.1
     c.before.before.before.try-split.ensures.0 in
     let pre = c.before.before.before.before.before.before.before.before.requires in
     next-less s.grain s.task pre.1.1.1.1 loop.k c.before.y.given.0.0 step.0
@@ -103,7 +103,7 @@ loop-less c =
 loop-again : tie.Need-loop-preserved invariant-loop decreases-loop
 loop-again c =
     let s = c.before.before.before.before.before.before.before.before.args in
-    let qs = chargedIn s.core.now s.n in
+    let qs = charged_in s.core.now s.n in
     let loop = c.before.before.before.before.before.before.before.loop in
     let x = loop.k * s.grain in
     let try-split = c.before.before.before.try-split in
@@ -119,7 +119,7 @@ loop-again c =
 returns-2 : tie.Need-returns-2 invariant-loop decreases-loop
 returns-2 c =
     let s = c.before.before.args in
-    none_end s.grain s.task c.before.before.requires.1.1.1.1 s.costs (chargedIn s.core.now s.n) c.before.loop.k
+    none_end s.grain s.task c.before.before.requires.1.1.1.1 s.costs (charged_in s.core.now s.n) c.before.loop.k
     (omega arith) c.before.loop.invariant.3
 
 pub search-spec : {M : Type 1} → statement M

@@ -4,19 +4,19 @@ use mathlib.Core.List.{List}
 use Prim.Native.Nat.{◌≤◌, ℕ, ◌-◌, ◌<◌, max}
 use native.Mathlib.Omega.{arith}
 use mathlib.Core.Bool.{Bool}
-use Rattle.splits.specs.ways.MonotoneSearch.{ShowsIf}
-use Rattle.demand.specs.ways.ChargedSplit.{Tight, withFirst, TightIn}
+use Rattle.splits.specs.Ways.MonotoneSearch.{ShowsIf}
+use Rattle.demand.specs.Ways.ChargedSplit.{Tight, with_first, TightIn}
 use Rattle.verdicts.proofs.ChargedArrayLaws.{charged-in-length}
 use Rattle.splits.proofs.SkipLaws.{step-due, with-least, step-stands, falls-here, step-capped}
 use Rattle.demand.specs.declared.Charged.{Charged}
 use Rattle.demand.specs.declared.Found.TheVariants.{At}
 use Rattle.splits.specs.declared.charge_bounds.Bound.{Bound}
-use Rattle.splits.specs.ways.ChargeBounds.{Bounds}
+use Rattle.splits.specs.Ways.ChargeBounds.{Bounds}
 use Rattle.demand.specs.Charge.{charged, stall}
-use Rattle.demand.specs.Demand.{largestWindow, leastLive}
-use Rattle.verdicts.specs.ChargedArray.{chargedIn, chargedAt}
-use Rattle.splits.specs.ways.SplitSearch.{Skips}
-use Rattle.demand.specs.Split.{firstPiece}
+use Rattle.demand.specs.Demand.{largest_window, least_live}
+use Rattle.verdicts.specs.ChargedArray.{charged_in, charged_at}
+use Rattle.splits.specs.Ways.SplitSearch.{Skips}
+use Rattle.demand.specs.Split.{first_piece}
 use Rattle.splits.proofs.ChargeBoundLaws.{bounds-as}
 use Rattle.demand.proofs.ChargeLaws.{all-recurs}
 use Rattle.demand.proofs.ChargedSplitLaws.{first-charge}
@@ -48,8 +48,8 @@ least-live-requires : tie.Need-least-live-requires
 least-live-requires c κs =
     let s = c.before.before.before.before.before.args in
     let told =
-    subst (λ (b : Bool). ShowsIf ((1 ≤ s.n) × (leastLive (chargedIn s.core.now s.n) ≤ s.w - s.task.jitter)
-    × (s.w - s.task.jitter < max (largestWindow (chargedIn s.core.now s.n)) s.w)) b) c.before.if1.true
+    subst (λ (b : Bool). ShowsIf ((1 ≤ s.n) × (least_live (charged_in s.core.now s.n) ≤ s.w - s.task.jitter)
+    × (s.w - s.task.jitter < max (largest_window (charged_in s.core.now s.n)) s.w)) b) c.before.if1.true
     c.before.before.due-by.ensures in
     let pre = c.before.before.before.before.before.requires in
     (told.0, omega (arith, pre.1.1.0.room), pre.1.1.0.ranged)
@@ -73,7 +73,7 @@ window-below-requires c κs =
 returns : tie.Need-returns
 returns c =
     let s = c.before.before.before.before.before.before.before.before.before.args in
-    let qs = chargedIn s.core.now s.n in
+    let qs = charged_in s.core.now s.n in
     let pre = c.before.before.before.before.before.before.before.before.before.requires in
     let found = pre.1.1.1.0.2 in
     let t = s.w - s.task.jitter in
@@ -82,8 +82,8 @@ returns c =
     let if1 = c.before.before.before.before.before.if1 in
     let due-by = c.before.before.before.before.before.before.due-by in
     let told =
-    subst (λ (b : Bool). ShowsIf ((1 ≤ s.n) × (leastLive (chargedIn s.core.now s.n) ≤ s.w - s.task.jitter)
-    × (s.w - s.task.jitter < max (largestWindow (chargedIn s.core.now s.n)) s.w)) b) if1.true due-by.ensures in
+    subst (λ (b : Bool). ShowsIf ((1 ≤ s.n) × (least_live (charged_in s.core.now s.n) ≤ s.w - s.task.jitter)
+    × (s.w - s.task.jitter < max (largest_window (charged_in s.core.now s.n)) s.w)) b) if1.true due-by.ensures in
     let less = c.before.before.less in (
       step-due s.costs qs s.task (all-recurs qs pre.1.1.0.ranged) pre.1.0 pre.1.1.0.weighs
           (omega (arith, told.0, charged-in-length s.core.now s.n)) s.x t s.w tight (omega (arith, found.3)) told.2
@@ -134,8 +134,8 @@ own-below-requires : tie.Need-own-below-requires
 own-below-requires c κs =
     let at-lay-first = c.before.before.before.before.before.before.before.before.before in
     let s = at-lay-first.before.before.before.before.before.before.args in
-    let qs = chargedIn s.core.now s.n in
-    let q = charged s.costs (firstPiece s.task s.x s.w) in
+    let qs = charged_in s.core.now s.n in
+    let q = charged s.costs (first_piece s.task s.x s.w) in
     let bound_of = c.before.before.before.before.bound_of in
     let lay-first = at-lay-first.lay-first in
     let kept = kept_again s.core.now lay-first.new.0 bound_of.new.0 s.n lay-first.ensures.1 bound_of.ensures.1 in
@@ -143,7 +143,7 @@ own-below-requires c κs =
     let stall-of = c.before.before.before.before.before.stall-of in
     let told =
     subst (λ (r : Bound). Bounds (stall s.costs) qs q r) t.given.1
-    (bounds-as stall-of.result (stall s.costs) (chargedIn lay-first.new.0 s.n) qs (chargedAt lay-first.new.0 s.n) q
+    (bounds-as stall-of.result (stall s.costs) (charged_in lay-first.new.0 s.n) qs (charged_at lay-first.new.0 s.n) q
     bound_of.result stall-of.ensures.0 lay-first.ensures.1.same (laid-charged s.costs s.task s.x s.w s.core.now
     lay-first.new.0 s.n lay-first.ensures.0) bound_of.ensures.0) in
     let pre = at-lay-first.before.before.before.before.before.before.requires in
@@ -159,7 +159,7 @@ own-below-requires c κs =
               pre.1.1.1.0.1,
               subst (λ (rs : List Charged). TightIn s.costs rs s.task s.x (At s.w)) (sym kept.same) pre.1.1.1.0.2,
             ),
-            (subst (λ (rs : List Charged). leastLive (withFirst s.costs rs s.task s.x s.w) ≤ t.given.0.0) (sym kept.same) live, told.2),
+            (subst (λ (rs : List Charged). least_live (with_first s.costs rs s.task s.x s.w) ≤ t.given.0.0) (sym kept.same) live, told.2),
           ),
         ),
       ),
@@ -188,15 +188,15 @@ returns-2 : tie.Need-returns-2
 returns-2 c =
     let at-lay-first = c.before.before.before.before.before.before.before in
     let s = at-lay-first.before.before.before.before.before.before.args in
-    let qs = chargedIn s.core.now s.n in
-    let q = charged s.costs (firstPiece s.task s.x s.w) in
+    let qs = charged_in s.core.now s.n in
+    let q = charged s.costs (first_piece s.task s.x s.w) in
     let bound_of = c.before.before.bound_of in
     let stall-of = c.before.before.before.stall-of in
     let lay-first = at-lay-first.lay-first in
     let pre = at-lay-first.before.before.before.before.before.before.requires in (
       step-stands s.costs qs s.task s.x s.w pre.1.1.1.0.2 pre.1.1.1.0.0 (subst (λ (r : Bound). Bounds (stall
-          s.costs) qs q r) c.enum_told.given.1 (bounds-as stall-of.result (stall s.costs) (chargedIn lay-first.new.0 s.n) qs
-          (chargedAt lay-first.new.0 s.n) q bound_of.result stall-of.ensures.0 lay-first.ensures.1.same (laid-charged s.costs
+          s.costs) qs q r) c.enum_told.given.1 (bounds-as stall-of.result (stall s.costs) (charged_in lay-first.new.0 s.n) qs
+          (charged_at lay-first.new.0 s.n) q bound_of.result stall-of.ensures.0 lay-first.ensures.1.same (laid-charged s.costs
           s.task s.x s.w s.core.now lay-first.new.0 s.n lay-first.ensures.0) bound_of.ensures.0)) pre.1.1.1.1,
       kept_again s.core.now lay-first.new.0 bound_of.new.0 s.n lay-first.ensures.1 bound_of.ensures.1,
     )
@@ -205,8 +205,8 @@ returns-3 : tie.Need-returns-3
 returns-3 c =
     let at-lay-first = c.before.before.before.before.before.before.before.before.before.before in
     let s = at-lay-first.before.before.before.before.before.before.args in
-    let qs = chargedIn s.core.now s.n in
-    let q = charged s.costs (firstPiece s.task s.x s.w) in
+    let qs = charged_in s.core.now s.n in
+    let q = charged s.costs (first_piece s.task s.x s.w) in
     let bound_of = c.before.before.before.before.before.bound_of in
     let lay-first = at-lay-first.lay-first in
     let kept = kept_again s.core.now lay-first.new.0 bound_of.new.0 s.n lay-first.ensures.1 bound_of.ensures.1 in
@@ -214,7 +214,7 @@ returns-3 c =
     let stall-of = c.before.before.before.before.before.before.stall-of in
     let told =
     subst (λ (r : Bound). Bounds (stall s.costs) qs q r) t.given.1
-    (bounds-as stall-of.result (stall s.costs) (chargedIn lay-first.new.0 s.n) qs (chargedAt lay-first.new.0 s.n) q
+    (bounds-as stall-of.result (stall s.costs) (charged_in lay-first.new.0 s.n) qs (charged_at lay-first.new.0 s.n) q
     bound_of.result stall-of.ensures.0 lay-first.ensures.1.same (laid-charged s.costs s.task s.x s.w s.core.now
     lay-first.new.0 s.n lay-first.ensures.0) bound_of.ensures.0) in
     let skips = subst (λ (rs : List Charged). Skips s.costs rs s.task c.own_below.result s.x) kept.same c.own_below.ensures.0 in
@@ -228,8 +228,8 @@ returns-4 : tie.Need-returns-4
 returns-4 c =
     let at-lay-first = c.before.before.before.before.before.before.before.before.before.before in
     let s = at-lay-first.before.before.before.before.before.before.args in
-    let qs = chargedIn s.core.now s.n in
-    let q = charged s.costs (firstPiece s.task s.x s.w) in
+    let qs = charged_in s.core.now s.n in
+    let q = charged s.costs (first_piece s.task s.x s.w) in
     let pre = at-lay-first.before.before.before.before.before.before.requires in
     let found = pre.1.1.1.0.2 in
     let f = c.before.before.before.f in
@@ -242,7 +242,7 @@ returns-4 c =
     charged-at.result.charge pre.1.1.1.0.0 found.1 found.3 (ap (λ (r : Charged). r.charge) (charged-at.ensures
     ∙ laid-charged s.costs s.task s.x s.w s.core.now lay-first.new.0 s.n lay-first.ensures.0))
     (subst (λ (r : Bound). Bounds (stall s.costs) qs q r) f.given.1
-    (bounds-as stall-of.result (stall s.costs) (chargedIn lay-first.new.0 s.n) qs (chargedAt lay-first.new.0 s.n) q
+    (bounds-as stall-of.result (stall s.costs) (charged_in lay-first.new.0 s.n) qs (charged_at lay-first.new.0 s.n) q
     bound_of.result stall-of.ensures.0 lay-first.ensures.1.same (laid-charged s.costs s.task s.x s.w s.core.now
     lay-first.new.0 s.n lay-first.ensures.0) bound_of.ensures.0)) in
     (rw c.less2.ensures step, kept_again s.core.now lay-first.new.0 bound_of.new.0 s.n lay-first.ensures.1 bound_of.ensures.1)

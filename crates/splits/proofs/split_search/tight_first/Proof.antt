@@ -2,8 +2,8 @@
 use mathlib.Core.Path.{◌≡◌, ap, ◌∙◌}
 use Prim.Native.Nat.{ℕ, ◌+◌, ◌-◌}
 use native.Mathlib.Omega.{arith}
-use Rattle.demand.specs.Answer.{tightOfLast}
-use Rattle.verdicts.specs.ChargedArray.{chargedIn}
+use Rattle.demand.specs.Answer.{tight_of_last}
+use Rattle.verdicts.specs.ChargedArray.{charged_in}
 use Rattle.demand.proofs.ChargedSplitLaws.{tight-in}
 use borrow.Author.Rules.{rules}
 use Rattle.splits.proofs.split_search.tight_first.Statement.{statement}
@@ -34,11 +34,11 @@ tight-of-requires c κs = search rules
 returns : tie.Need-returns
 returns c =
     let s = c.before.before.before.before.before.before.args in
-    let qs = chargedIn s.core.now s.n in
+    let qs = charged_in s.core.now s.n in
     let lay-first = c.before.before.before.lay-first in
-    let rs = chargedIn lay-first.new.0 (s.n + 1) in (
+    let rs = charged_in lay-first.new.0 (s.n + 1) in (
       tight-in s.costs qs s.task s.x rs lay-first.ensures.0 c.tight-of.result
-          (c.tight-of.ensures ∙ ap (λ (b : ℕ). tightOfLast b rs rs) c.before.stall-of.ensures.0),
+          (c.tight-of.ensures ∙ ap (λ (b : ℕ). tight_of_last b rs rs) c.before.stall-of.ensures.0),
       lay-first.ensures.1,
     )
 

@@ -6,9 +6,9 @@ use Rattle.demand.specs.declared.Charged.{Charged}
 use Rattle.demand.specs.declared.Found.{Found}
 use Rattle.demand.specs.declared.Found.TheVariants.{At}
 use Rattle.splits.specs.declared.charge_bounds.Bound.{Bound}
-use Rattle.verdicts.specs.ChargedArray.{chargedIn}
-use Rattle.demand.specs.ways.ChargedSplit.{TightIn}
-use Rattle.splits.specs.ways.SplitSearch.{Steps, Misses, Skips, LastBounds}
+use Rattle.verdicts.specs.ChargedArray.{charged_in}
+use Rattle.demand.specs.Ways.ChargedSplit.{TightIn}
+use Rattle.splits.specs.Ways.SplitSearch.{Steps, Misses, Skips, LastBounds}
 use Rattle.splits.proofs.SplitSearchLaws.{ready-kept, kept_again, step-skips}
 use Rattle.demand.proofs.ChargedSplitLaws.{untight}
 use Rattle.splits.proofs.SkipLaws.{falls-there, step-last, skips-late}
@@ -39,7 +39,7 @@ less-requires c κs = search rules
 window-below-requires : tie.Need-window-below-requires
 window-below-requires c κs =
     let s = c.before.before.before.before.before.before.before.args in
-    let qs = chargedIn s.core.now s.n in
+    let qs = charged_in s.core.now s.n in
     let tight-first = c.before.before.before.before.before.tight-first in
     let pre = c.before.before.before.before.before.before.before.requires in (
       pre.0,
@@ -58,7 +58,7 @@ enum-known-w c = search rules
 bound-last-requires : tie.Need-bound-last-requires
 bound-last-requires c κs =
     let s = c.before.before.before.before.before.before.args in
-    let qs = chargedIn s.core.now s.n in
+    let qs = charged_in s.core.now s.n in
     let tight-first = c.before.before.before.before.tight-first in
     let found = subst (λ (f : Found). TightIn s.costs qs s.task s.x f) c.before.before.w.given.1 tight-first.ensures.0 in
     let pre = c.before.before.before.before.before.before.requires in
@@ -74,7 +74,7 @@ last-below-requires : tie.Need-last-below-requires
 last-below-requires c κs =
     let at-tight-first = c.before.before.before.before.before.before.before.before.before in
     let s = at-tight-first.before.before.args in
-    let qs = chargedIn s.core.now s.n in
+    let qs = charged_in s.core.now s.n in
     let w = c.before.before.before.before.before.before.before.w in
     let tight-first = at-tight-first.tight-first in
     let found = subst (λ (f : Found). TightIn s.costs qs s.task s.x f) w.given.1 tight-first.ensures.0 in
@@ -103,7 +103,7 @@ enum-told-2 c = search rules
 step-first-requires : tie.Need-step-first-requires
 step-first-requires c κs =
     let s = c.before.before.before.before.before.before.before.before.before.before.args in
-    let qs = chargedIn s.core.now s.n in
+    let qs = charged_in s.core.now s.n in
     let w = c.before.before.before.before.before.before.w in
     let tight-first = c.before.before.before.before.before.before.before.before.tight-first in
     let found = subst (λ (f : Found). TightIn s.costs qs s.task s.x f) w.given.1 tight-first.ensures.0 in
@@ -130,7 +130,7 @@ step-first-requires c κs =
 returns : tie.Need-returns
 returns c =
     let s = c.before.before.before.before.before.before.before.before.args in
-    let qs = chargedIn s.core.now s.n in
+    let qs = charged_in s.core.now s.n in
     let the-enum-told = c.before.before.before.before.enum_told in
     let tight-first = c.before.before.before.before.before.before.tight-first in
     let none = subst (λ (f : Found). TightIn s.costs qs s.task s.x f) the-enum-told.given.1 tight-first.ensures.0 in
@@ -149,7 +149,7 @@ returns c =
 returns-2 : tie.Need-returns-2
 returns-2 c =
     let s = c.before.before.before.before.before.before.before.before.before.before.args in
-    let qs = chargedIn s.core.now s.n in
+    let qs = charged_in s.core.now s.n in
     let bound-last = c.before.before.before.bound-last in
     let w = c.before.before.before.before.before.before.w in
     let tight-first = c.before.before.before.before.before.before.before.before.tight-first in (
@@ -163,7 +163,7 @@ returns-3 : tie.Need-returns-3
 returns-3 c =
     let at-tight-first = c.before.before.before.before.before.before.before.before.before.before in
     let s = at-tight-first.before.before.args in
-    let qs = chargedIn s.core.now s.n in
+    let qs = charged_in s.core.now s.n in
     let w = c.before.before.before.before.before.before.before.before.w in
     let tight-first = at-tight-first.tight-first in
     let found = subst (λ (f : Found). TightIn s.costs qs s.task s.x f) w.given.1 tight-first.ensures.0 in
@@ -184,7 +184,7 @@ returns-4 : tie.Need-returns-4
 returns-4 c =
     let at-tight-first = c.before.before.before.before.before.before.before.before.before in
     let s = at-tight-first.before.before.args in
-    let qs = chargedIn s.core.now s.n in
+    let qs = charged_in s.core.now s.n in
     let bound-last = c.before.before.before.before.bound-last in
     let tight-first = at-tight-first.tight-first in (
       subst (λ (rs : List Charged). Steps s.costs rs s.task s.x c.step-first.result) tight-first.ensures.1.same

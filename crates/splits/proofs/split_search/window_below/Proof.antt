@@ -3,8 +3,8 @@ use mathlib.Core.Path.{refl, ap, ◌∙◌}
 use Prim.Native.Nat.{◌+◌}
 use native.Mathlib.Omega.{arith}
 use Rattle.demand.specs.declared.Charged.{Charged}
-use Rattle.verdicts.specs.ChargedArray.{chargedIn}
-use Rattle.demand.specs.ways.Ranges.{Ranged}
+use Rattle.verdicts.specs.ChargedArray.{charged_in}
+use Rattle.demand.specs.Ways.Ranges.{Ranged}
 use Rattle.verdicts.proofs.ChargedArrayLaws.{charged-at-each}
 use Rattle.splits.proofs.SplitSearchLaws.{laid-charged}
 use Rattle.splits.proofs.SkipLaws.{misses-lowered}
@@ -63,7 +63,7 @@ sub-result c =
 returns : tie.Need-returns
 returns c =
     let s = c.before.before.before.before.before.before.before.before.args in
-    let qs = chargedIn s.core.now s.n in
+    let qs = charged_in s.core.now s.n in
     let lay-first = c.before.before.before.before.before.before.lay-first in
     let new = lay-first.new.0 in
     let charged-at = c.before.before.before.before.charged-at in
@@ -73,7 +73,7 @@ returns c =
     let stall-of = c.before.before.before.stall-of in
     let pre = c.before.before.before.before.before.before.before.before.requires in (
       misses-lowered s.costs qs s.task (stall-of.result + charged-at.result.charge) stall-of.result
-          charged-at.result.charge refl stall-of.ensures.0 charge (chargedIn new (s.n + 1)) lay-first.ensures.0 s.top s.x
+          charged-at.result.charge refl stall-of.ensures.0 charge (charged_in new (s.n + 1)) lay-first.ensures.0 s.top s.x
           c.lowered.result pre.1.1.1.0 c.lowered.ensures,
       lay-first.ensures.1,
     )

@@ -7,11 +7,11 @@ use Rattle.demand.specs.declared.Charged.{Charged}
 use Rattle.verdicts.specs.declared.Sum.TheVariants.{Interrupts}
 use Rattle.demand.specs.Charge.{charged}
 use Rattle.demand.specs.Demand.{total}
-use Rattle.verdicts.specs.ChargedArray.{chargedIn, chargedAt}
+use Rattle.verdicts.specs.ChargedArray.{charged_in, charged_at}
 use Rattle.verdicts.specs.Laid.{term}
-use Rattle.demand.specs.ways.ChargedSplit.{withFirst}
-use Rattle.demand.specs.ways.Ranges.{Ranged}
-use Rattle.demand.specs.Split.{firstPiece}
+use Rattle.demand.specs.Ways.ChargedSplit.{with_first}
+use Rattle.demand.specs.Ways.Ranges.{Ranged}
+use Rattle.demand.specs.Split.{first_piece}
 use Rattle.verdicts.proofs.ChargedArrayLaws.{charged-at-each}
 use Rattle.splits.proofs.SplitSearchLaws.{laid-charged, least-is}
 use borrow.Author.Rules.{rules}
@@ -64,12 +64,12 @@ returns c =
     let lay-first = c.before.before.before.before.before.before.lay-first in
     let ranged : Ranged charged-at.result =
     rw charged-at.ensures (charged-at-each Ranged lay-first.new.0 (s.n + 1) lay-first.ensures.2 s.n (omega arith)) in
-    let at : chargedAt lay-first.new.0 s.n ≡ charged s.costs (firstPiece s.task 0 0) =
+    let at : charged_at lay-first.new.0 s.n ≡ charged s.costs (first_piece s.task 0 0) =
     laid-charged s.costs s.task 0 0 s.core.now lay-first.new.0 s.n lay-first.ensures.0 in
-    let calls : c.sum-at.result ≡ total (term Interrupts 1) (withFirst s.costs (chargedIn s.core.now s.n) s.task 0 0) =
+    let calls : c.sum-at.result ≡ total (term Interrupts 1) (with_first s.costs (charged_in s.core.now s.n) s.task 0 0) =
     c.sum-at.ensures.0 ∙ ap (λ (qs : List Charged). total (term Interrupts 1) qs) lay-first.ensures.0 in
     let stall-of = c.before.before.before.stall-of in (
-      least-is s.costs (chargedIn s.core.now s.n) s.task stall-of.result charged-at.result.charge c.sum-at.result
+      least-is s.costs (charged_in s.core.now s.n) s.task stall-of.result charged-at.result.charge c.sum-at.result
           stall-of.ensures.0 (ap (λ (q : Charged). q.charge) (charged-at.ensures ∙ at)) calls,
       omega (arith, ranged.charge-fits, stall-of.ensures.1, c.sum-at.ensures.1),
       lay-first.ensures.1,

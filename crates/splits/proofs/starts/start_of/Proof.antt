@@ -6,12 +6,12 @@ use Prim.Native.Nat.{ℕ, ◌+◌, ◌-◌, ◌≤◌, ◌<◌, min}
 use native.Mathlib.Omega.{arith}
 use Rattle.demand.specs.declared.Charged.{Charged}
 use Rattle.demand.specs.Charge.{charged, stall}
-use Rattle.demand.specs.Demand.{leastLive}
-use Rattle.verdicts.specs.ChargedArray.{chargedIn, chargedAt}
-use Rattle.splits.specs.ways.SplitSearch.{Starts}
-use Rattle.demand.specs.ways.ChargedSplit.{withFirst}
-use Rattle.demand.specs.ways.Ranges.{Ranged}
-use Rattle.demand.specs.Split.{firstPiece}
+use Rattle.demand.specs.Demand.{least_live}
+use Rattle.verdicts.specs.ChargedArray.{charged_in, charged_at}
+use Rattle.splits.specs.Ways.SplitSearch.{Starts}
+use Rattle.demand.specs.Ways.ChargedSplit.{with_first}
+use Rattle.demand.specs.Ways.Ranges.{Ranged}
+use Rattle.demand.specs.Split.{first_piece}
 use Rattle.splits.proofs.ChargeBoundLaws.{caps-as}
 use Rattle.demand.proofs.ChargeLaws.{all-recurs}
 use Rattle.verdicts.proofs.ChargedArrayLaws.{charged-at-each, charged-in-front}
@@ -50,7 +50,7 @@ lesser-requires c κs = search rules
 returns : tie.Need-returns
 returns c =
     let s = c.before.before.before.before.before.before.args in
-    let qs = chargedIn s.core.now s.n in
+    let qs = charged_in s.core.now s.n in
     let tight-end = c.before.before.before.before.tight-end in
     let pre = c.before.before.before.before.before.before.requires in
     let starts =
@@ -119,7 +119,7 @@ sub-less c =
     let tight-end = at-lay-first.before.before.before.before.before.before.before.tight-end in
     let w = s.task.jitter + (tight-end.result - 1) in
     let lay-first = at-lay-first.lay-first in
-    let at : chargedAt lay-first.new.0 s.n ≡ charged s.costs (firstPiece s.task x w) =
+    let at : charged_at lay-first.new.0 s.n ≡ charged s.costs (first_piece s.task x w) =
     laid-charged s.costs s.task x w s.core.now lay-first.new.0 s.n lay-first.ensures.0 in
     let charged-at = c.before.before.before.before.before.before.charged-at in
     omega (arith, ap (λ (q : Charged). q.charge) (charged-at.ensures ∙ at), first-charge s.costs s.task x w)
@@ -131,14 +131,14 @@ returns-2 : tie.Need-returns-2
 returns-2 c =
     let at-lay-first = c.before.before.before.before.before.before.before.before.before in
     let s = at-lay-first.before.before.before.before.before.before.before.before.before.args in
-    let qs = chargedIn s.core.now s.n in
+    let qs = charged_in s.core.now s.n in
     let pre = at-lay-first.before.before.before.before.before.before.before.before.before.requires in
     let recurs = all-recurs qs pre.1.1.0.ranged in
     let lesser = at-lay-first.before.before.before.before.lesser in
     let x = lesser.result in
     let tight-end = at-lay-first.before.before.before.before.before.before.before.tight-end in
     let w = s.task.jitter + (tight-end.result - 1) in
-    let q = charged s.costs (firstPiece s.task x w) in
+    let q = charged s.costs (first_piece s.task x w) in
     let lay-first = at-lay-first.lay-first in
     let new = lay-first.new.0 in
     let charged-at = c.before.before.before.before.before.before.before.charged-at in
@@ -148,13 +148,13 @@ returns-2 c =
     starts_none s.costs qs s.task recurs pre.1.0 tight-end.result x tight-end.ensures.0
     (omega (arith, lesser.ensures, less.ensures, pre.1.1.1.0)) in
     let least-live = c.before.before.before.before.before.least-live in
-    let start : least-live.result ≡ leastLive (withFirst s.costs qs s.task x w) = least-live.ensures.0
-    ∙ ap (λ (rs : List Charged). leastLive rs) lay-first.ensures.0 in
+    let start : least-live.result ≡ least_live (with_first s.costs qs s.task x w) = least-live.ensures.0
+    ∙ ap (λ (rs : List Charged). least_live rs) lay-first.ensures.0 in
     let cap-of = c.before.before.cap-of in
     let stall-of = c.before.before.before.stall-of in
     let caps =
-    caps-as stall-of.result (stall s.costs) (chargedIn new s.n) qs charged-at.result q charged-at.result.charge
-    least-live.result (leastLive (withFirst s.costs qs s.task x w)) cap-of.result stall-of.ensures.0
+    caps-as stall-of.result (stall s.costs) (charged_in new s.n) qs charged-at.result q charged-at.result.charge
+    least-live.result (least_live (with_first s.costs qs s.task x w)) cap-of.result stall-of.ensures.0
     lay-first.ensures.1.same at start cap-of.ensures in
     let capped =
     starts-capped s.costs qs s.task recurs pre.1.0 tight-end.result x w charged-at.result.charge cap-of.result

@@ -1,6 +1,6 @@
 -- `starts::tight_end` meets its contract: the last piece needs a window, and from the high end on more is due than the stall leaves room for.
 use native.Mathlib.Omega.{arith}
-use Rattle.verdicts.specs.ChargedArray.{chargedIn}
+use Rattle.verdicts.specs.ChargedArray.{charged_in}
 use Rattle.demand.proofs.ChargeLaws.{all-recurs}
 use Rattle.splits.proofs.SkipLaws.{ends-lowered}
 use borrow.Author.Rules.{rules}
@@ -34,7 +34,7 @@ lowered-requires c κs = search rules
 returns-2 : tie.Need-returns-2
 returns-2 c =
     let s = c.before.before.before.before.before.before.args in
-    let qs = chargedIn s.core.now s.n in
+    let qs = charged_in s.core.now s.n in
     let less = c.before.before.before.before.before.less in
     let pre = c.before.before.before.before.before.before.requires in (
       ends-lowered s.costs qs s.task (all-recurs qs pre.1.1.ranged) pre.1.0 c.before.due-most.result less.result

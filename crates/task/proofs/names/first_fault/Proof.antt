@@ -6,7 +6,7 @@ use mathlib.Core.List.{[]}
 use Prim.Native.Nat.{ℕ, ◌≤◌, ◌<◌, ◌-◌, ◌+◌, ◌*◌}
 use native.Mathlib.Omega.{arith}
 use lib.ListN.{length, take, drop, length-take}
-use Rattle.task.specs.Tasks.{firstFault, place_of, past, taskAt}
+use Rattle.task.specs.Tasks.{first_fault, place_of, past, task_at}
 use Rattle.task.proofs.TaskLaws.{run-other, run-here, run_end, run-twin, run-fault, run-good, run-fault-end}
 use Rattle.task.proofs.names.first_fault.Statement.{statement}
 use Rattle.task.proofs.names.first_fault.Tie as tie
@@ -18,8 +18,8 @@ use Rattle.task.proofs.same_name.Reads as same-name-reads
 abbrev invariant-loop : tie.invariant-loop
 invariant-loop tasks i₀ j₀ i j =
     (i ≤ tasks.count) × (j ≤ i)
-    × (firstFault [] (take tasks.count tasks.list) ≡ firstFault (take i (take tasks.count tasks.list)) (drop i (take tasks.count tasks.list)))
-    × (place_of 1 (taskAt tasks.list i).name (take i tasks.list) ≡ place_of (j + 1) (taskAt tasks.list i).name (drop j (take i tasks.list)))
+    × (first_fault [] (take tasks.count tasks.list) ≡ first_fault (take i (take tasks.count tasks.list)) (drop i (take tasks.count tasks.list)))
+    × (place_of 1 (task_at tasks.list i).name (take i tasks.list) ≡ place_of (j + 1) (task_at tasks.list i).name (drop j (take i tasks.list)))
 
 abbrev decreases-loop : tie.decreases-loop
 decreases-loop tasks i₀ j₀ i j = 65 * (tasks.count - i) - j
@@ -57,7 +57,7 @@ returns c =
     let low : l.i < s.count = omega arith in
     let few : s.count ≤ 64 = omega arith in
     let here = l.invariant.3
-    ∙ run-here (taskAt s.list l.i).name l.i s.list l.j past (omega arith) (omega arith)
+    ∙ run-here (task_at s.list l.i).name l.i s.list l.j past (omega arith) (omega arith)
     (sym c.before.before.same_name.ensures ∙ c.before.if2.true) in
     c.task-fault.ensures ∙ sym (l.invariant.2 ∙ run-twin s.count s.list l.i low (omega arith) (λ none. omega (arith, here, none)))
 
@@ -78,7 +78,7 @@ loop-again c =
       omega arith,
       omega arith,
       l.invariant.2,
-      l.invariant.3 ∙ run-other (taskAt s.list l.i).name l.i s.list l.j past (omega arith)
+      l.invariant.3 ∙ run-other (task_at s.list l.i).name l.i s.list l.j past (omega arith)
           (omega arith) (sym c.before.same_name.ensures ∙ c.if2.false),
     )
 
@@ -93,7 +93,7 @@ returns-2 c =
     let z = long at-start in
     let low : l.i < s.count = omega arith in
     let few : s.count ≤ 64 = omega arith in
-    let alone = l.invariant.3 ∙ run_end (l.j + 1) (taskAt s.list l.i).name l.i s.list l.j (omega (arith, length-take l.i s.list)) in
+    let alone = l.invariant.3 ∙ run_end (l.j + 1) (task_at s.list l.i).name l.i s.list l.j (omega (arith, length-take l.i s.list)) in
     let f = c.before.task-fault2 in
     f.ensures ∙ sym (l.invariant.2 ∙ run-fault s.count s.list l.i low (omega arith) alone (λ none. c.if3.true (f.ensures ∙ none)))
 
@@ -111,7 +111,7 @@ loop-again-2 c =
     let z = long at-start in
     let low : l.i < s.count = omega arith in
     let few : s.count ≤ 64 = omega arith in
-    let alone = l.invariant.3 ∙ run_end (l.j + 1) (taskAt s.list l.i).name l.i s.list l.j (omega (arith, length-take l.i s.list)) in (
+    let alone = l.invariant.3 ∙ run_end (l.j + 1) (task_at s.list l.i).name l.i s.list l.j (omega (arith, length-take l.i s.list)) in (
       omega arith,
       omega arith,
       l.invariant.2

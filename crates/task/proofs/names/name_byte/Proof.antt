@@ -1,7 +1,7 @@
 -- `names::name_byte` meets its contract: the five tests in their order.
 use borrow.Author.Tests.{eq-eqb, ne_eqb}
 use mathlib.Core.Path.{sym, ◌∙◌}
-use Rattle.task.specs.Names.{nameByte}
+use Rattle.task.specs.Names.{name_byte}
 use borrow.Author.Rules.{rules}
 use Rattle.task.proofs.names.name_byte.Statement.{statement}
 use Rattle.task.proofs.names.name_byte.Tie as tie
@@ -13,21 +13,21 @@ inside-requires : tie.Need-inside-requires
 inside-requires c κs = search rules
 
 returns : tie.Need-returns
-unfolding nameByte
+unfolding name_byte
 returns c = simp (← c.before.inside.ensures, c.if1.true)
 
 inside-requires-2 : tie.Need-inside-requires-2
 inside-requires-2 c κs = search rules
 
 returns-2 : tie.Need-returns-2
-unfolding nameByte
+unfolding name_byte
 returns-2 c = simp (← c.before.before.before.inside.ensures, ← c.before.inside2.ensures, c.before.before.if1.false, c.if2.true)
 
 inside-requires-3 : tie.Need-inside-requires-3
 inside-requires-3 c κs = search rules
 
 returns-3 : tie.Need-returns-3
-unfolding nameByte
+unfolding name_byte
 returns-3 c =
     let if1 = c.before.before.before.before.if1 in
     let inside = c.before.before.before.before.before.inside in
@@ -41,7 +41,7 @@ returns-3 c =
     )
 
 returns-4 : tie.Need-returns-4
-unfolding nameByte
+unfolding name_byte
 returns-4 c =
     let inside2 = c.before.before.before.before.inside2 in
     let if1 = c.before.before.before.before.before.if1 in
@@ -58,7 +58,7 @@ returns-4 c =
     )
 
 returns-5 : tie.Need-returns-5
-unfolding nameByte
+unfolding name_byte
 returns-5 c =
     let inside2 = c.before.before.before.before.inside2 in
     let if1 = c.before.before.before.before.before.if1 in

@@ -4,7 +4,7 @@ use mathlib.Core.Path.{◌≡◌, sym, ◌∙◌}
 use Prim.Native.Nat.{◌≤◌, ◌-◌}
 use native.Mathlib.Omega.{arith}
 use lib.ListN.{length, drop, get_or}
-use Rattle.task.specs.Names.{sameBytes}
+use Rattle.task.specs.Names.{same_bytes}
 use Rattle.task.proofs.NameLaws.{same_step, same-differ, same_end}
 use Rattle.task.proofs.names.same_bytes.Statement.{statement}
 use Rattle.task.proofs.names.same_bytes.Tie as tie
@@ -12,7 +12,7 @@ use Rattle.task.proofs.names.same_bytes.Reads as reads
 use Rattle.task.proofs.names.same_bytes.Lts as lts
 
 abbrev invariant-loop : tie.invariant-loop
-invariant-loop a b i₀ i = (i ≤ 24) × (sameBytes a b ≡ sameBytes (drop i a) (drop i b))
+invariant-loop a b i₀ i = (i ≤ 24) × (same_bytes a b ≡ same_bytes (drop i a) (drop i b))
 
 abbrev decreases-loop : tie.decreases-loop
 decreases-loop a b i₀ i = 24 - i

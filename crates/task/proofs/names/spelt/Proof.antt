@@ -5,7 +5,7 @@ use Prim.Native.Nat.{◌≤◌, ◌-◌}
 use native.Mathlib.Omega.{arith}
 use borrow.Author.Tests.{not-true, not-false}
 use lib.ListN.{length, drop, get_or}
-use Rattle.task.specs.Names.{spelt, speltFrom}
+use Rattle.task.specs.Names.{spelt, spelt_from}
 use Rattle.task.proofs.NameLaws.{spelt-long, spelt-step, spelt-bad, spelt-end}
 use Rattle.task.proofs.names.spelt.Statement.{statement}
 use Rattle.task.proofs.names.spelt.Tie as tie
@@ -14,7 +14,7 @@ use Rattle.task.proofs.names.spelt.Lts as lts
 use Rattle.task.proofs.names.fits_at.Reads as fits-at-reads
 
 abbrev invariant-loop : tie.invariant-loop
-invariant-loop len bytes i₀ i = (i ≤ 24) × (spelt len bytes ≡ speltFrom len i (drop i bytes))
+invariant-loop len bytes i₀ i = (i ≤ 24) × (spelt len bytes ≡ spelt_from len i (drop i bytes))
 
 abbrev decreases-loop : tie.decreases-loop
 decreases-loop len bytes i₀ i = 24 - i

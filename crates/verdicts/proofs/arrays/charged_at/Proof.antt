@@ -1,5 +1,5 @@
 -- `arrays::charged_at` meets its contract: seven reads.
-use Rattle.verdicts.specs.ChargedArray.{chargedAt}
+use Rattle.verdicts.specs.ChargedArray.{charged_at}
 use borrow.Author.Rules.{rules}
 use Rattle.verdicts.proofs.arrays.charged_at.Statement.{statement}
 use Rattle.verdicts.proofs.arrays.charged_at.Tie as tie
@@ -70,7 +70,7 @@ element-copy-out-t37 : tie.Need-element-copy-out-t37
 element-copy-out-t37 c = search rules
 
 returns : tie.Need-returns
-unfolding chargedAt
+unfolding charged_at
 returns c = search rules
 
 pub charged-at-spec : {M : Type 1} → statement M

@@ -4,8 +4,8 @@ use Prim.Native.Nat.{◌≤◌}
 use native.Mathlib.Omega.{arith}
 use lib.ListN.{length, take}
 use lib.Seq.{length-take-le}
-use Rattle.demand.specs.Records.{recordsOf}
-use Rattle.demand.specs.Sizes.{runMost}
+use Rattle.demand.specs.Records.{records_of}
+use Rattle.demand.specs.Sizes.{run_most}
 use Rattle.demand.proofs.RecordLaws.{records-length}
 use Rattle.verdicts.proofs.ChargedArrayLaws.{lay-records-in, lay-records-length}
 use borrow.Author.Rules.{rules}
@@ -21,10 +21,10 @@ lay-records-requires c κs = search rules
 returns : tie.Need-returns
 returns c =
     let s = c.before.before.args in
-    let ps = take s.n (recordsOf s.records.now) in
+    let ps = take s.n (records_of s.records.now) in
     let pre = c.before.before.requires in
-    let few : length ps ≡ s.n = length-take-le s.n (recordsOf s.records.now) (omega (arith, pre.1.0, records-length s.records.now)) in
-    let least : length ps ≤ runMost = omega (arith, few, pre.1.0) in
+    let few : length ps ≡ s.n = length-take-le s.n (records_of s.records.now) (omega (arith, pre.1.0, records-length s.records.now)) in
+    let least : length ps ≤ run_most = omega (arith, few, pre.1.0) in
     let laid = c.lay-records.ensures in (
       rw laid (lay-records-in s.core.now s.costs pre.0 ps pre.1.1 least pre.1.2 s.n (sym few)),
       rw laid (lay-records-length s.core.now s.costs pre.0 ps pre.1.1 least pre.1.2),

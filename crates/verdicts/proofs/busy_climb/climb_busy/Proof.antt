@@ -3,8 +3,8 @@
 use borrow.Author.Rules.{rules}
 use Prim.Native.Nat.{ℕ, ◌≤◌}
 use native.Mathlib.Omega.{arith}
-use Rattle.demand.specs.Busy.{busySum, Clear}
-use Rattle.verdicts.specs.ChargedArray.{chargedIn}
+use Rattle.demand.specs.Busy.{busy_sum, Clear}
+use Rattle.verdicts.specs.ChargedArray.{charged_in}
 use Rattle.demand.proofs.BusyLaws.{clear-one, busy-found, busy-nothing, busy-sum-mono}
 use Rattle.verdicts.proofs.BusyClimbLaws.{clear-leap}
 use Rattle.verdicts.proofs.busy_climb.climb_busy.Statement.{statement}
@@ -17,7 +17,7 @@ use Rattle.verdicts.proofs.busy_climb.flow_at.Reads as flow-at-reads
 use Rattle.verdicts.proofs.busy_climb.reach_of.Reads as reach-of-reads
 
 abbrev invariant-loop : tie.invariant-loop
-invariant-loop core n l₀ ahead₀ plain₀ l ahead plain = (1 ≤ l) × Clear (busySum (chargedIn core n)) l × (ahead ≤ 200000000)
+invariant-loop core n l₀ ahead₀ plain₀ l ahead plain = (1 ≤ l) × Clear (busy_sum (charged_in core n)) l × (ahead ≤ 200000000)
 
 abbrev decreases-loop : tie.decreases-loop
 decreases-loop core n l₀ ahead₀ plain₀ l ahead plain = plain
@@ -29,7 +29,7 @@ loop-holds c =
 returns : tie.Need-returns invariant-loop decreases-loop
 returns c =
     let s = c.before.before.before.args in
-    let qs = chargedIn s.core.now s.n in
+    let qs = charged_in s.core.now s.n in
     let loop = c.before.before.loop in
     busy-nothing qs loop.l c.if1.true loop.invariant.1
 
@@ -42,7 +42,7 @@ flow-at-requires c κs = search rules
 returns-2 : tie.Need-returns-2 invariant-loop decreases-loop
 returns-2 c =
     let s = c.before.before.before.before.before.before.args in
-    let qs = chargedIn s.core.now s.n in
+    let qs = charged_in s.core.now s.n in
     let o = c.before.before.before.before.before.loop in
     busy-found qs o.l o.invariant.0 (omega arith)
     (omega (arith, c.before.before.flow-at.ensures.0.exact, c.if2.true)) o.invariant.1
@@ -62,11 +62,11 @@ loop-less c = search rules
 loop-again : tie.Need-loop-preserved invariant-loop decreases-loop
 loop-again c =
     let s = c.before.before.before.before.before.before.before.before.args in
-    let qs = chargedIn s.core.now s.n in
+    let qs = charged_in s.core.now s.n in
     let o = c.before.before.before.before.before.before.before.loop in
     let f = c.before.before.before.before.flow-at in
     let clear =
-    clear-leap (busySum qs) (busy-sum-mono qs) o.l f.result c.before.reach_of.result o.invariant.0
+    clear-leap (busy_sum qs) (busy-sum-mono qs) o.l f.result c.before.reach_of.result o.invariant.0
     o.invariant.1 f.ensures.0 c.before.reach_of.ensures.0 in
     (search rules, rw c.greater.ensures clear, search rules)
 

@@ -4,10 +4,10 @@ use Prim.Native.Nat.{◌+◌, ◌*◌, ◌-◌, ◌≤◌}
 use mathlib.Core.Path.{◌≡◌, refl, subst}
 use native.Mathlib.Omega.{arith}
 use Rattle.demand.specs.declared.Charged.{Charged}
-use Rattle.demand.specs.Busy.{busyLoad, busySum}
-use Rattle.verdicts.specs.ChargedArray.{chargedIn}
-use Rattle.verdicts.specs.ways.BusyClimb.{Flows}
-use Rattle.demand.specs.ways.Ranges.{Ranged}
+use Rattle.demand.specs.Busy.{busy_load, busy_sum}
+use Rattle.verdicts.specs.ChargedArray.{charged_in}
+use Rattle.verdicts.specs.Ways.BusyClimb.{Flows}
+use Rattle.demand.specs.Ways.Ranges.{Ranged}
 use Rattle.verdicts.proofs.BusyClimbLaws.{flow-none, flow-more}
 use Rattle.verdicts.proofs.ChargedArrayLaws.{charged-at-each}
 use Rattle.verdicts.proofs.busy_climb.flow_at.Statement.{statement}
@@ -19,7 +19,7 @@ use Rattle.verdicts.proofs.busy_climb.flow_of.Reads as flow-of-reads
 
 abbrev invariant-loop : tie.invariant-loop
 invariant-loop core n l edge asked₀ share₀ work₀ i₀ asked share work i = (i ≤ n)
-    × Flows (busySum (chargedIn core i)) l (record { asked = asked; share = share; work = work }) × (asked ≤ i * 1000000000000000)
+    × Flows (busy_sum (charged_in core i)) l (record { asked = asked; share = share; work = work }) × (asked ≤ i * 1000000000000000)
     × (share ≤ i * 10000000000000000) × (work ≤ i * 1000000000000000)
 
 abbrev decreases-loop : tie.decreases-loop
@@ -57,7 +57,7 @@ loop-again c =
     let s = c.before.before.before.before.before.before.before.args in
     let flow-of = c.before.before.before.flow-of in
     let charged-at = c.before.before.before.before.charged-at in
-    let here = subst (λ (q : Charged). Flows (λ m. busyLoad m q) s.l flow-of.result) charged-at.ensures flow-of.ensures.0 in
+    let here = subst (λ (q : Charged). Flows (λ m. busy_load m q) s.l flow-of.result) charged-at.ensures flow-of.ensures.0 in
     let loop = c.before.before.before.before.before.before.loop in
     (search rules, flow-more s.core.now loop.i s.l _ flow-of.result _ loop.invariant.1 here refl refl refl, omega arith, omega arith, omega arith)
 

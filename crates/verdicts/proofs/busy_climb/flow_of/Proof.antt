@@ -3,8 +3,8 @@ use Prim.Native.Nat.{◌+◌, ◌*◌, ◌/◌, ◌≤◌}
 use mathlib.Core.Path.{◌≡◌, refl}
 use native.Mathlib.Nat.{div-le_self}
 use native.Mathlib.Omega.{arith}
-use Rattle.demand.specs.Busy.{busyLoad}
-use Rattle.verdicts.specs.ways.BusyClimb.{allTime}
+use Rattle.demand.specs.Busy.{busy_load}
+use Rattle.verdicts.specs.Ways.BusyClimb.{all_time}
 use Rattle.demand.proofs.ChargeLaws.{ranged-recurs}
 use Rattle.demand.proofs.Division.{prod-le}
 use Rattle.verdicts.proofs.BusyClimbLaws.{flow-share, flow-work}
@@ -46,9 +46,9 @@ returns c =
     let q = s.q in
     let ranged = c.before.before.before.before.before.before.requires.0 in
     let jobs = c.before.before.before.ceil-div.result in (
-      flow-share q (ranged-recurs q ranged) s.l _ (unfold busyLoad in cc) refl refl,
+      flow-share q (ranged-recurs q ranged) s.l _ (unfold busy_load in cc) refl refl,
       omega (arith, prod-le 101000000 2300000 {a = jobs} {b = q.charge + q.release + q.ipi} (search rules) (search rules)),
-      omega (arith, div-le_self ((q.charge + q.release + q.ipi) * allTime) q.period),
+      omega (arith, div-le_self ((q.charge + q.release + q.ipi) * all_time) q.period),
       search rules,
     )
 
@@ -59,7 +59,7 @@ returns-2 c =
     let ranged = c.before.before.before.before.before.requires.0 in
     let jobs = c.before.before.ceil-div.result in
     let few = prod-le 101000000 2300000 {a = jobs} {b = q.charge + q.release + q.ipi} (search rules) (search rules) in
-    (flow-work q s.l _ (unfold busyLoad in cc) refl refl, omega (arith, few), search rules, omega (arith, few))
+    (flow-work q s.l _ (unfold busy_load in cc) refl refl, omega (arith, few), search rules, omega (arith, few))
 
 pub flow-of-spec : {M : Type 1} → statement M
 flow-of-spec =

@@ -3,7 +3,7 @@ use Prim.Native.Nat.{◌+◌, ◌*◌, ◌-◌, ◌/◌, ◌≤◌}
 use mathlib.Core.Path.{◌≡◌}
 use native.Mathlib.Nat.{div-le_self}
 use native.Mathlib.Omega.{arith}
-use Rattle.verdicts.specs.ways.BusyClimb.{allTime}
+use Rattle.verdicts.specs.Ways.BusyClimb.{all_time}
 use Rattle.verdicts.proofs.BusyClimbLaws.{reach-part, reach-over, reach-full}
 use borrow.Author.Rules.{rules}
 use Rattle.verdicts.proofs.busy_climb.reach_of.Statement.{statement}
@@ -26,7 +26,7 @@ div-result c = search rules
 returns-2 : tie.Need-returns-2
 returns-2 c =
     let f = c.before.before.before.before.before.before.args.f in
-    (reach-part f c.before.before.if2.true, omega (arith, div-le_self (f.work * allTime) (allTime - f.share)))
+    (reach-part f c.before.before.if2.true, omega (arith, div-le_self (f.work * all_time) (all_time - f.share)))
 
 returns-3 : tie.Need-returns-3
 returns-3 c = (reach-over c.before.before.before.before.before.before.args.f c.if3.true, search rules)

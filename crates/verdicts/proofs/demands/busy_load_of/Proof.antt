@@ -1,7 +1,7 @@
 -- `demands::busy_load_of` meets its contract: the product is the definition's, and fits.
 use Prim.Native.Nat.{◌+◌}
 use native.Mathlib.Omega.{arith}
-use Rattle.demand.specs.Busy.{busyLoad}
+use Rattle.demand.specs.Busy.{busy_load}
 use Rattle.demand.proofs.Division.{prod-le}
 use borrow.Author.Rules.{rules}
 use Rattle.verdicts.proofs.demands.busy_load_of.Statement.{statement}
@@ -29,7 +29,7 @@ mul-result c =
     )
 
 returns : tie.Need-returns
-unfolding busyLoad
+unfolding busy_load
 returns c =
     let ceil-div = c.before.before.ceil-div in
     let start = c.before.before.before.args in (

@@ -1,7 +1,7 @@
 -- `demands::demand_at` meets its contract: w is the largest window, so the test decides the blocking.
 use Prim.Native.Nat.{◌<◌, ◌≤◌}
 use native.Mathlib.Omega.{arith}
-use Rattle.verdicts.specs.ChargedArray.{chargedIn}
+use Rattle.verdicts.specs.ChargedArray.{charged_in}
 use Rattle.demand.proofs.DemandLaws.{demand-below, demand-above}
 use borrow.Author.Rules.{rules}
 use Rattle.verdicts.proofs.demands.demand_at.Statement.{statement}
@@ -19,12 +19,12 @@ add-result c = search rules
 returns : tie.Need-returns
 returns c =
     let s = c.before.before.args in
-    omega (arith, demand-below s.b (chargedIn s.core.now s.n) s.t (omega (arith, c.before.before.requires.1)), c.before.sum-at.ensures.0)
+    omega (arith, demand-below s.b (charged_in s.core.now s.n) s.t (omega (arith, c.before.before.requires.1)), c.before.sum-at.ensures.0)
 
 returns-2 : tie.Need-returns-2
 returns-2 c =
     let s = c.before.before.args in
-    omega (arith, demand-above s.b (chargedIn s.core.now s.n) s.t (omega (arith, c.before.before.requires.1)), c.before.sum-at.ensures.0)
+    omega (arith, demand-above s.b (charged_in s.core.now s.n) s.t (omega (arith, c.before.before.requires.1)), c.before.sum-at.ensures.0)
 
 pub demand-at-spec : {M : Type 1} → statement M
 demand-at-spec = tie.close (tie.spec sum-at-requires add-result returns returns-2)

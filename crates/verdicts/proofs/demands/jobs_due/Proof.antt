@@ -1,4 +1,4 @@
--- `demands::jobs_due` meets its contract: each return is `jobsDue` with the test that led there decided. Nothing wraps, since t and the
+-- `demands::jobs_due` meets its contract: each return is `jobs_due` with the test that led there decided. Nothing wraps, since t and the
 -- jitter are within their sizes and a quotient is at most its dividend.
 use Prim.Native.Nat.{◌+◌, ◌-◌}
 use native.Mathlib.Omega.{arith}

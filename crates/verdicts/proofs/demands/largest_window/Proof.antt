@@ -3,8 +3,8 @@ use borrow.Author.Rules.{rules}
 use Prim.Native.Nat.{◌≤◌, ◌-◌}
 use mathlib.Core.Path.{◌≡◌}
 use native.Mathlib.Omega.{arith}
-use Rattle.demand.specs.Demand.{largestWindow}
-use Rattle.verdicts.specs.ChargedArray.{chargedIn}
+use Rattle.demand.specs.Demand.{largest_window}
+use Rattle.verdicts.specs.ChargedArray.{charged_in}
 use Rattle.verdicts.proofs.ChargedArrayLaws.{largest-more}
 use Rattle.verdicts.proofs.demands.largest_window.Statement.{statement}
 use Rattle.verdicts.proofs.demands.largest_window.Tie as tie
@@ -14,7 +14,7 @@ use Rattle.demand.proofs.greater.Reads as greater-reads
 use Rattle.verdicts.proofs.arrays.charged_at.Reads as charged-at-reads
 
 abbrev invariant-loop : tie.invariant-loop
-invariant-loop core n widest₀ i₀ widest i = (i ≤ n) × (widest ≡ largestWindow (chargedIn core i))
+invariant-loop core n widest₀ i₀ widest i = (i ≤ n) × (widest ≡ largest_window (charged_in core i))
 
 abbrev decreases-loop : tie.decreases-loop
 decreases-loop core n widest₀ i₀ widest i = n - i

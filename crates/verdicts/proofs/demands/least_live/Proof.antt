@@ -4,7 +4,7 @@ use Prim.Native.Nat.{◌≤◌, ◌-◌}
 use mathlib.Core.Path.{◌≡◌}
 use native.Mathlib.Omega.{arith}
 use Rattle.demand.specs.Demand.{earliest}
-use Rattle.verdicts.specs.ChargedArray.{chargedIn, chargedAt}
+use Rattle.verdicts.specs.ChargedArray.{charged_in, charged_at}
 use Rattle.verdicts.proofs.ChargedArrayLaws.{earliest-more, least-live-charged}
 use Rattle.verdicts.proofs.demands.least_live.Statement.{statement}
 use Rattle.verdicts.proofs.demands.least_live.Tie as tie
@@ -15,7 +15,7 @@ use Rattle.demand.proofs.lesser.Reads as lesser-reads
 use Rattle.verdicts.proofs.arrays.charged_at.Reads as charged-at-reads
 
 abbrev invariant-loop : tie.invariant-loop
-invariant-loop core n soonest₀ i₀ soonest i = (i ≤ n) × (soonest ≡ earliest soonest₀ (chargedIn core i))
+invariant-loop core n soonest₀ i₀ soonest i = (i ≤ n) × (soonest ≡ earliest soonest₀ (charged_in core i))
 
 abbrev decreases-loop : tie.decreases-loop
 decreases-loop core n soonest₀ i₀ soonest i = n - i
@@ -64,7 +64,7 @@ returns c =
     let s = c.before.before.before.before.args in
     let w = c.before.before.less.result in
     let e : c.before.loop.i ≡ s.n = omega arith in
-    let head : w ≡ (chargedAt s.core.now 0).window - (chargedAt s.core.now 0).jitter =
+    let head : w ≡ (charged_at s.core.now 0).window - (charged_at s.core.now 0).jitter =
     cc (c.before.before.less.ensures, c.before.before.before.charged-at.ensures) in
     let pre = c.before.before.before.before.requires in
     cc (e, head, c.before.loop.invariant.1, least-live-charged s.core.now s.n pre.0)

@@ -4,9 +4,9 @@ use Prim.Native.Nat.{◌≤◌, ◌*◌, ◌-◌, ◌+◌}
 use mathlib.Core.Path.{◌≡◌}
 use native.Mathlib.Omega.{arith}
 use Rattle.demand.specs.Demand.{total}
-use Rattle.verdicts.specs.ChargedArray.{chargedIn}
+use Rattle.verdicts.specs.ChargedArray.{charged_in}
 use Rattle.verdicts.specs.Laid.{term}
-use Rattle.demand.specs.ways.Ranges.{Ranged}
+use Rattle.demand.specs.Ways.Ranges.{Ranged}
 use Rattle.verdicts.proofs.ChargedArrayLaws.{charged-at-each, total-more}
 use Rattle.verdicts.proofs.demands.sum_at.Statement.{statement}
 use Rattle.verdicts.proofs.demands.sum_at.Tie as tie
@@ -16,7 +16,7 @@ use Rattle.verdicts.proofs.demands.term_of.Reads as term-of-reads
 use Rattle.verdicts.proofs.arrays.charged_at.Reads as charged-at-reads
 
 abbrev invariant-loop : tie.invariant-loop
-invariant-loop core n sum t so-far₀ i₀ so_far i = (i ≤ n) × (so_far ≡ total (term sum t) (chargedIn core i)) × (so_far ≤ i * 1000000000000000)
+invariant-loop core n sum t so-far₀ i₀ so_far i = (i ≤ n) × (so_far ≡ total (term sum t) (charged_in core i)) × (so_far ≤ i * 1000000000000000)
 
 abbrev decreases-loop : tie.decreases-loop
 decreases-loop core n sum t so-far₀ i₀ so_far i = n - i

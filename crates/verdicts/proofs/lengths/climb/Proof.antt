@@ -3,7 +3,7 @@ use borrow.Author.Rules.{rules}
 use Prim.Native.Nat.{ℕ, ◌≤◌, ◌-◌, ◌+◌}
 use native.Mathlib.Omega.{arith}
 use Rattle.demand.specs.declared.Found.TheVariants.{At, Nothing}
-use Rattle.verdicts.specs.ChargedArray.{chargedIn}
+use Rattle.verdicts.specs.ChargedArray.{charged_in}
 use Rattle.demand.specs.Busy.{Clear}
 use Rattle.demand.proofs.BusyLaws.{clear-one, clear_step, least-holding-is}
 use Rattle.verdicts.proofs.ChargedArrayLaws.{asked, asked-mono}
@@ -14,7 +14,7 @@ use Rattle.verdicts.proofs.lengths.climb.Lts as lts
 use Rattle.verdicts.proofs.demands.sum_at.Reads as sum-at-reads
 
 abbrev invariant-loop : tie.invariant-loop
-invariant-loop core n sum base top l₀ l = (1 ≤ l) × Clear (asked sum base (chargedIn core n)) l
+invariant-loop core n sum base top l₀ l = (1 ≤ l) × Clear (asked sum base (charged_in core n)) l
 
 abbrev decreases-loop : tie.decreases-loop
 decreases-loop core n sum base top l₀ l = 100000001 - l
@@ -31,7 +31,7 @@ add-asked c = search rules
 returns : tie.Need-returns invariant-loop decreases-loop
 returns c =
     let s = c.before.before.before.before.args in
-    let qs = chargedIn s.core.now s.n in
+    let qs = charged_in s.core.now s.n in
     let loop = c.before.before.before.loop in
     least-holding-is (asked s.sum s.base qs) (asked-mono s.sum s.base qs) s.top (At loop.l)
     (record { here = record { some = loop.invariant.0; fits = omega arith }; none_below = loop.invariant.1 }, search rules)
@@ -42,7 +42,7 @@ loop-less c = search rules
 loop-again : tie.Need-loop-preserved invariant-loop decreases-loop
 loop-again c =
     let s = c.before.before.before.before.args in
-    let qs = chargedIn s.core.now s.n in
+    let qs = charged_in s.core.now s.n in
     let loop = c.before.before.before.loop in (
       search rules,
       rw c.before.sum-at.ensures.0 (clear_step (asked s.sum s.base qs)
@@ -52,7 +52,7 @@ loop-again c =
 returns-2 : tie.Need-returns-2 invariant-loop decreases-loop
 returns-2 c =
     let s = c.before.before.args in
-    let qs = chargedIn s.core.now s.n in
+    let qs = charged_in s.core.now s.n in
     least-holding-is (asked s.sum s.base qs) (asked-mono s.sum s.base qs) s.top Nothing
     (λ k h p. c.before.loop.invariant.1 k (omega arith) p)
 

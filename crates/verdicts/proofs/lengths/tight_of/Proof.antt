@@ -1,4 +1,4 @@
--- `lengths::tight_of` meets its contract: the climb is `tightWindow`'s, and what it finds is at most the window.
+-- `lengths::tight_of` meets its contract: the climb is `tight_window`'s, and what it finds is at most the window.
 use Rattle.demand.specs.declared.Found.{Found}
 use Rattle.verdicts.proofs.ChargedArrayLaws.{tight-found, asked, asked-mono, charged-at-each}
 use mathlib.Core.Path.{◌≡◌, sym, ap, ◌∙◌}
@@ -6,8 +6,8 @@ use Prim.Native.Nat.{◌+◌, ◌-◌}
 use native.Mathlib.Omega.{arith}
 use Rattle.verdicts.specs.declared.Sum.TheVariants.{Interrupts}
 use Rattle.demand.specs.Busy.{later}
-use Rattle.verdicts.specs.ChargedArray.{chargedIn}
-use Rattle.demand.specs.ways.Ranges.{Ranged}
+use Rattle.verdicts.specs.ChargedArray.{charged_in}
+use Rattle.demand.specs.Ways.Ranges.{Ranged}
 use Rattle.demand.proofs.BusyLaws.{found_within}
 use borrow.Author.Rules.{rules}
 use Rattle.verdicts.proofs.lengths.tight_of.Statement.{statement}
@@ -54,7 +54,7 @@ enum-known-t c = search rules
 add-t13 : tie.Need-overflow-add-t13
 add-t13 c =
     let s = c.before.before.before.before.before.before.before.args in
-    let qs = chargedIn s.core.now s.n in
+    let qs = charged_in s.core.now s.n in
     let charged-at = c.before.before.before.before.before.before.charged-at in
     let pre = c.before.before.before.before.before.before.before.requires in
     let ranged : Ranged charged-at.result = rw charged-at.ensures (charged-at-each Ranged s.core.now s.n pre.0.2 (s.n - 1) (omega arith)) in

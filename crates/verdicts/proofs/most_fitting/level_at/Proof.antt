@@ -1,6 +1,6 @@
 -- `most_fitting::level_at` meets its contract: more than the length is asked for already, or the rest of it holds so many charges.
 use native.Mathlib.Omega.{arith}
-use Rattle.verdicts.specs.ChargedArray.{chargedIn}
+use Rattle.verdicts.specs.ChargedArray.{charged_in}
 use Rattle.verdicts.proofs.MostFittingLaws.{level-over, level-calls, level-fits}
 use borrow.Author.Rules.{rules}
 use Rattle.verdicts.proofs.most_fitting.level_at.Statement.{statement}
@@ -19,7 +19,7 @@ demand-at-requires c κs = search rules
 returns : tie.Need-returns
 returns c =
     let s = c.before.before.args in
-    level-over s.b (chargedIn s.core.now s.n) s.q s.f s.t c.before.demand-at.result c.before.demand-at.ensures c.if1.true
+    level-over s.b (charged_in s.core.now s.n) s.q s.f s.t c.before.demand-at.result c.before.demand-at.ensures c.if1.true
 
 interrupts-of-requires : tie.Need-interrupts-of-requires
 interrupts-of-requires c κs = search rules
@@ -28,7 +28,7 @@ returns-2 : tie.Need-returns-2
 returns-2 c =
     let s = c.before.before.before.before.args in
     let demand-at = c.before.before.before.demand-at in
-    level-calls s.b (chargedIn s.core.now s.n) s.q s.f s.t demand-at.result c.before.interrupts-of.result
+    level-calls s.b (charged_in s.core.now s.n) s.q s.f s.t demand-at.result c.before.interrupts-of.result
     demand-at.ensures c.before.interrupts-of.ensures.0 (omega arith) c.if2.true
 
 jobs-due-requires : tie.Need-jobs-due-requires
@@ -48,7 +48,7 @@ returns-3 c =
     let s = c.before.before.before.before.before.before.args in
     let interrupts-of = c.before.before.before.interrupts-of in
     let demand-at = c.before.before.before.before.before.demand-at in
-    level-fits s.b (chargedIn s.core.now s.n) s.q s.f s.t demand-at.result interrupts-of.result
+    level-fits s.b (charged_in s.core.now s.n) s.q s.f s.t demand-at.result interrupts-of.result
     c.before.jobs-due.result demand-at.ensures interrupts-of.ensures.0 c.before.jobs-due.ensures.0 (omega arith)
     (omega arith) c.fitting.result c.fitting.ensures
 

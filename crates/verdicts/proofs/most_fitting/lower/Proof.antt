@@ -2,7 +2,7 @@
 -- or there is less left and a second look to come.
 use Prim.Native.Nat.{◌≤◌, ◌-◌}
 use native.Mathlib.Omega.{arith}
-use Rattle.verdicts.specs.ChargedArray.{chargedIn}
+use Rattle.verdicts.specs.ChargedArray.{charged_in}
 use Rattle.verdicts.proofs.MostFittingLaws.{lowers-none, lowers-look, lowers-below, asked-before, asked-last}
 use borrow.Author.Rules.{rules}
 use Rattle.verdicts.proofs.most_fitting.lower.Statement.{statement}
@@ -39,7 +39,7 @@ returns c =
     let at_level = c.before.before.before in
     let level-at = at_level.level-at in
     let s = at_level.before.args in
-    let qs = chargedIn s.core.now s.n in
+    let qs = charged_in s.core.now s.n in
     let pre = at_level.before.requires in
     rw c.last-below.ensures (lowers-none s.b qs s.q s.a s.s pre.1.1.1.0 pre.1.1.1.1 level-at.result level-at.ensures (omega arith))
 
@@ -51,7 +51,7 @@ mul-next-end c =
     let at_level = c.before.before.before.before.before.before.before in
     let level-at = at_level.level-at in
     let s = at_level.before.args in
-    let qs = chargedIn s.core.now s.n in
+    let qs = charged_in s.core.now s.n in
     let pre = at_level.before.requires in
     omega (arith, asked-before s.b qs s.q s.a s.s pre.1.1.1.0 pre.1.1.1.1 level-at.result level-at.ensures (omega arith))
 
@@ -60,7 +60,7 @@ add-next-end c =
     let at_level = c.before.before.before.before.before.before.before.before in
     let level-at = at_level.level-at in
     let s = at_level.before.args in
-    let qs = chargedIn s.core.now s.n in
+    let qs = charged_in s.core.now s.n in
     let pre = at_level.before.requires in
     omega (arith, asked-before s.b qs s.q s.a s.s pre.1.1.1.0 pre.1.1.1.1 level-at.result level-at.ensures (omega arith))
 
@@ -69,7 +69,7 @@ next-end-requires c κs =
     let at_level = c.before.before.before.before.before.before.before.before in
     let level-at = at_level.level-at in
     let s = at_level.before.args in
-    let qs = chargedIn s.core.now s.n in
+    let qs = charged_in s.core.now s.n in
     let pre = at_level.before.requires in
     asked-before s.b qs s.q s.a s.s pre.1.1.1.0 pre.1.1.1.1 level-at.result level-at.ensures (omega arith)
 
@@ -82,7 +82,7 @@ returns-2 c =
     let at_level = at-if2.before.before.before.before.before in
     let level-at = at_level.level-at in
     let s = at_level.before.args in
-    let qs = chargedIn s.core.now s.n in
+    let qs = charged_in s.core.now s.n in
     let pre = at_level.before.requires in
     rw c.last-below2.ensures
     (lowers-below s.b qs s.q s.a s.s pre.1.1.1.0 pre.1.1.1.1 level-at.result level-at.ensures
@@ -100,7 +100,7 @@ next-end-requires-2 c κs =
     let at_level = c.before.before.before.before.before.before.before.before.before.before in
     let level-at = at_level.level-at in
     let s = at_level.before.args in
-    let qs = chargedIn s.core.now s.n in
+    let qs = charged_in s.core.now s.n in
     let pre = at_level.before.requires in
     omega (arith, level-at.ensures.fits, (pre.1.1.1.1.within pre.1.1.1.0).1)
 
@@ -114,7 +114,7 @@ returns-3 c =
     let at_level = at-if1.before.before in
     let level-at = at_level.level-at in
     let s = at_level.before.args in
-    let qs = chargedIn s.core.now s.n in
+    let qs = charged_in s.core.now s.n in
     let pre = at_level.before.requires in
     let last : s.s.end - 1 ≤ s.s.look = omega (arith, at-if2.if2.false) in
     let some : 1 ≤ level-at.result.charge = omega (arith, at-if1.if1.false) in
@@ -140,7 +140,7 @@ returns-4 c =
     let at_level = at-if1.before.before in
     let level-at = at_level.level-at in
     let s = at_level.before.args in
-    let qs = chargedIn s.core.now s.n in
+    let qs = charged_in s.core.now s.n in
     let pre = at_level.before.requires in
     let last : s.s.end - 1 ≤ s.s.look = omega (arith, at-if2.if2.false) in
     let some : 1 ≤ level-at.result.charge = omega (arith, at-if1.if1.false) in

@@ -2,8 +2,8 @@
 use Prim.Native.Nat.{◌≤◌, ◌+◌, ◌-◌}
 use native.Mathlib.Omega.{arith}
 use borrow.Author.Rules.{rules}
-use Rattle.verdicts.specs.ChargedArray.{chargedIn}
-use Rattle.verdicts.specs.ways.ChargeWalk.{Stands}
+use Rattle.verdicts.specs.ChargedArray.{charged_in}
+use Rattle.verdicts.specs.Ways.ChargeWalk.{Stands}
 use Rattle.verdicts.proofs.MostFittingLaws.{Passed, passed_start, passed-look, passed-done, stands-last}
 use Rattle.verdicts.proofs.most_fitting.squeeze.Statement.{statement}
 use Rattle.verdicts.proofs.most_fitting.squeeze.Tie as tie
@@ -15,7 +15,7 @@ use Rattle.verdicts.proofs.most_fitting.lower.Reads as lower-reads
 
 abbrev invariant-loop : tie.invariant-loop
 invariant-loop core n b q f a l w s₀ s =
-    (s.end ≤ a + l) × Stands b (chargedIn core n) q a s × Passed b (chargedIn core n) q f a s.end (a + l) s.charge
+    (s.end ≤ a + l) × Stands b (charged_in core n) q a s × Passed b (charged_in core n) q f a s.end (a + l) s.charge
 
 abbrev decreases-loop : tie.decreases-loop
 decreases-loop core n b q f a l w s₀ s = s.end + s.charge
@@ -37,8 +37,8 @@ loop-holds c =
     let s = c.before.before.args in
     rw c.last-below.ensures (
       omega arith,
-      stands-last s.b (chargedIn s.core.now s.n) s.q s.a s.f (s.a + s.l),
-      passed_start s.b (chargedIn s.core.now s.n) s.q s.f s.a (s.a + s.l),
+      stands-last s.b (charged_in s.core.now s.n) s.q s.a s.f (s.a + s.l),
+      passed_start s.b (charged_in s.core.now s.n) s.q s.f s.a (s.a + s.l),
     )
 
 lower-requires : tie.Need-lower-requires invariant-loop decreases-loop
@@ -72,14 +72,14 @@ loop-again c =
     let low = c.lower.ensures in (
       omega (arith, low.down, loop.invariant.0),
       low.stands,
-      passed-look s.b (chargedIn s.core.now s.n) s.q s.f s.a (s.a + s.l) loop.s c.lower.result loop.invariant.0 loop.invariant.2 low,
+      passed-look s.b (charged_in s.core.now s.n) s.q s.f s.a (s.a + s.l) loop.s c.lower.result loop.invariant.0 loop.invariant.2 low,
     )
 
 returns : tie.Need-returns invariant-loop decreases-loop
 returns c =
     let s = c.before.before.before.before.before.args in
     let loop = c.before.before.loop in
-    passed-done s.b (chargedIn s.core.now s.n) s.q s.f s.a s.l loop.s.end loop.s.charge (omega arith) loop.invariant.2
+    passed-done s.b (charged_in s.core.now s.n) s.q s.f s.a s.l loop.s.end loop.s.charge (omega arith) loop.invariant.2
 
 pub squeeze-spec : {M : Type 1} → statement M
 squeeze-spec =

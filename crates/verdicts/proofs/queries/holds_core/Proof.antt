@@ -6,8 +6,8 @@ use mathlib.Core.Bool.{Bool}
 use Prim.Native.Nat.{◌≤◌, ◌-◌}
 use native.Mathlib.Omega.{arith}
 use Rattle.demand.specs.Sizes.{Each, Tells}
-use Rattle.demand.specs.ways.Ranges.{Ranged}
-use Rattle.verdicts.specs.ChargedArray.{chargedIn}
+use Rattle.demand.specs.Ways.Ranges.{Ranged}
+use Rattle.verdicts.specs.ChargedArray.{charged_in}
 use Rattle.demand.proofs.Sums.{each_snoc}
 use Rattle.verdicts.proofs.ChargedArrayLaws.{charged-at-each, charged-in-more}
 use Rattle.verdicts.proofs.queries.holds_core.Statement.{statement}
@@ -18,7 +18,7 @@ use Rattle.verdicts.proofs.arrays.charged_at.Reads as charged-at-reads
 use Rattle.verdicts.proofs.queries.ranged_piece.Reads as ranged-piece-reads
 
 abbrev invariant-loop : tie.invariant-loop
-invariant-loop core n i₀ i = (i ≤ n) × Each Ranged (chargedIn core i)
+invariant-loop core n i₀ i = (i ≤ n) × Each Ranged (charged_in core i)
 
 abbrev decreases-loop : tie.decreases-loop
 decreases-loop core n i₀ i = n - i
@@ -59,7 +59,7 @@ loop-again c =
     let loop = c.before.before.before.before.loop in (
       omega arith,
       rw (charged-in-more s.core.now loop.i)
-          (each_snoc Ranged (chargedIn s.core.now loop.i) _ loop.invariant.1 (rw charged-at.ensures at good)),
+          (each_snoc Ranged (charged_in s.core.now loop.i) _ loop.invariant.1 (rw charged-at.ensures at good)),
     )
 
 returns-3 : tie.Need-returns-3 invariant-loop decreases-loop

@@ -2,7 +2,7 @@
 use mathlib.Core.Path.{sym, ◌∙◌}
 use borrow.Author.Tests.{le-leb, lt-leb, not-true, not-false}
 use native.Mathlib.Omega.{arith}
-use Rattle.verdicts.specs.Laid.{laidBusyLength}
+use Rattle.verdicts.specs.Laid.{laid_busy_length}
 use Rattle.verdicts.proofs.LaidLaws.{laid-some, laid_none, busy-length-held}
 use borrow.Author.Rules.{rules}
 use Rattle.verdicts.proofs.queries.laid_busy_length.Statement.{statement}
@@ -16,7 +16,7 @@ holds-core-requires : tie.Need-holds-core-requires
 holds-core-requires c κs = search rules
 
 returns : tie.Need-returns
-unfolding laidBusyLength
+unfolding laid_busy_length
 returns c =
     let s = c.before.before.args in
     let h = c.before.holds-core in

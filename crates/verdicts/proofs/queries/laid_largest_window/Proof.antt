@@ -3,7 +3,7 @@ use mathlib.Core.Path.{sym, ap, ◌∙◌}
 use mathlib.Core.List.{List}
 use native.Mathlib.Omega.{arith}
 use Rattle.demand.specs.declared.Charged.{Charged}
-use Rattle.demand.specs.Demand.{largestWindow}
+use Rattle.demand.specs.Demand.{largest_window}
 use Rattle.verdicts.proofs.LaidLaws.{laid-pieces-is, laid-pieces-past}
 use borrow.Author.Rules.{rules}
 use Rattle.verdicts.proofs.queries.laid_largest_window.Statement.{statement}
@@ -18,7 +18,7 @@ largest-window-requires c κs = search rules
 returns : tie.Need-returns
 returns c =
     let start = c.before.before.args in
-    c.largest-window.ensures ∙ ap (λ (qs : List Charged). largestWindow qs) (sym (laid-pieces-past start.core.now start.n c.before.if1.true))
+    c.largest-window.ensures ∙ ap (λ (qs : List Charged). largest_window qs) (sym (laid-pieces-past start.core.now start.n c.before.if1.true))
 
 largest-window-requires-2 : tie.Need-largest-window-requires-2
 largest-window-requires-2 c κs = search rules
@@ -27,7 +27,7 @@ returns-2 : tie.Need-returns-2
 returns-2 c =
     let start = c.before.before.args in
     c.largest-window2.ensures
-    ∙ ap (λ (qs : List Charged). largestWindow qs) (sym (laid-pieces-is start.core.now start.n (omega (arith, c.before.if1.false))))
+    ∙ ap (λ (qs : List Charged). largest_window qs) (sym (laid-pieces-is start.core.now start.n (omega (arith, c.before.if1.false))))
 
 pub laid-largest-window-spec : {M : Type 1} → statement M
 laid-largest-window-spec = tie.close (tie.spec largest-window-requires returns largest-window-requires-2 returns-2)

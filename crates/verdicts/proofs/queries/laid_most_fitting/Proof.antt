@@ -4,9 +4,9 @@ use mathlib.Core.Bool.{Bool, true, false}
 use Prim.Native.Nat.{◌+◌}
 use borrow.Author.Tests.{le-leb, lt-leb, not-true, not-false}
 use native.Mathlib.Omega.{arith}
-use Rattle.demand.specs.Sizes.{Tells, lengthMost}
-use Rattle.demand.specs.ways.Ranges.{Ranged, stallMost, chargeMost}
-use Rattle.verdicts.specs.Laid.{laidMostFitting}
+use Rattle.demand.specs.Sizes.{Tells, length_most}
+use Rattle.demand.specs.Ways.Ranges.{Ranged, stall_most, charge_most}
+use Rattle.verdicts.specs.Laid.{laid_most_fitting}
 use Rattle.demand.proofs.SizeLaws.{ranged-is}
 use Rattle.verdicts.proofs.LaidLaws.{laid-some, laid_none, most-fitting-held}
 use borrow.Author.Rules.{rules}
@@ -19,66 +19,66 @@ use Rattle.verdicts.proofs.queries.holds_core.Reads as holds-core-reads
 use Rattle.verdicts.proofs.queries.ranged_piece.Reads as ranged-piece-reads
 
 returns : tie.Need-returns
-unfolding laidMostFitting
-returns c = rw (lt-leb c.before.args.b stallMost c.if1.true)
+unfolding laid_most_fitting
+returns c = rw (lt-leb c.before.args.b stall_most c.if1.true)
 
 ranged-piece-requires : tie.Need-ranged-piece-requires
 ranged-piece-requires c κs = search rules
 
 returns-2 : tie.Need-returns-2
-unfolding laidMostFitting
+unfolding laid_most_fitting
 returns-2 c =
     let s = c.before.before.before.args in
     let q = c.before.ranged-piece in
     rw (
-      le-leb s.b stallMost (omega (arith, c.before.before.if1.false)),
+      le-leb s.b stall_most (omega (arith, c.before.before.if1.false)),
       sym (ranged-is s.q false (subst (λ (o : Bool). Tells (Ranged s.q) o) (not-true q.result c.if2.true) q.ensures)),
     )
 
 returns-3 : tie.Need-returns-3
-unfolding laidMostFitting
+unfolding laid_most_fitting
 returns-3 c =
     let s = c.before.before.before.before.args in
     let q = c.before.before.ranged-piece in
     rw (
-      le-leb s.b stallMost (omega (arith, c.before.before.before.if1.false)),
+      le-leb s.b stall_most (omega (arith, c.before.before.before.if1.false)),
       sym (ranged-is s.q true (subst (λ (o : Bool). Tells (Ranged s.q) o) (not-false q.result c.before.if2.false) q.ensures)),
-      lt-leb s.f chargeMost c.if3.true,
+      lt-leb s.f charge_most c.if3.true,
     )
 
 returns-4 : tie.Need-returns-4
-unfolding laidMostFitting
+unfolding laid_most_fitting
 returns-4 c =
     let s = c.before.before.before.before.before.args in
     let q = c.before.before.before.ranged-piece in
     let if1 = c.before.before.before.before.if1 in
     rw (
-      le-leb s.b stallMost (omega (arith, if1.false)),
+      le-leb s.b stall_most (omega (arith, if1.false)),
       sym (ranged-is s.q true
           (subst (λ (o : Bool). Tells (Ranged s.q) o) (not-false q.result c.before.before.if2.false) q.ensures)),
-      le-leb s.f chargeMost (omega (arith, c.before.if3.false)),
-      lt-leb (s.a + s.l) lengthMost (omega (arith, c.if4.true)),
+      le-leb s.f charge_most (omega (arith, c.before.if3.false)),
+      lt-leb (s.a + s.l) length_most (omega (arith, c.if4.true)),
     )
 
 returns-5 : tie.Need-returns-5
-unfolding laidMostFitting
+unfolding laid_most_fitting
 returns-5 c =
     let s = c.before.before.before.before.before.before.args in
     let q = c.before.before.before.before.ranged-piece in
     let if1 = c.before.before.before.before.before.if1 in
     rw (
-      le-leb s.b stallMost (omega (arith, if1.false)),
+      le-leb s.b stall_most (omega (arith, if1.false)),
       sym (ranged-is s.q true
           (subst (λ (o : Bool). Tells (Ranged s.q) o) (not-false q.result c.before.before.before.if2.false) q.ensures)),
-      le-leb s.f chargeMost (omega (arith, c.before.before.if3.false)),
-      lt-leb (s.a + s.l) lengthMost (omega (arith, c.before.if4.false, c.if5.true)),
+      le-leb s.f charge_most (omega (arith, c.before.before.if3.false)),
+      lt-leb (s.a + s.l) length_most (omega (arith, c.before.if4.false, c.if5.true)),
     )
 
 holds-core-requires : tie.Need-holds-core-requires
 holds-core-requires c κs = search rules
 
 returns-6 : tie.Need-returns-6
-unfolding laidMostFitting
+unfolding laid_most_fitting
 returns-6 c =
     let s = c.before.before.before.before.before.before.before.before.args in
     let h = c.before.holds-core in
@@ -87,10 +87,10 @@ returns-6 c =
     let if2 = c.before.before.before.before.before.if2 in
     let if1 = c.before.before.before.before.before.before.before.if1 in
     rw (
-      le-leb s.b stallMost (omega (arith, if1.false)),
+      le-leb s.b stall_most (omega (arith, if1.false)),
       sym (ranged-is s.q true (subst (λ (o : Bool). Tells (Ranged s.q) o) (not-false q.result if2.false) q.ensures)),
-      le-leb s.f chargeMost (omega (arith, if3.false)),
-      le-leb (s.a + s.l) lengthMost (omega (arith, c.before.before.before.if4.false, c.before.before.if5.false)),
+      le-leb s.f charge_most (omega (arith, if3.false)),
+      le-leb (s.a + s.l) length_most (omega (arith, c.before.before.before.if4.false, c.before.before.if5.false)),
       laid_none s.core.now s.n h.result h.ensures (not-true h.result c.if6.true),
     )
 

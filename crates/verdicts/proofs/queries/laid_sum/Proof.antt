@@ -2,8 +2,8 @@
 use mathlib.Core.Path.{sym, ◌∙◌}
 use borrow.Author.Tests.{le-leb, lt-leb, not-true, not-false}
 use native.Mathlib.Omega.{arith}
-use Rattle.demand.specs.Sizes.{lengthMost}
-use Rattle.verdicts.specs.Laid.{laidSum}
+use Rattle.demand.specs.Sizes.{length_most}
+use Rattle.verdicts.specs.Laid.{laid_sum}
 use Rattle.verdicts.proofs.LaidLaws.{laid-some, laid_none, sum-held}
 use borrow.Author.Rules.{rules}
 use Rattle.verdicts.proofs.queries.laid_sum.Statement.{statement}
@@ -14,19 +14,19 @@ use Rattle.verdicts.proofs.demands.sum_at.Reads as sum-at-reads
 use Rattle.verdicts.proofs.queries.holds_core.Reads as holds-core-reads
 
 returns : tie.Need-returns
-unfolding laidSum
-returns c = rw (lt-leb c.before.args.t lengthMost c.if1.true)
+unfolding laid_sum
+returns c = rw (lt-leb c.before.args.t length_most c.if1.true)
 
 holds-core-requires : tie.Need-holds-core-requires
 holds-core-requires c κs = search rules
 
 returns-2 : tie.Need-returns-2
-unfolding laidSum
+unfolding laid_sum
 returns-2 c =
     let s = c.before.before.before.args in
     let h = c.before.holds-core in
     rw (
-      le-leb s.t lengthMost (omega (arith, c.before.before.if1.false)),
+      le-leb s.t length_most (omega (arith, c.before.before.if1.false)),
       laid_none s.core.now s.n h.result h.ensures (not-true h.result c.if2.true),
     )
 

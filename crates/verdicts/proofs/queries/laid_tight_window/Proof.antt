@@ -2,8 +2,8 @@
 use mathlib.Core.Path.{sym, ◌∙◌}
 use borrow.Author.Tests.{le-leb, lt-leb, not-true, not-false}
 use native.Mathlib.Omega.{arith}
-use Rattle.demand.specs.ways.Ranges.{stallMost}
-use Rattle.verdicts.specs.Laid.{laidTightWindow}
+use Rattle.demand.specs.Ways.Ranges.{stall_most}
+use Rattle.verdicts.specs.Laid.{laid_tight_window}
 use Rattle.verdicts.proofs.LaidLaws.{laid-some, laid_none, tight-window-held, tight-window-none}
 use borrow.Author.Rules.{rules}
 use Rattle.verdicts.proofs.queries.laid_tight_window.Statement.{statement}
@@ -14,19 +14,19 @@ use Rattle.verdicts.proofs.lengths.tight_of.Reads as tight-of-reads
 use Rattle.verdicts.proofs.queries.holds_core.Reads as holds-core-reads
 
 returns : tie.Need-returns
-unfolding laidTightWindow
-returns c = rw (lt-leb c.before.args.b stallMost c.if1.true)
+unfolding laid_tight_window
+returns c = rw (lt-leb c.before.args.b stall_most c.if1.true)
 
 holds-core-requires : tie.Need-holds-core-requires
 holds-core-requires c κs = search rules
 
 returns-2 : tie.Need-returns-2
-unfolding laidTightWindow
+unfolding laid_tight_window
 returns-2 c =
     let s = c.before.before.before.args in
     let h = c.before.holds-core in
     rw (
-      le-leb s.b stallMost (omega (arith, c.before.before.if1.false)),
+      le-leb s.b stall_most (omega (arith, c.before.before.if1.false)),
       laid_none s.core.now s.n h.result h.ensures (not-true h.result c.if2.true),
     )
 

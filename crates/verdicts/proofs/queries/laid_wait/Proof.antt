@@ -2,8 +2,8 @@
 use mathlib.Core.Path.{sym, ◌∙◌}
 use borrow.Author.Tests.{le-leb, lt-leb, not-true, not-false}
 use native.Mathlib.Omega.{arith}
-use Rattle.demand.specs.Sizes.{busyMost}
-use Rattle.verdicts.specs.Laid.{waitMost, laidWait}
+use Rattle.demand.specs.Sizes.{busy_most}
+use Rattle.verdicts.specs.Laid.{wait_most, laid_wait}
 use Rattle.verdicts.proofs.LaidLaws.{laid-some, laid_none, wait-held}
 use borrow.Author.Rules.{rules}
 use Rattle.verdicts.proofs.queries.laid_wait.Statement.{statement}
@@ -14,26 +14,26 @@ use Rattle.verdicts.proofs.lengths.climb.Reads as climb-reads
 use Rattle.verdicts.proofs.queries.holds_core.Reads as holds-core-reads
 
 returns : tie.Need-returns
-unfolding laidWait
-returns c = rw (lt-leb c.before.args.base waitMost c.if1.true)
+unfolding laid_wait
+returns c = rw (lt-leb c.before.args.base wait_most c.if1.true)
 
 returns-2 : tie.Need-returns-2
-unfolding laidWait
+unfolding laid_wait
 returns-2 c =
     let s = c.before.before.args in
-    rw (le-leb s.base waitMost (omega (arith, c.before.if1.false)), lt-leb s.top busyMost c.if2.true)
+    rw (le-leb s.base wait_most (omega (arith, c.before.if1.false)), lt-leb s.top busy_most c.if2.true)
 
 holds-core-requires : tie.Need-holds-core-requires
 holds-core-requires c κs = search rules
 
 returns-3 : tie.Need-returns-3
-unfolding laidWait
+unfolding laid_wait
 returns-3 c =
     let s = c.before.before.before.before.args in
     let h = c.before.holds-core in
     rw (
-      le-leb s.base waitMost (omega (arith, c.before.before.before.if1.false)),
-      le-leb s.top busyMost (omega (arith, c.before.before.if2.false)),
+      le-leb s.base wait_most (omega (arith, c.before.before.before.if1.false)),
+      le-leb s.top busy_most (omega (arith, c.before.before.if2.false)),
       laid_none s.core.now s.n h.result h.ensures (not-true h.result c.if3.true),
     )
 

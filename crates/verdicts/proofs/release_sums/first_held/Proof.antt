@@ -5,7 +5,7 @@ use mathlib.Core.Path.{◌≡◌, ap, ◌∙◌}
 use native.Mathlib.Omega.{arith}
 use lib.ListN.{get_or}
 use Rattle.demand.specs.Busy.{Clear}
-use Rattle.verdicts.specs.ways.ReleaseSums.{Marks}
+use Rattle.verdicts.specs.Ways.ReleaseSums.{Marks}
 use Rattle.verdicts.proofs.ReleaseSumLaws.{clear-past}
 use Rattle.verdicts.proofs.release_sums.first_held.Statement.{statement}
 use Rattle.verdicts.proofs.release_sums.first_held.Tie as tie

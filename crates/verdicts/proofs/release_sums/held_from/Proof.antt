@@ -2,8 +2,8 @@
 use borrow.Author.Rules.{rules}
 use Prim.Native.Nat.{ℕ}
 use lib.ListN.{length-replicate}
-use Rattle.demand.specs.Busy.{busySum}
-use Rattle.verdicts.specs.ChargedArray.{chargedIn}
+use Rattle.demand.specs.Busy.{busy_sum}
+use Rattle.verdicts.specs.ChargedArray.{charged_in}
 use Rattle.verdicts.proofs.ReleaseSumLaws.{under_none}
 use Rattle.verdicts.proofs.release_sums.held_from.Statement.{statement}
 use Rattle.verdicts.proofs.release_sums.held_from.Tie as tie
@@ -24,7 +24,7 @@ returns : tie.Need-returns
 returns c =
     let pre = c.before.before.before.before.requires.1 in
     let s = c.before.before.before.before.args in
-    let told = c.first-held.ensures.1 (busySum (chargedIn s.core.now s.n)) c.before.before.mark-all.ensures.0 pre.1 pre.3 in
+    let told = c.first-held.ensures.1 (busy_sum (charged_in s.core.now s.n)) c.before.before.mark-all.ensures.0 pre.1 pre.3 in
     (c.first-held.ensures.0.0, c.first-held.ensures.0.1, told.0, told.1)
 
 pub held-from-spec : {M : Type 1} → statement M

@@ -4,10 +4,10 @@ use Prim.Native.Nat.{ℕ, ◌+◌, ◌*◌, ◌-◌, ◌≤◌, ◌<◌}
 use mathlib.Core.Path.{◌≡◌}
 use native.Mathlib.Omega.{arith}
 use lib.ListN.{length}
-use Rattle.demand.specs.Busy.{busySum}
-use Rattle.verdicts.specs.ChargedArray.{chargedIn}
-use Rattle.verdicts.specs.ways.ReleaseSums.{Marks, Under}
-use Rattle.demand.specs.ways.Ranges.{Ranged}
+use Rattle.demand.specs.Busy.{busy_sum}
+use Rattle.verdicts.specs.ChargedArray.{charged_in}
+use Rattle.verdicts.specs.Ways.ReleaseSums.{Marks, Under}
+use Rattle.demand.specs.Ways.Ranges.{Ranged}
 use Rattle.verdicts.proofs.ChargedArrayLaws.{charged-at-each}
 use Rattle.verdicts.proofs.ReleaseSumLaws.{marks-none, marks-more}
 use Rattle.verdicts.proofs.release_sums.mark_all.Statement.{statement}
@@ -18,7 +18,7 @@ use Rattle.verdicts.proofs.arrays.charged_at.Reads as charged-at-reads
 use Rattle.verdicts.proofs.release_sums.mark.Reads as mark-reads
 
 abbrev invariant-loop : tie.invariant-loop
-invariant-loop marks₀ core n l i₀ marks i = (i ≤ n) × Marks (busySum (chargedIn core i)) l marks × Under (i * 2300000) marks × (length marks ≡ 1024)
+invariant-loop marks₀ core n l i₀ marks i = (i ≤ n) × Marks (busy_sum (charged_in core i)) l marks × Under (i * 2300000) marks × (length marks ≡ 1024)
 
 abbrev decreases-loop : tie.decreases-loop
 decreases-loop marks₀ core n l i₀ marks i = n - i

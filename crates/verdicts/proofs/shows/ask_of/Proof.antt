@@ -6,7 +6,7 @@ use borrow.Author.Tests.{not-true, not-false}
 use Rattle.demand.specs.declared.Verdict.{Verdict}
 use Rattle.demand.specs.Sizes.{Tells}
 use Rattle.demand.specs.Why.{ask}
-use Rattle.demand.specs.ways.Ranges.{Ranged}
+use Rattle.demand.specs.Ways.Ranges.{Ranged}
 use Rattle.verdicts.proofs.AskLaws.{ask-held, ask-long, ask-unranged}
 use borrow.Author.Rules.{rules}
 use Rattle.verdicts.proofs.shows.ask_of.Statement.{statement}

@@ -1,7 +1,7 @@
 -- `shows::busy_ask` meets its contract: the products fit.
 use native.Mathlib.Omega.{arith}
 use Prim.Native.Nat.{◌+◌}
-use Rattle.demand.specs.Why.{busyAsk}
+use Rattle.demand.specs.Why.{busy_ask}
 use Rattle.demand.proofs.Division.{prod-le}
 use borrow.Author.Rules.{rules}
 use Rattle.verdicts.proofs.shows.busy_ask.Statement.{statement}
@@ -29,7 +29,7 @@ mul-t6 c =
     record { fits = omega (arith, prod-le 101000000 300000 {a = ceil-div.result} {b = s.q.release + s.q.ipi} (omega (arith, ceil-div.ensures.1)) (search rules)) }
 
 returns : tie.Need-returns
-unfolding busyAsk
+unfolding busy_ask
 returns c =
     rw c.before.before.ceil-div.ensures.0
 

@@ -1,6 +1,6 @@
 -- `shows::due_ask` meets its contract: the product fits.
 use native.Mathlib.Omega.{arith}
-use Rattle.demand.specs.Why.{dueAsk}
+use Rattle.demand.specs.Why.{due_ask}
 use Rattle.demand.proofs.Division.{prod-le}
 use borrow.Author.Rules.{rules}
 use Rattle.verdicts.proofs.shows.due_ask.Statement.{statement}
@@ -23,7 +23,7 @@ mul-t5 c =
     record { fits = omega (arith, prod-le 102000001 2000000 {a = jobs-due.result} {b = s.q.charge} (search rules) (search rules)) }
 
 returns : tie.Need-returns
-unfolding dueAsk
+unfolding due_ask
 returns c =
     rw (c.before.before.jobs-due.ensures.0, c.before.interrupts-of.ensures.0)
 

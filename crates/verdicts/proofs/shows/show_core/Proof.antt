@@ -5,11 +5,11 @@ use Prim.Native.Nat.{ℕ, ◌≤◌}
 use native.Mathlib.Omega.{arith}
 use lib.ListN.{length}
 use Rattle.demand.specs.declared.Charged.{Charged}
-use Rattle.demand.specs.Sizes.{busyMost}
-use Rattle.demand.specs.Busy.{busySum}
-use Rattle.demand.specs.Why.{coreShown}
+use Rattle.demand.specs.Sizes.{busy_most}
+use Rattle.demand.specs.Busy.{busy_sum}
+use Rattle.demand.specs.Why.{core_shown}
 use Rattle.demand.proofs.WhyLaws.{shown-empty, shown-beyond}
-use Rattle.verdicts.specs.ChargedArray.{chargedIn}
+use Rattle.verdicts.specs.ChargedArray.{charged_in}
 use Rattle.verdicts.proofs.ChargedArrayLaws.{charged-in-length}
 use borrow.Author.Rules.{rules}
 use Rattle.verdicts.proofs.shows.show_core.Statement.{statement}
@@ -49,10 +49,10 @@ show-span-requires c κs =
     (pre.0, (pre.1, omega (arith, if1.false), c.least-live.ensures, sym climb-busy.ensures ∙ l.given.1))
 
 returns-2 : tie.Need-returns-2
-unfolding busySum
+unfolding busy_sum
 returns-2 c =
     let s = c.before.before.before.before.before.args in
-    let qs = chargedIn s.core.now s.n in
+    let qs = charged_in s.core.now s.n in
     let some : 1 ≤ length qs = omega (arith, charged-in-length s.core.now s.n, c.before.before.before.before.if1.false) in
     rw c.sum-at.ensures.0 (sym (shown-beyond s.b qs some (sym c.before.before.before.climb-busy.ensures ∙ c.before.enum_told.given.1)))
 

@@ -3,13 +3,13 @@ use mathlib.Core.Path.{◌≡◌, sym, ap, ◌∙◌}
 use Prim.Native.Nat.{ℕ, ◌≤◌, ◌-◌}
 use native.Mathlib.Omega.{arith}
 use lib.ListN.{length}
-use Rattle.demand.specs.Sizes.{busyMost, timeMost}
-use Rattle.demand.specs.Demand.{blocking, demand, leastLive}
+use Rattle.demand.specs.Sizes.{busy_most, time_most}
+use Rattle.demand.specs.Demand.{blocking, demand, least_live}
 use Rattle.demand.specs.Verdict.{scan}
-use Rattle.demand.specs.Why.{leastSlack}
+use Rattle.demand.specs.Why.{least_slack}
 use Rattle.demand.proofs.BusyLaws.{busy-length-within, busy-length-some}
 use Rattle.demand.proofs.WhyLaws.{shown-over, shown-calm}
-use Rattle.verdicts.specs.ChargedArray.{chargedIn}
+use Rattle.verdicts.specs.ChargedArray.{charged_in}
 use Rattle.verdicts.proofs.ChargedArrayLaws.{charged-in-length}
 use Rattle.verdicts.proofs.LaidLaws.{least-live-fits}
 use Rattle.verdicts.proofs.HuntLaws.{over-of, least-of, hit-scans, quiet-scans}
@@ -29,9 +29,9 @@ seek-requires : tie.Need-seek-requires
 seek-requires c κs =
     let s = c.before.args in
     let pre = c.before.requires in
-    let qs = chargedIn s.core.now s.n in
-    let near : s.a ≤ timeMost = omega (arith, pre.1.2, least-live-fits qs pre.0.1) in
-    let few : s.l ≤ busyMost = busy-length-within qs s.l pre.1.3 in
+    let qs = charged_in s.core.now s.n in
+    let near : s.a ≤ time_most = omega (arith, pre.1.2, least-live-fits qs pre.0.1) in
+    let few : s.l ≤ busy_most = busy-length-within qs s.l pre.1.3 in
     let some : 1 ≤ s.l = busy-length-some qs s.l pre.1.3 in
     (pre.0, ((pre.1.0, c.largest-window.ensures, pre.1.1), (near, some, few)))
 
@@ -55,7 +55,7 @@ returns c =
     let t-there = c.before.before.t in
     let seek = c.before.before.before.before.seek in
     let largest-window = c.before.before.before.before.before.largest-window in
-    let qs = chargedIn s.core.now s.n in
+    let qs = charged_in s.core.now s.n in
     let t = t-there.given.0.0 in
     let so = over-of (demand s.b qs) s.a s.l seek.result t t-there.given.0.1.0 seek.ensures t-there.given.1 in
     let held : 1 ≤ length qs = omega (arith, charged-in-length s.core.now s.n, pre.1.1) in
@@ -70,12 +70,12 @@ returns-2 c =
     let least-there = c.before.before.least in
     let seek = c.before.before.before.before.seek in
     let largest-window = c.before.before.before.before.before.largest-window in
-    let qs = chargedIn s.core.now s.n in
+    let qs = charged_in s.core.now s.n in
     let t = least-there.given.0.0 in
     let so = least-of (demand s.b qs) s.a s.l seek.result t least-there.given.0.1.0 seek.ensures least-there.given.1 in
     let held : 1 ≤ length qs = omega (arith, charged-in-length s.core.now s.n, pre.1.1) in
     let calm = quiet-scans s.b qs s.a s.l so.0 ∙ ap (λ (a : ℕ). scan s.b qs a s.l) pre.1.2 in
-    let least : t ≡ leastSlack (demand s.b qs) (leastLive qs) (s.l - 1) = so.1 ∙ ap (λ (a : ℕ). leastSlack (demand s.b qs) a (s.l - 1)) pre.1.2 in
+    let least : t ≡ least_slack (demand s.b qs) (least_live qs) (s.l - 1) = so.1 ∙ ap (λ (a : ℕ). least_slack (demand s.b qs) a (s.l - 1)) pre.1.2 in
     rw (c.blocking-at2.ensures, so.2, largest-window.ensures, least) (sym (shown-calm s.b qs held s.l pre.1.3 calm))
 
 pub show-span-spec : {M : Type 1} → statement M

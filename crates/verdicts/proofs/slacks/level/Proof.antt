@@ -1,6 +1,6 @@
 -- `slacks::level` meets its contract: the start of the stretch is taken where its demand is that of t.
 use native.Mathlib.Omega.{arith}
-use Rattle.demand.specs.ways.Ranges.{Ranged}
+use Rattle.demand.specs.Ways.Ranges.{Ranged}
 use Rattle.verdicts.proofs.ChargedArrayLaws.{charged-at-each}
 use borrow.Author.Rules.{rules}
 use Rattle.verdicts.proofs.slacks.level.Statement.{statement}

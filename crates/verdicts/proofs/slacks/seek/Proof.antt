@@ -3,11 +3,11 @@ use borrow.Author.Rules.{rules}
 use mathlib.Core.Path.{◌≡◌, sym, subst, ◌∙◌}
 use Prim.Native.Nat.{ℕ, ◌+◌, ◌-◌, ◌≤◌}
 use native.Mathlib.Omega.{arith}
-use Rattle.demand.specs.Demand.{demand, largestWindow}
-use Rattle.demand.specs.Why.{slack, leastSlack}
+use Rattle.demand.specs.Demand.{demand, largest_window}
+use Rattle.demand.specs.Why.{slack, least_slack}
 use Rattle.demand.proofs.WhyLaws.{least-slack-is}
-use Rattle.verdicts.specs.ChargedArray.{chargedIn}
-use Rattle.verdicts.specs.ways.SlackHunt.{Rises, raised, Quiet, Hit, Leads}
+use Rattle.verdicts.specs.ChargedArray.{charged_in}
+use Rattle.verdicts.specs.Ways.SlackHunt.{Rises, raised, Quiet, Hit, Leads}
 use Rattle.verdicts.proofs.HuntLaws.{core-rises, struck-of, none_of, bar-is}
 use Rattle.verdicts.proofs.HuntLaws.{leads-start, leads-hit, leads-none, leads-low, over-hit, over-stretch, calm-stretch, calm-none}
 use Rattle.verdicts.proofs.slacks.seek.Statement.{statement}
@@ -20,8 +20,8 @@ use Rattle.verdicts.proofs.slacks.level.Reads as level-reads
 use Rattle.verdicts.proofs.spans.hunt.Reads as hunt-reads
 
 abbrev invariant-loop : tie.invariant-loop
-invariant-loop core n b w a l best₀ asked₀ end₀ best asked end = Leads (demand b (chargedIn core n)) a l best end
-    × Quiet (demand b (chargedIn core n)) end (a + l) × (asked ≡ demand b (chargedIn core n) best)
+invariant-loop core n b w a l best₀ asked₀ end₀ best asked end = Leads (demand b (charged_in core n)) a l best end
+    × Quiet (demand b (charged_in core n)) end (a + l) × (asked ≡ demand b (charged_in core n) best)
 
 abbrev decreases-loop : tie.decreases-loop
 decreases-loop core n b w a l best₀ asked₀ end₀ best asked end = end
@@ -37,7 +37,7 @@ add-end c = search rules
 loop-holds : tie.Need-loop-init invariant-loop decreases-loop
 loop-holds c =
     let s = c.before.args in
-    let g = demand s.b (chargedIn s.core.now s.n) in
+    let g = demand s.b (charged_in s.core.now s.n) in
     (leads-start g s.a s.l c.before.requires.1.1.1, (λ u from below. absurd (omega arith)), c.demand-at.ensures)
 
 less-requires : tie.Need-less-requires invariant-loop decreases-loop
@@ -61,7 +61,7 @@ returns : tie.Need-returns invariant-loop decreases-loop
 returns c =
     let s = c.before.before.before.before.before.before.before.args in
     let now = c.before.before.before.before.before.loop in
-    let g = demand s.b (chargedIn s.core.now s.n) in
+    let g = demand s.b (charged_in s.core.now s.n) in
     let bar = c.before.before.before.less.result + 1 in
     let is = bar-is g now.best now.asked c.before.before.before.less.result now.invariant.2 c.before.before.before.less.ensures in
     let quiet = none_of g bar s.a (now.end - s.a) c.before.before.hunt.result c.before.before.hunt.ensures c.enum_told.given.1 in (
@@ -81,7 +81,7 @@ returns-2 c =
     let less = c.before.before.before.before.before.less in
     let t-there = c.before.before.t in
     let hunt = c.before.before.before.before.hunt in
-    let g = demand s.b (chargedIn s.core.now s.n) in
+    let g = demand s.b (charged_in s.core.now s.n) in
     let bar = less.result + 1 in
     let t = t-there.given.0.0 in
     let x = t-there.given.0.1.0 in
@@ -96,7 +96,7 @@ level-requires c κs =
     let t-there = c.before.before.t in
     let hunt = c.before.before.before.before.hunt in
     let pre = c.before.before.before.before.before.before.before.before.before.requires in
-    let g = demand s.b (chargedIn s.core.now s.n) in
+    let g = demand s.b (charged_in s.core.now s.n) in
     let bar = less.result + 1 in
     let t = t-there.given.0.0 in
     let x = t-there.given.0.1.0 in
@@ -116,13 +116,13 @@ returns-3 c =
     let if1 = c.before.before.if1 in
     let pre = c.before.before.before.before.before.before.before.before.before.before.before.requires in
     let level = c.before.level in
-    let g = demand s.b (chargedIn s.core.now s.n) in
+    let g = demand s.b (charged_in s.core.now s.n) in
     let bar = less.result + 1 in
     let t = t-there.given.0.0 in
     let x = t-there.given.0.1.0 in
     let so = struck-of g bar s.a (now.end - s.a) hunt.result t x hunt.ensures t-there.given.1 in
     let fits : g t ≤ t = omega (arith, so.1, if1.false) in
-    let rises : Rises g s.w = rw pre.1.0.1 (core-rises s.b (chargedIn s.core.now s.n)) in
+    let rises : Rises g s.w = rw pre.1.0.1 (core-rises s.b (charged_in s.core.now s.n)) in
     let over = over-stretch g s.w s.a s.l now.best now.end now.invariant.0 now.invariant.1 bar t (omega arith) so.0 level.result rises
     level.ensures fits (omega (arith, so.1, c.if2.true)) in
     subst (λ (y : ℕ). Hit g s.a s.l (y - 1) × (y ≡ g (y - 1))) (sym so.1) over
@@ -135,7 +135,7 @@ loop-less c =
     let t-there = c.before.before.before.before.t in
     let hunt = c.before.before.before.before.before.before.hunt in
     let level = c.before.level in
-    let g = demand s.b (chargedIn s.core.now s.n) in
+    let g = demand s.b (charged_in s.core.now s.n) in
     let bar = less.result + 1 in
     let t = t-there.given.0.0 in
     let x = t-there.given.0.1.0 in
@@ -152,13 +152,13 @@ loop-again c =
     let if1 = c.before.before.if1 in
     let pre = c.before.before.before.before.before.before.before.before.before.before.before.requires in
     let level = c.before.level in
-    let g = demand s.b (chargedIn s.core.now s.n) in
+    let g = demand s.b (charged_in s.core.now s.n) in
     let bar = less.result + 1 in
     let t = t-there.given.0.0 in
     let x = t-there.given.0.1.0 in
     let so = struck-of g bar s.a (now.end - s.a) hunt.result t x hunt.ensures t-there.given.1 in
     let fits : g t ≤ t = omega (arith, so.1, if1.false) in
-    let rises : Rises g s.w = rw pre.1.0.1 (core-rises s.b (chargedIn s.core.now s.n)) in
+    let rises : Rises g s.w = rw pre.1.0.1 (core-rises s.b (charged_in s.core.now s.n)) in
     let is = bar-is g now.best now.asked less.result now.invariant.2 less.ensures in
     let low = level.ensures in
     let hit : Hit (raised g bar) s.a (now.end - s.a) t = so.0 in (
@@ -172,7 +172,7 @@ returns-4 : tie.Need-returns-4 invariant-loop decreases-loop
 returns-4 c =
     let s = c.before.before.before.args in
     let now = c.before.loop in
-    let g = demand s.b (chargedIn s.core.now s.n) in
+    let g = demand s.b (charged_in s.core.now s.n) in
     let done : now.end ≤ s.a = omega arith in (
       (λ u from below. now.invariant.1 u (omega arith) below),
       least-slack-is g s.a s.l now.best c.before.before.before.requires.1.1.1 (leads-low g s.w s.a s.l now.best now.end now.invariant.0 done),

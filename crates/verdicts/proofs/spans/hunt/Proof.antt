@@ -4,9 +4,9 @@ use mathlib.Core.Path.{◌≡◌}
 use Prim.Native.Nat.{◌≤◌, ◌<◌, ◌-◌, ◌+◌}
 use native.Mathlib.Omega.{arith}
 use borrow.Author.Tests.{ltb-true, ltb-false}
-use Rattle.demand.specs.Demand.{demand, largestWindow}
-use Rattle.verdicts.specs.ChargedArray.{chargedIn}
-use Rattle.verdicts.specs.ways.SlackHunt.{raised, Quiet}
+use Rattle.demand.specs.Demand.{demand, largest_window}
+use Rattle.verdicts.specs.ChargedArray.{charged_in}
+use Rattle.verdicts.specs.Ways.SlackHunt.{raised, Quiet}
 use Rattle.verdicts.proofs.HuntLaws.{core-rises, quiet-more}
 use Rattle.verdicts.proofs.spans.hunt.Statement.{statement}
 use Rattle.verdicts.proofs.spans.hunt.Tie as tie
@@ -17,7 +17,7 @@ use Rattle.verdicts.proofs.spans.next_end.Reads as next-end-reads
 use Rattle.verdicts.proofs.spans.reaches.Reads as reaches-reads
 
 abbrev invariant-loop : tie.invariant-loop
-invariant-loop core n b w bar a l end₀ end = (end ≤ a + l) × Quiet (raised (demand b (chargedIn core n)) bar) end (a + l)
+invariant-loop core n b w bar a l end₀ end = (end ≤ a + l) × Quiet (raised (demand b (charged_in core n)) bar) end (a + l)
 
 abbrev decreases-loop : tie.decreases-loop
 decreases-loop core n b w bar a l end₀ end = end
@@ -71,12 +71,12 @@ loop-again : tie.Need-loop-preserved invariant-loop decreases-loop
 loop-again c =
     let s = c.before.before.before.before.before.before.args in
     let loop = c.before.before.before.before.before.loop in
-    let qs = chargedIn s.core.now s.n in
+    let qs = charged_in s.core.now s.n in
     let x = c.before.before.before.demand-at.result in
     let calm : x + s.bar ≤ loop.end - 1 = ltb-false (loop.end - 1) (x + s.bar) (cc) in
-    let w-is : s.w ≡ largestWindow qs = c.before.before.before.before.before.before.requires.1.1 in (
+    let w-is : s.w ≡ largest_window qs = c.before.before.before.before.before.before.requires.1.1 in (
       omega arith,
-      quiet-more (demand s.b qs) (largestWindow qs) s.bar (core-rises s.b qs) (loop.end - 1) c.next-end.result (s.a + s.l)
+      quiet-more (demand s.b qs) (largest_window qs) s.bar (core-rises s.b qs) (loop.end - 1) c.next-end.result (s.a + s.l)
           (omega (arith, c.before.before.before.demand-at.ensures)) (λ wide. omega (arith, c.next-end.ensures.2 (omega arith)))
           (λ u from below. loop.invariant.1 u (omega arith) below),
     )

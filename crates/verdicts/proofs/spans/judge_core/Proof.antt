@@ -5,9 +5,9 @@ use Prim.Native.Nat.{ℕ, ◌≤◌}
 use native.Mathlib.Omega.{arith}
 use lib.ListN.{length}
 use Rattle.demand.specs.declared.Found.{Found}
-use Rattle.demand.specs.Demand.{leastLive}
-use Rattle.verdicts.specs.ChargedArray.{chargedIn}
-use Rattle.demand.specs.Verdict.{overSpan, scan}
+use Rattle.demand.specs.Demand.{least_live}
+use Rattle.verdicts.specs.ChargedArray.{charged_in}
+use Rattle.demand.specs.Verdict.{over_span, scan}
 use Rattle.demand.proofs.BusyLaws.{busy-length-within}
 use Rattle.verdicts.proofs.ChargedArrayLaws.{charged-in-length}
 use Rattle.demand.proofs.VerdictLaws.{verdict-span, verdict-empty}
@@ -39,7 +39,7 @@ least-live-requires c κs = search rules
 descend-requires : tie.Need-descend-requires
 descend-requires c κs =
     let s = c.before.before.before.before.before.before.args in
-    let qs = chargedIn s.core.now s.n in
+    let qs = charged_in s.core.now s.n in
     let l = c.before.before.l in
     let climb-busy = c.before.before.before.before.climb-busy in
     let pre = c.before.before.before.before.before.before.requires in (
@@ -54,22 +54,22 @@ descend-requires c κs =
 returns-2 : tie.Need-returns-2
 returns-2 c =
     let s = c.before.before.before.before.args in
-    let qs = chargedIn s.core.now s.n in
+    let qs = charged_in s.core.now s.n in
     let some : 1 ≤ length qs = omega (arith, charged-in-length s.core.now s.n, c.before.before.before.if1.false) in
     sym (verdict-span s.b qs some
-    ∙ ap (λ (r : Found). overSpan s.b qs (leastLive qs) r) (sym c.before.before.climb-busy.ensures ∙ c.enum_told.given.1))
+    ∙ ap (λ (r : Found). over_span s.b qs (least_live qs) r) (sym c.before.before.climb-busy.ensures ∙ c.enum_told.given.1))
 
 returns-3 : tie.Need-returns-3
 returns-3 c =
     let s = c.before.before.before.before.before.before.before.args in
-    let qs = chargedIn s.core.now s.n in
+    let qs = charged_in s.core.now s.n in
     let if1 = c.before.before.before.before.before.before.if1 in
     let some : 1 ≤ length qs = omega (arith, charged-in-length s.core.now s.n, if1.false) in
     let l = c.before.before.before.l in
     let climb-busy = c.before.before.before.before.before.climb-busy in
     c.descend.ensures
     ∙ (ap (λ (a : ℕ). scan s.b qs a l.given.0.0) c.before.least-live.ensures
-    ∙ sym (verdict-span s.b qs some ∙ ap (λ (r : Found). overSpan s.b qs (leastLive qs) r) (sym climb-busy.ensures ∙ l.given.1)))
+    ∙ sym (verdict-span s.b qs some ∙ ap (λ (r : Found). over_span s.b qs (least_live qs) r) (sym climb-busy.ensures ∙ l.given.1)))
 
 pub judge-core-spec : {M : Type 1} → statement M
 judge-core-spec =

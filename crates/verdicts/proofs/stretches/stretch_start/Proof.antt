@@ -1,7 +1,7 @@
 -- `stretches::stretch_start` meets its contract: nothing wraps. What is left of the pieces falls.
 use borrow.Author.Rules.{rules}
 use Prim.Native.Nat.{◌≤◌, ◌-◌}
-use Rattle.demand.specs.ways.Ranges.{Ranged}
+use Rattle.demand.specs.Ways.Ranges.{Ranged}
 use Rattle.verdicts.proofs.ChargedArrayLaws.{charged-at-each}
 use Rattle.verdicts.proofs.stretches.stretch_start.Statement.{statement}
 use Rattle.verdicts.proofs.stretches.stretch_start.Tie as tie

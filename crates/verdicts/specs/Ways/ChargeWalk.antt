@@ -2,7 +2,7 @@
 --
 --   FitsInto f n m r       r is the greatest charge up to f of which n fit into m
 --   Levels b qs q f t v   what the length t told: v's charge is the greatest up to f that fits at t, or 0; v's rest and jobs are what is asked for
---   lastBelow f end       the walk with the charge f that looks at the last length below the end
+--   last_below f end       the walk with the charge f that looks at the last length below the end
 --   Stands b qs q a s     what the walk s knows of its next look: it is from a on and below its end; before the last length, what is asked for at the last
 --   Lowers b qs q a s r   what a look leaves of the walk s: r's charge is what some length left of s's, and fits from r's end to s's
 use Rattle.std.specs.Prelude.{◌≡◌, List, ℕ, ◌+◌, ◌*◌, ◌-◌, ◌≤◌, ◌<◌}
@@ -22,8 +22,8 @@ pub record Levels (b : ℕ) (qs : List Charged) (q : Charged) (f t : ℕ) (v : L
   pub fits : v.rest + v.jobs * v.charge ≤ t
   pub asks : 1 ≤ v.charge → (y : ℕ) → beside b qs q y t ≡ v.rest + v.jobs * y
 
-abbrev pub lastBelow : ℕ → ℕ → Lowering
-lastBelow f end = record { charge = f; end = end; look = end - 1; rest = 0; jobs = 0 }
+abbrev pub last_below : ℕ → ℕ → Lowering
+last_below f end = record { charge = f; end = end; look = end - 1; rest = 0; jobs = 0 }
 
 pub record Stands (b : ℕ) (qs : List Charged) (q : Charged) (a : ℕ) (s : Lowering) : Type 0 where
   pub within : a < s.end → (a ≤ s.look) × (s.look < s.end)

@@ -9,7 +9,7 @@
 --   Seeks g a l r        r is the greatest overloaded length of the l from a, or, where there is none, the length with the least slack; and the demand there
 --   Leads g a l best end     no length of the l from a which is not below `end` has less slack than `best`, and `best` is not above it
 use Rattle.std.specs.Prelude.{◌≡◌, ℕ, ◌+◌, ◌-◌, ◌≤◌, ◌<◌}
-use Rattle.demand.specs.Why.{slack, leastSlack}
+use Rattle.demand.specs.Why.{slack, least_slack}
 use Rattle.verdicts.specs.declared.slacks.Sought.{Sought}
 use Rattle.verdicts.specs.declared.slacks.Sought.TheVariants.{Over, Least}
 use Rattle.verdicts.specs.declared.spans.Hunted.{Hunted}
@@ -50,4 +50,4 @@ pub record Leads (g : ℕ → ℕ) (a l best end : ℕ) : Type 0 where
 -- where there is no overloaded length in the span, the length with the least slack
 abbrev pub Seeks : (ℕ → ℕ) → ℕ → ℕ → Sought → Type 0
 Seeks g a l (Over t x) = Hit g a l t × (x ≡ g t)
-Seeks g a l (Least t x) = Quiet g a (a + l) × (t ≡ leastSlack g a (l - 1)) × (x ≡ g t)
+Seeks g a l (Least t x) = Quiet g a (a + l) × (t ≡ least_slack g a (l - 1)) × (x ≡ g t)

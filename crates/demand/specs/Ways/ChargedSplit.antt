@@ -1,9 +1,9 @@
 -- The split of a task over the charged pieces qs of a core. It is a way and no meaning: what a split means stands in `specs/Split.antt`, and
 -- `proofs/ChargedSplitLaws.antt` leads from here to there.
 --
---   withFirst c qs p x w   the core qs with the first piece of x behind, in the window w
---   lastAlone c p x w      the core that the last piece has to itself
---   tightBeside c qs p x t what the first piece of x waits for within t
+--   with_first c qs p x w   the core qs with the first piece of x behind, in the window w
+--   last_alone c p x w      the core that the last piece has to itself
+--   tight_beside c qs p x t what the first piece of x waits for within t
 --   Tight c qs p x t       J + t is the tight window of the first piece of x
 --   Fits c qs p x t        `Allowed`, over charged pieces
 --   NoneAbove c g qs p x   no candidate above x fits
@@ -20,27 +20,27 @@ use Rattle.demand.specs.declared.Verdict.TheVariants.{Passes}
 use Rattle.demand.specs.declared.Split.{Split}
 use Rattle.demand.specs.declared.Split.TheVariants.{Cut, Nowhere}
 use Rattle.demand.specs.Charge.{charged, stall}
-use Rattle.demand.specs.Busy.{Least, Holds, tightSum}
+use Rattle.demand.specs.Busy.{Least, Holds, tight_sum}
 use Rattle.demand.specs.Verdict.{verdict}
-use Rattle.demand.specs.Split.{firstPiece, lastPiece, Candidate}
+use Rattle.demand.specs.Split.{first_piece, last_piece, Candidate}
 
-unfoldable pub withFirst : Costs → List Charged → Piece → ℕ → ℕ → List Charged
-withFirst c qs p x w = qs ++ (charged c (firstPiece p x w) ∷ [])
+unfoldable pub with_first : Costs → List Charged → Piece → ℕ → ℕ → List Charged
+with_first c qs p x w = qs ++ (charged c (first_piece p x w) ∷ [])
 
-unfoldable pub lastAlone : Costs → Piece → ℕ → ℕ → List Charged
-lastAlone c p x w = charged c (lastPiece c p x w) ∷ []
+unfoldable pub last_alone : Costs → Piece → ℕ → ℕ → List Charged
+last_alone c p x w = charged c (last_piece c p x w) ∷ []
 
-unfoldable pub tightBeside : Costs → List Charged → Piece → ℕ → ℕ → ℕ
-tightBeside c qs p x t = tightSum (stall c) (withFirst c qs p x 0) (charged c (firstPiece p x 0)) t
+unfoldable pub tight_beside : Costs → List Charged → Piece → ℕ → ℕ → ℕ
+tight_beside c qs p x t = tight_sum (stall c) (with_first c qs p x 0) (charged c (first_piece p x 0)) t
 
 abbrev pub Tight : Costs → List Charged → Piece → ℕ → ℕ → Type 0
-Tight c qs p x t = Least (Holds (tightBeside c qs p x)) t
+Tight c qs p x t = Least (Holds (tight_beside c qs p x)) t
 
 pub record Fits (c : Costs) (qs : List Charged) (p : Piece) (x t : ℕ) : Type 0 where
   pub tight : Tight c qs p x t
   pub room : p.jitter + t + 1 ≤ p.window
-  pub here : verdict (stall c) (withFirst c qs p x (p.jitter + t)) ≡ Passes
-  pub there : verdict (stall c) (lastAlone c p x (p.jitter + t)) ≡ Passes
+  pub here : verdict (stall c) (with_first c qs p x (p.jitter + t)) ≡ Passes
+  pub there : verdict (stall c) (last_alone c p x (p.jitter + t)) ≡ Passes
 
 abbrev pub NoneAbove : Costs → ℕ → List Charged → Piece → ℕ → Type 0
 NoneAbove c g qs p x = (y u : ℕ) → x < y → Candidate g p y → Fits c qs p y u → ⊥

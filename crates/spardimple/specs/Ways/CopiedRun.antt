@@ -5,10 +5,10 @@
 use Rattle.std.specs.Prelude.{◌≡◌, List, ◌≤◌, length, take}
 use Rattle.demand.specs.declared.Piece.{Piece}
 use Rattle.demand.specs.declared.Run.{Run}
-use Rattle.demand.specs.Sizes.{runMost}
+use Rattle.demand.specs.Sizes.{run_most}
 
 abbrev pub CopiedIn : List Piece → List Piece → Type 0
-CopiedIn ps qs = length ps ≤ runMost → take (length ps) qs ≡ ps
+CopiedIn ps qs = length ps ≤ run_most → take (length ps) qs ≡ ps
 
 pub record Copied (ps : List Piece) (r : Run) : Type 0 where
   pub counts : r.count ≡ length ps

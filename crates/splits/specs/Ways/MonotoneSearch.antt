@@ -12,8 +12,8 @@ use Rattle.splits.specs.declared.monotone_search.Probe.TheVariants.{Window, Call
 use Rattle.demand.specs.Busy.{Holds}
 use Rattle.demand.specs.Demand.{total}
 use Rattle.verdicts.specs.Laid.{term}
-use Rattle.demand.specs.Sizes.{busyMost}
-use Rattle.demand.specs.ways.Ranges.{stallMost}
+use Rattle.demand.specs.Sizes.{busy_most}
+use Rattle.demand.specs.Ways.Ranges.{stall_most}
 
 abbrev pub ShowsIf : Type 0 → Bool → Type 0
 ShowsIf P true = P
@@ -25,9 +25,9 @@ ProbeRefuses qs (Calls come) m = come ≤ total (term Interrupts m) qs
 ProbeRefuses qs (Due most) m = most < total (term Jobs m) qs
 
 abbrev pub Askable : Probe → Type 0
-Askable (Window base top) = (base ≤ 9000000) × (top ≤ busyMost)
+Askable (Window base top) = (base ≤ 9000000) × (top ≤ busy_most)
 Askable (Calls come) = Unit {0}
-Askable (Due most) = most ≤ stallMost
+Askable (Due most) = most ≤ stall_most
 
 pub record Lowered (P : ℕ → Type 0) (top r : ℕ) : Type 0 where
   pub most : r ≤ top

@@ -20,25 +20,25 @@ use Rattle.splits.specs.declared.charge_bounds.Bound.{Bound}
 use Rattle.splits.specs.declared.charge_bounds.Bound.TheVariants.{Stands, Falls, AtMost}
 use Rattle.splits.specs.declared.split_search.Step.{Step}
 use Rattle.splits.specs.declared.split_search.Step.TheVariants.{Done, Below}
-use Rattle.demand.specs.Sizes.{runMost, Each}
-use Rattle.demand.specs.ways.Ranges.{Ranged}
+use Rattle.demand.specs.Sizes.{run_most, Each}
+use Rattle.demand.specs.Ways.Ranges.{Ranged}
 use Rattle.demand.specs.Charge.{stall}
 use Rattle.demand.specs.Verdict.{verdict}
-use Rattle.demand.specs.ways.ChargedSplit.{lastAlone, Tight, Fits, NoneBetween}
-use Rattle.verdicts.specs.ChargedArray.{chargedIn}
+use Rattle.demand.specs.Ways.ChargedSplit.{last_alone, Tight, Fits, NoneBetween}
+use Rattle.verdicts.specs.ChargedArray.{charged_in}
 
 pub record Weighs (q : Charged) : Type 0 where
   pub some : 1 ≤ q.charge
 
 pub record Ready (a : List ℕ) (n : ℕ) : Type 0 where
-  pub room : n < runMost
-  pub ranged : Each Ranged (chargedIn a n)
-  pub weighs : Each Weighs (chargedIn a n)
-  pub long : length a ≡ 7 * runMost
+  pub room : n < run_most
+  pub ranged : Each Ranged (charged_in a n)
+  pub weighs : Each Weighs (charged_in a n)
+  pub long : length a ≡ 7 * run_most
 
 pub record SameCore (a b : List ℕ) (n : ℕ) : Type 0 where
-  pub same : chargedIn b n ≡ chargedIn a n
-  pub long : length b ≡ 7 * runMost
+  pub same : charged_in b n ≡ charged_in a n
+  pub long : length b ≡ 7 * run_most
 
 abbrev pub Steps : Costs → List Charged → Piece → ℕ → Step → Type 0
 Steps c qs p x (Done w) = (t : ℕ) × Fits c qs p x t × (w ≡ p.jitter + t)
@@ -51,12 +51,12 @@ abbrev pub Skips : Costs → List Charged → Piece → ℕ → ℕ → Type 0
 Skips c qs p r x = (r < x) × ((z u : ℕ) → r < z → z < x → Fits c qs p z u → ⊥)
 
 abbrev pub Hopeless : Costs → Piece → ℕ → ℕ → ℕ → Type 0
-Hopeless c p x w s = (y v : ℕ) → y ≤ x → v ≤ w → w ≤ v + (x - y) + s → verdict (stall c) (lastAlone c p y v) ≡ Passes → ⊥
+Hopeless c p x w s = (y v : ℕ) → y ≤ x → v ≤ w → w ≤ v + (x - y) + s → verdict (stall c) (last_alone c p y v) ≡ Passes → ⊥
 
 abbrev pub LastBounds : Costs → Piece → ℕ → ℕ → Bound → Type 0
-LastBounds c p x w Stands = verdict (stall c) (lastAlone c p x w) ≡ Passes
+LastBounds c p x w Stands = verdict (stall c) (last_alone c p x w) ≡ Passes
 LastBounds c p x w (Falls s) = Hopeless c p x w s
-LastBounds c p x w (AtMost f) = (f < x) × ((y v : ℕ) → y ≤ x → verdict (stall c) (lastAlone c p y v) ≡ Passes → ⊥)
+LastBounds c p x w (AtMost f) = (f < x) × ((y v : ℕ) → y ≤ x → verdict (stall c) (last_alone c p y v) ≡ Passes → ⊥)
 
 abbrev pub Ends : Costs → List Charged → Piece → ℕ → Type 0
 Ends c qs p e = (x t : ℕ) → 1 ≤ x → Fits c qs p x t → t < e
