@@ -9,7 +9,7 @@
 --   charged-tells            its charged time, by what the two size tests tell
 --   charged-time-is          and within the sizes it is C'
 --   core-snoc, core-more     the pieces of a core, one more
-use mathlib.Core.Path.{◌≡◌, refl, sym, ap, ◌∙◌}
+use mathlib.Core.Path.{◌≡◌, refl, sym, ap}
 use mathlib.Core.Bool.{Bool, true, false, cond, ◌&&◌}
 use mathlib.Core.List.{List, [], ◌∷◌, ◌++◌, map}
 use Prim.Native.Nat.{ℕ, ◌+◌, ◌*◌, ◌≤◌, ◌<◌, zero-le}

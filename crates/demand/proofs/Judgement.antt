@@ -8,7 +8,7 @@
 --   passes-means          "passes" comes exactly where both hold, over records within the sizes
 use mathlib.Core.Path.{◌≡◌, refl, subst}
 use mathlib.Core.List.{List, [], ◌∷◌}
-use mathlib.Core.Logic.{◌⊎◌, ◌↔◌, ⊎_elim, inl, inr}
+use mathlib.Core.Logic.{◌↔◌, ⊎_elim, inl, inr}
 use Prim.Native.Nat.{ℕ, ◌<◌}
 use Rattle.demand.specs.declared.Piece.{Piece}
 use Rattle.demand.specs.declared.Costs.{Costs}

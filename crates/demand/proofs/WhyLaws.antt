@@ -12,20 +12,18 @@
 use mathlib.Core.Path.{◌≡◌, refl, sym, ap, subst, ◌∙◌}
 use mathlib.Core.List.{List, [], ◌∷◌}
 use mathlib.Core.Logic.{⊎_elim}
-use Prim.Native.Nat.{ℕ, zero, suc, ◌+◌, ◌*◌, ◌-◌, ◌≤◌, ◌<◌}
+use Prim.Native.Nat.{ℕ, zero, suc, ◌+◌, ◌-◌, ◌≤◌, ◌<◌}
 use native.Mathlib.Decide.{dec_lt}
 use native.Mathlib.Omega.{arith}
 use borrow.Author.Tests.{lt-ltb, le-ltb}
 use lib.ListN.{length}
 use Rattle.demand.specs.declared.Charged.{Charged}
-use Rattle.demand.specs.declared.Ask.{Ask}
-use Rattle.demand.specs.declared.Shown.{Shown}
 use Rattle.demand.specs.declared.Found.{Found}
 use Rattle.demand.specs.declared.Found.TheVariants.{At, Nothing}
 use Rattle.demand.specs.declared.Verdict.{Verdict}
 use Rattle.demand.specs.declared.Verdict.TheVariants.{Passes, Overloaded, Undecided}
 use Rattle.demand.specs.Sizes.{busy_most}
-use Rattle.demand.specs.Demand.{ceil, total, jobs_due, interrupts, blocking, load, demand, Live, least_live}
+use Rattle.demand.specs.Demand.{total, blocking, load, demand, Live, least_live}
 use Rattle.demand.specs.Busy.{Least, Finds, least_holding, busy_load, busy_sum, busy_length}
 use Rattle.demand.specs.Verdict.{Judged, Calm, Means, scan, over_span, verdict}
 use Rattle.demand.specs.Why.{slack, LeastSlack, tighter, least_slack, due_ask, busy_ask, ask_sum, tightest_over, length_shown, shown_at, core_shown}

@@ -2,6 +2,8 @@
 // of it is here, in `specs/`, with the functions that are told in a line; `verdicts` finds verdicts and `splits` finds splits.
 //
 // Every public function takes any input, and its contract is an equation with one definition of `specs/`.
+#![tactic(auto)]
+
 mod charges;
 mod kinds;
 mod numbers;
@@ -35,7 +37,7 @@ pub const COST_MOST: u64 = 100000;
 pub const BUSY_MOST: u64 = 100000000;
 
 /// How a piece stands in its task: the whole of it, or the first or the last part of a split.
-#[derive(Drop)]
+#[derive(Clone, Copy)]
 pub enum Kind {
     Whole,
     First,
@@ -43,7 +45,7 @@ pub enum Kind {
 }
 
 /// A piece as a record gives it: budget x, window D, period T, jitter J, cache charges P and M.
-#[derive(Drop)]
+#[derive(Clone, Copy)]
 pub struct Piece {
     pub kind: Kind,
     pub budget: u64,
@@ -55,7 +57,7 @@ pub struct Piece {
 }
 
 /// The nine cost constants, in the sheet's order; `precision` is π.
-#[derive(Drop)]
+#[derive(Clone, Copy)]
 pub struct Costs {
     pub relo: u64,
     pub schedo: u64,
@@ -69,7 +71,7 @@ pub struct Costs {
 }
 
 /// A piece once it is charged: all that demand, busy length and verdict look at, with its kind gone.
-#[derive(Drop)]
+#[derive(Clone, Copy)]
 pub struct Charged {
     pub charge: u64,
     pub window: u64,
@@ -81,7 +83,7 @@ pub struct Charged {
 }
 
 /// The verdict on a core.
-#[derive(Drop)]
+#[derive(Clone, Copy)]
 pub enum Verdict {
     Passes,
     Overloaded(u64),
@@ -89,21 +91,21 @@ pub enum Verdict {
 }
 
 /// A length that is looked for up to a limit.
-#[derive(Drop)]
+#[derive(Clone, Copy)]
 pub enum Found {
     At(u64),
     Nothing,
 }
 
 /// A task's greatest allowed split: the first piece's budget x and its tight window, or none.
-#[derive(Drop)]
+#[derive(Clone, Copy)]
 pub enum Split {
     Cut(u64, u64),
     Nowhere,
 }
 
 /// Why a run of records is refused.
-#[derive(Drop)]
+#[derive(Clone, Copy)]
 pub enum Refusal {
     TooMany,
     BadCosts,
@@ -111,35 +113,35 @@ pub enum Refusal {
 }
 
 /// Whether a run of records is taken.
-#[derive(Drop)]
+#[derive(Clone, Copy)]
 pub enum Check {
     Fine,
     Bad(Refusal),
 }
 
 /// What is said of a run of records.
-#[derive(Drop)]
+#[derive(Clone, Copy)]
 pub enum Answer {
     Judged(Verdict),
     Refused(Refusal),
 }
 
 /// A figure of a run of records.
-#[derive(Drop)]
+#[derive(Clone, Copy)]
 pub enum Figure {
     Of(Found),
     Barred(Refusal),
 }
 
 /// What is said of splitting a task on the core of a run.
-#[derive(Drop)]
+#[derive(Clone, Copy)]
 pub enum Splitting {
     Best(Split),
     Denied(Refusal),
 }
 
 /// What a piece is shown to ask for: its jobs, their demand, its interrupts.
-#[derive(Drop)]
+#[derive(Clone, Copy)]
 pub struct Ask {
     pub jobs: u64,
     pub demand: u64,
@@ -147,7 +149,7 @@ pub struct Ask {
 }
 
 /// What is shown of a core: the verdict on it, and at one length the blocking and the total of what is asked for.
-#[derive(Drop)]
+#[derive(Clone, Copy)]
 pub struct Shown {
     pub verdict: Verdict,
     pub length: u64,
@@ -156,14 +158,14 @@ pub struct Shown {
 }
 
 /// What is shown of a run of records.
-#[derive(Drop)]
+#[derive(Clone, Copy)]
 pub enum Showing {
     Shows(Shown),
     Unshown(Refusal),
 }
 
 /// A run of piece records: the first `count` of `pieces`.
-#[derive(Drop)]
+#[derive(Clone, Copy)]
 pub struct Run {
     pub count: usize,
     pub pieces: [Piece; RUN_MOST],
