@@ -8,16 +8,14 @@
 --   charge-ranged                       q with another charge
 --   stalled-rest, -jobs, -over, -free, -fits      what fits at one length where the stall counts
 --   bound-most, -squeezed, -unsettled, -own, -never, -stands      what the core with q behind tells
-use mathlib.Core.Bool.{Bool, true, false}
 use mathlib.Core.Path.{◌≡◌, refl, sym, ap, ◌∙◌, subst}
 use mathlib.Core.List.{List, [], ◌∷◌, ◌++◌}
 use mathlib.Core.Logic.{◌⊎◌, ⊎_elim}
-use Prim.Native.Nat.{ℕ, zero, suc, ◌+◌, ◌*◌, ◌-◌, ◌/◌, ◌≤◌, ◌<◌, zero-le, min, max}
-use native.Mathlib.Nat.{mul-le-mul_right, mul-le-mul_left, zero-mul, not-suc-le-zero, le-div_iff_mul-le, mul-div-le}
+use Prim.Native.Nat.{ℕ, ◌+◌, ◌*◌, ◌-◌, ◌/◌, ◌≤◌, ◌<◌, zero-le, min, max}
+use native.Mathlib.Nat.{mul-le-mul_left, not-suc-le-zero, le-div_iff_mul-le}
 use native.Mathlib.Decide.{dec_lt}
 use native.Mathlib.Omega.{arith}
-use borrow.Author.Tests.{lt-ltb, le-ltb, ltb-true, ltb-false}
-use lib.Dec.{ltb}
+use borrow.Author.Tests.{lt-ltb, le-ltb}
 use lib.ListN.{length, length-append}
 use Rattle.demand.specs.declared.Charged.{Charged}
 use Rattle.demand.specs.declared.Found.{Found}

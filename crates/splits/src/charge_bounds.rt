@@ -18,7 +18,7 @@ use demand::{BUSY_MOST, Charged, Found, Verdict, greater, less, lesser};
 use verdicts::{CORE_NUMBERS, Sum};
 
 // What a core with a piece behind tells: it passes, it does not, with a length that shows it, or it does not with any charge of that piece above f.
-#[derive(Drop)]
+#[derive(Clone, Copy)]
 pub enum Bound {
     Stands,
     Falls(u64),

@@ -1,4 +1,6 @@
 // The greatest split of a task on a core, found by asking `verdicts` about a core that is laid out once. What a split means stands in `demand`.
+#![tactic(auto)]
+
 mod charge_bounds;
 mod engine;
 mod laying;

@@ -12,7 +12,7 @@ use verdicts::{CORE_NUMBERS, Sum};
 
 // What refuses a number m. A budget: no length up to the top holds it, the base and the interrupts. A length: so many interrupts have come by then, or jobs are
 // due that are charged more than that.
-#[derive(Drop)]
+#[derive(Clone, Copy)]
 pub enum Probe {
     Window(u64, u64),
     Calls(u64),

@@ -28,7 +28,7 @@ use demand::{Costs, Found, Piece, RUN_NUMBERS, Split, Verdict, first_piece, grea
 use verdicts::{CORE_NUMBERS, Sum};
 
 // What one candidate told: it is allowed, with its tight window, or how far down the next may stand.
-#[derive(Drop)]
+#[derive(Clone, Copy)]
 pub enum Step {
     Done(u64),
     Below(u64),

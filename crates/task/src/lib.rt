@@ -1,4 +1,6 @@
 // Names, times, tasks and the machine, and the rules that they keep: document 01, "Sizes" and "Refusal numbers".
+#![tactic(auto)]
+
 mod names;
 
 ghost use Rattle.std.specs.Prelude.{◌≡◌, take};
@@ -17,14 +19,14 @@ pub const TASKS_MOST: usize = 64;
 pub const CORES_MOST: usize = 16;
 
 /// A name: its length, its bytes, and zeros to 24.
-#[derive(Drop)]
+#[derive(Clone, Copy)]
 pub struct Name {
     pub len: usize,
     pub bytes: [u8; NAME_MOST],
 }
 
 /// The times of a part or a task: C, D, T, J, P and M.
-#[derive(Drop)]
+#[derive(Clone, Copy)]
 pub struct Times {
     pub worst: u64,
     pub deadline: u64,
@@ -35,35 +37,35 @@ pub struct Times {
 }
 
 /// A part: a name, and the times that a task fitted with it has.
-#[derive(Drop)]
+#[derive(Clone, Copy)]
 pub struct Part {
     pub name: Name,
     pub times: Times,
 }
 
 /// A list of parts: the first `count` of `list`.
-#[derive(Drop)]
+#[derive(Clone, Copy)]
 pub struct Parts {
     pub count: usize,
     pub list: [Part; TASKS_MOST],
 }
 
 /// A task: a name with its times.
-#[derive(Drop)]
+#[derive(Clone, Copy)]
 pub struct Task {
     pub name: Name,
     pub times: Times,
 }
 
 /// A list of tasks: the first `count` of `list`.
-#[derive(Drop)]
+#[derive(Clone, Copy)]
 pub struct Tasks {
     pub count: usize,
     pub list: [Task; TASKS_MOST],
 }
 
 /// m cores, and the grain of splits.
-#[derive(Drop)]
+#[derive(Clone, Copy)]
 pub struct Machine {
     pub cores: usize,
     pub grain: u64,

@@ -8,16 +8,14 @@
 --   passed_start, passed-look, passed-done    the walk down, one look more
 --   lowers-none, lowers-look, lowers-below    what a look leaves: nothing; less, with a second look to come; or what goes on below
 use mathlib.Core.Bool.{Bool, true, false}
-use mathlib.Core.Path.{◌≡◌, refl, sym, ap, ◌∙◌, subst}
-use mathlib.Core.List.{List, [], ◌∷◌, ◌++◌}
-use mathlib.Core.Logic.{◌⊎◌, ⊎_elim}
-use Prim.Native.Nat.{ℕ, zero, suc, ◌+◌, ◌*◌, ◌-◌, ◌/◌, ◌≤◌, ◌<◌, zero-le, min, max}
-use native.Mathlib.Nat.{mul-le-mul_right, mul-le-mul_left, zero-mul, not-suc-le-zero, le-div_iff_mul-le, mul-div-le}
+use mathlib.Core.Path.{◌≡◌, refl, subst}
+use mathlib.Core.List.{List}
+use Prim.Native.Nat.{ℕ, zero, suc, ◌+◌, ◌*◌, ◌-◌, ◌/◌, ◌≤◌, ◌<◌, zero-le}
+use native.Mathlib.Nat.{mul-le-mul_right, mul-le-mul_left, zero-mul, le-div_iff_mul-le, mul-div-le}
 use native.Mathlib.Decide.{dec_lt}
 use native.Mathlib.Omega.{arith}
-use borrow.Author.Tests.{lt-ltb, le-ltb, ltb-true, ltb-false}
+use borrow.Author.Tests.{ltb-true, ltb-false}
 use lib.Dec.{ltb}
-use lib.ListN.{length, length-append}
 use Rattle.demand.specs.declared.Charged.{Charged}
 use Rattle.verdicts.specs.declared.most_fitting.Lowering.{Lowering}
 use Rattle.demand.specs.Sizes.{Tells}

@@ -10,7 +10,7 @@
 --   laid_span b a l c     the greatest overloaded length among the l from a
 --   laid_verdict b c      the verdict on it
 --   laid_most_fitting b q a l f c      the greatest charge up to f with which q fits beside it at the l lengths from a, or 0
-use Rattle.std.specs.Prelude.{Bool, true, false, cond, ◌&&◌, List, [], ◌∷◌, ℕ, ◌+◌, ◌*◌, leb}
+use Rattle.std.specs.Prelude.{Bool, true, cond, ◌&&◌, List, [], ◌∷◌, ℕ, ◌+◌, ◌*◌, leb}
 use Rattle.demand.specs.declared.Charged.{Charged}
 use Rattle.demand.specs.declared.Found.{Found}
 use Rattle.demand.specs.declared.Found.TheVariants.{Nothing}

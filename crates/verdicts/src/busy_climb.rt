@@ -15,7 +15,7 @@ use crate::release_sums::held_from;
 use demand::{Charged, Found, greater};
 
 // What one pass at l tells: the busy sum there, the shares of the pieces that flow, 2^32 being all time, and the work of the others.
-#[derive(Drop)]
+#[derive(Clone, Copy)]
 pub struct Flow {
     pub asked: u64,
     pub share: u64,

@@ -4,6 +4,8 @@
 // `lay_records` and `lay_piece`, and asked about as often as needed by the functions in `laid_`, which refuse an array that holds no core (`specs/Laid.antt`).
 //
 // Every public function takes any input, and its contract is an equation with one definition.
+#![tactic(auto)]
+
 mod arrays;
 mod busy_climb;
 mod charges;
@@ -64,7 +66,7 @@ pub const MARKS_MOST: usize = 1024;
 pub const MARKS_LAST: usize = MARKS_MOST - 1;
 
 /// Which figure of the pieces is summed: what they ask for within a length, and of that the interrupts and the jobs due alone; or what they ask of it as a busy length.
-#[derive(Drop)]
+#[derive(Clone, Copy)]
 pub enum Sum {
     Load,
     Interrupts,

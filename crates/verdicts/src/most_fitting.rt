@@ -15,7 +15,7 @@ use crate::stretches::stretch_start;
 use demand::{Charged, greater, less, lesser};
 
 // What a length told: the greatest charge that fits there, what is asked for beside it, and how many jobs are charged.
-#[derive(Drop)]
+#[derive(Clone, Copy)]
 pub struct Look {
     pub charge: u64,
     pub rest: u64,
@@ -24,7 +24,7 @@ pub struct Look {
 
 // Where the walk stands: what is left of the charge, the end from which on that fits, and the length to look at next. Where that is not the last below the end, the charge
 // was lowered at the last, and the rest and the jobs are what is asked for there.
-#[derive(Drop)]
+#[derive(Clone, Copy)]
 pub struct Lowering {
     pub charge: u64,
     pub end: u64,

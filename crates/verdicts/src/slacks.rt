@@ -15,7 +15,7 @@ use crate::stretches::stretch_start;
 use demand::{greater, less, lesser};
 
 // What is found of a span: a length, and the demand there.
-#[derive(Drop)]
+#[derive(Clone, Copy)]
 pub enum Sought {
     Over(u64, u64),
     Least(u64, u64),

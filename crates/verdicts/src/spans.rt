@@ -13,7 +13,7 @@ use crate::demands::{demand_at, largest_window, least_live};
 use demand::{Found, Verdict, greater};
 
 // What a hunt finds: a length, and the demand there.
-#[derive(Drop)]
+#[derive(Clone, Copy)]
 pub enum Hunted {
     Struck(u64, u64),
     Missed,

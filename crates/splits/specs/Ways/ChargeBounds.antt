@@ -7,7 +7,7 @@
 --   Settles qs q f        with q charged f the core qs has a busy length
 --   Unsettled qs q f      it has none with f or more
 --   Bounds b qs q r       what the core qs with q behind tells
-use Rattle.std.specs.Prelude.{Bool, true, false, ◌≡◌, List, [], ◌∷◌, ◌++◌, ℕ, ◌+◌, ◌*◌, ◌≤◌, ◌<◌, zero, suc, ltb}
+use Rattle.std.specs.Prelude.{◌≡◌, List, [], ◌∷◌, ◌++◌, ℕ, ◌+◌, ◌*◌, ◌≤◌, ◌<◌}
 use Rattle.demand.specs.declared.Charged.{Charged}
 use Rattle.splits.specs.declared.charge_bounds.Bound.{Bound}
 use Rattle.splits.specs.declared.charge_bounds.Bound.TheVariants.{Stands, Falls, AtMost}
