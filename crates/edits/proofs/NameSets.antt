@@ -7,7 +7,7 @@
 --   Clean t                a task of right form and sizes
 --   place_none, place-unnamed    the place of a name that no task has
 --   faults-known, faults-none    no fault down a list, told by its tasks
-use mathlib.Core.Path.{◌≡◌, refl, sym, ap, ◌∙◌}
+use mathlib.Core.Path.{◌≡◌, refl, sym, ◌∙◌}
 use mathlib.Core.Bool.{Bool, true, false, cond}
 use mathlib.Core.List.{List, [], ◌∷◌, ◌++◌}
 use Prim.Native.Nat.{ℕ, ◌+◌, ◌≤◌}

@@ -1,4 +1,6 @@
 // The three edits on a held plan: document 01, "Edits on a held plan".
+#![tactic(auto)]
+
 mod lists;
 
 ghost use Rattle.std.specs.Prelude.{◌≡◌};

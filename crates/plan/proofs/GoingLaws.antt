@@ -12,14 +12,11 @@
 use mathlib.Core.Path.{◌≡◌, refl, sym, ap, ◌∙◌}
 use mathlib.Core.Bool.{false}
 use mathlib.Core.List.{List, [], ◌∷◌, ◌++◌, map, append_assoc}
-use mathlib.Core.Logic.{⊎_elim}
 use Prim.Native.Nat.{ℕ, zero, suc, ◌+◌, ◌-◌, ◌<◌, ◌≤◌}
 use native.Mathlib.Numerals.{add-one}
 use native.Mathlib.Omega.{arith}
 use lib.ListN.{length, take, set, length-append, length-map, length-set}
 use lib.Seq.{length-take-le}
-use types.Run.{OneOf}
-use denote.Enum.Declared.{tag_of}
 use Rattle.demand.specs.declared.Piece.{Piece}
 use Rattle.demand.specs.declared.Costs.{Costs}
 use Rattle.demand.specs.declared.Verdict.{Verdict}
@@ -31,7 +28,6 @@ use Rattle.demand.specs.Split.{first_piece, last_piece, passes, greatest_split}
 use Rattle.demand.specs.Verdict.{verdict_of}
 use Rattle.demand.proofs.KindLaws.{kind-back}
 use Rattle.demand.proofs.Sums.{each_snoc, each-imp}
-use Rattle.demand.specs.contracts.Verdict as verdict-type
 use Rattle.plan.specs.declared.Going.{Going}
 use Rattle.plan.specs.Layout.{stored, kept_piece}
 use Rattle.plan.specs.Ways.PlacedArray.{seat_of, placed_at, placed_in, Put}
@@ -155,8 +151,8 @@ stick-reach h k base placed records = (add-one k, refl, refl)
 -- ---- the four rules
 
 -- anything but a pass
-pub not-passes : (v : Verdict) → OneOf (1 ∷ 2 ∷ []) (tag_of verdict-type.the_type v) → passes v ≡ false
-not-passes Passes h = absurd (⊎_elim (λ z. omega arith) (λ z. omega arith) h)
+pub not-passes : (v : Verdict) → (v ≡ Passes → ⊥) → passes v ≡ false
+not-passes Passes h = absurd (h refl)
 not-passes (Overloaded t) h = refl
 not-passes Undecided h = refl
 

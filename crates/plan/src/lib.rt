@@ -1,4 +1,6 @@
 // The C=D walk and the plan that it gives: document 01, "The C=D walk" and "Edits on a held plan".
+#![tactic(auto)]
+
 mod layouts;
 mod orders;
 mod rows;
@@ -30,7 +32,7 @@ pub const PLACED_NUMBERS: usize = 9 * PIECES_MOST;
 pub const TIMES_NUMBERS: usize = 6 * TASKS_MOST;
 
 /// A piece as the plan keeps it: its task's place, from 0, its kind's number (0 whole, 1 first, 2 last), and its figures.
-#[derive(Drop)]
+#[derive(Clone, Copy)]
 pub struct Stored {
     pub task: usize,
     pub kind: u64,
@@ -44,7 +46,7 @@ pub struct Stored {
 
 /// What the walk placed: the pieces in placement order; each core's row of piece numbers, 64 to a core, and how long it is; each core's word,
 /// with a bit by place in the task list for every task that has a piece there. Zeros fill what is not used.
-#[derive(Drop)]
+#[derive(Clone, Copy)]
 pub struct Layout {
     pub count: usize,
     pub pieces: [Stored; PIECES_MOST],
@@ -54,7 +56,7 @@ pub struct Layout {
 }
 
 /// A plan: machine, costs, task list, and what the walk over them placed.
-#[derive(Drop)]
+#[derive(Clone, Copy)]
 pub struct Plan {
     pub machine: Machine,
     pub costs: Costs,
@@ -63,7 +65,7 @@ pub struct Plan {
 }
 
 /// An answer: document 01's refusal number with what it carries, or 0 and 0, and a plan beside it.
-#[derive(Drop)]
+#[derive(Clone, Copy)]
 pub struct Reply {
     pub number: u64,
     pub carries: usize,
@@ -71,7 +73,7 @@ pub struct Reply {
 }
 
 /// A placed piece: its core, from 0, its task's place, and the piece.
-#[derive(Drop)]
+#[derive(Clone, Copy)]
 pub struct Seat {
     pub core: usize,
     pub task: usize,
@@ -79,14 +81,14 @@ pub struct Seat {
 }
 
 /// A core's row on the walk: the numbers of its pieces, in placement order.
-#[derive(Drop)]
+#[derive(Clone, Copy)]
 pub struct Row {
     pub len: usize,
     pub numbers: [usize; ROW_MOST],
 }
 
 /// A walk under way: the core, its row, and how many pieces are placed; or the place, from 1, of the task that it stuck at.
-#[derive(Drop)]
+#[derive(Clone, Copy)]
 pub struct Going {
     pub stuck: usize,
     pub core: usize,
