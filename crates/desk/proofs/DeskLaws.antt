@@ -22,33 +22,33 @@ pub after-line : (l : Pending) (s : Plan) (o : Order) (r : Reply) → o ≡ orde
 unfolding after_line
 after-line l s o r order reply = ap (λ (x : Reply). x.plan) reply ∙ ap (λ (x : Order). (reply_to x s).plan) order
 
-abbrev pub desk : Plan → Plan → Pending → Desk
-desk s p l = record { start = s; plan = p; line = l }
+abbrev pub desk : Plan → Pending → Desk
+desk p l = record { plan = p; line = l }
 
-module _ (s p q : Plan) (l m : Pending) (b : ℕ) where
-  pub after-newline : b ≡ newline → q ≡ after_line l p → m ≡ fresh → after_byte (desk s p l) b ≡ desk s q m
+module _ (p q : Plan) (l m : Pending) (b : ℕ) where
+  pub after-newline : b ≡ newline → q ≡ after_line l p → m ≡ fresh → after_byte (desk p l) b ≡ desk q m
   unfolding after_byte
   after-newline ends after none = rw (eq-eqb b newline ends, after, none)
 
-  pub after-other : (b ≡ newline → ⊥) → q ≡ p → m ≡ with_byte l b → after_byte (desk s p l) b ≡ desk s q m
+  pub after-other : (b ≡ newline → ⊥) → q ≡ p → m ≡ with_byte l b → after_byte (desk p l) b ≡ desk q m
   unfolding after_byte
   after-other other same more = rw (ne_eqb b newline other, same, more)
 
-module _ (s p : Plan) (l : Pending) (bs : List ℕ) (i : ℕ) where
-  pub played-end : length bs ≤ i → played_bytes (desk s p l) (drop i bs) ≡ desk s p l
+module _ (p : Plan) (l : Pending) (bs : List ℕ) (i : ℕ) where
+  pub played-end : length bs ≤ i → played_bytes (desk p l) (drop i bs) ≡ desk p l
   unfolding played_bytes
   played-end short = rw (drop_of_length-le bs {i = i} short)
 
   module _ (low : i < length bs) where
-    played-more : played_bytes (desk s p l) (drop i bs) ≡ played_bytes (after_byte (desk s p l) (get_or bs i 0)) (drop (i + 1) bs)
+    played-more : played_bytes (desk p l) (drop i bs) ≡ played_bytes (after_byte (desk p l) (get_or bs i 0)) (drop (i + 1) bs)
     unfolding played_bytes
     played-more = rw (add-one, drop-cons bs i 0 low)
 
     module _ (q : Plan) (m : Pending) where
       pub played-newline : get_or bs i 0 ≡ newline → q ≡ after_line l p → m ≡ fresh
-          → played_bytes (desk s p l) (drop i bs) ≡ played_bytes (desk s q m) (drop (i + 1) bs)
-      played-newline ends after none = played-more ∙ ap (λ (d : Desk). played_bytes d (drop (i + 1) bs)) (after-newline s p q l m (get_or bs i 0) ends after none)
+          → played_bytes (desk p l) (drop i bs) ≡ played_bytes (desk q m) (drop (i + 1) bs)
+      played-newline ends after none = played-more ∙ ap (λ (d : Desk). played_bytes d (drop (i + 1) bs)) (after-newline p q l m (get_or bs i 0) ends after none)
 
       pub played-other : (get_or bs i 0 ≡ newline → ⊥) → q ≡ p → m ≡ with_byte l (get_or bs i 0)
-          → played_bytes (desk s p l) (drop i bs) ≡ played_bytes (desk s q m) (drop (i + 1) bs)
-      played-other other same more = played-more ∙ ap (λ (d : Desk). played_bytes d (drop (i + 1) bs)) (after-other s p q l m (get_or bs i 0) other same more)
+          → played_bytes (desk p l) (drop i bs) ≡ played_bytes (desk q m) (drop (i + 1) bs)
+      played-other other same more = played-more ∙ ap (λ (d : Desk). played_bytes d (drop (i + 1) bs)) (after-other p q l m (get_or bs i 0) other same more)

@@ -2,7 +2,7 @@
 -- Assumes nothing.
 --
 --   chunks-join       bytes in two parts are played as they are in one
---   script-plays      the plan after a script is the one that its lines' edits give, one after the other; the plan at the start is the same
+--   script-plays      the plan after a script is the one that its lines' edits give, one after the other
 --   cut-plan          a last line without its newline leaves the plan as it is
 --   cut-told          and something of it is held, unless there is none
 use mathlib.Core.Path.{◌≡◌, refl, sym, ap, ◌∙◌}
@@ -32,43 +32,40 @@ chunks-join d (b ∷ bs) cs = chunks-join (after_byte d b) bs cs
 
 -- ---- one line
 
--- the plans are s and p still, and the bytes l of a line have come
-record Going (s p : Plan) (l : List ℕ) (d : Desk) : Type 0 where
-  pub start : d.start ≡ s
+-- the plan is p still, and the bytes l of a line have come
+record Going (p : Plan) (l : List ℕ) (d : Desk) : Type 0 where
   pub plan : d.plan ≡ p
   pub line : Holds l d.line
 
-played-on : (s p : Plan) (q : Pending) (b : ℕ) (bs : List ℕ) → (b ≡ newline → ⊥)
-    → played_bytes (desk s p q) (b ∷ bs) ≡ played_bytes (desk s p (with_byte q b)) bs
+played-on : (p : Plan) (q : Pending) (b : ℕ) (bs : List ℕ) → (b ≡ newline → ⊥) → played_bytes (desk p q) (b ∷ bs) ≡ played_bytes (desk p (with_byte q b)) bs
 unfolding played_bytes
-played-on s p q b bs other = ap (λ (d : Desk). played_bytes d bs) (after-other s p p q (with_byte q b) b other refl refl)
+played-on p q b bs other = ap (λ (d : Desk). played_bytes d bs) (after-other p p q (with_byte q b) b other refl refl)
 
-go-on : (s p : Plan) (m l : List ℕ) (q : Pending) → Holds m q → Unbroken l → Going s p (m ++ l) (played_bytes (desk s p q) l)
+go-on : (p : Plan) (m l : List ℕ) (q : Pending) → Holds m q → Unbroken l → Going p (m ++ l) (played_bytes (desk p q) l)
 unfolding played_bytes
-go-on s p m [] q h u = record { start = refl; plan = refl; line = rw (append-nil m) h }
-go-on s p m (b ∷ l) q h u =
-    rw (played-on s p q b l u.0, ← append_assoc m (b ∷ []) l) (go-on s p (m ++ (b ∷ [])) l (with_byte q b) (holds_more m q h b) u.1)
+go-on p m [] q h u = record { plan = refl; line = rw (append-nil m) h }
+go-on p m (b ∷ l) q h u =
+    rw (played-on p q b l u.0, ← append_assoc m (b ∷ []) l) (go-on p (m ++ (b ∷ [])) l (with_byte q b) (holds_more m q h b) u.1)
 
-module _ (s p : Plan) (l : List ℕ) (u : Unbroken l) where
-  come : Going s p l (played_bytes (desk s p fresh) l)
-  come = go-on s p [] l fresh holds-none u
+module _ (p : Plan) (l : List ℕ) (u : Unbroken l) where
+  come : Going p l (played_bytes (desk p fresh) l)
+  come = go-on p [] l fresh holds-none u
 
-  ended : (d : Desk) → Going s p l d → after_byte d newline ≡ desk s (reply_to (order_of l) p).plan fresh
+  ended : (d : Desk) → Going p l d → after_byte d newline ≡ desk (reply_to (order_of l) p).plan fresh
   unfolding after_line
   ended d g =
-      after-newline d.start d.plan (after_line d.line d.plan) d.line fresh newline refl refl refl
-      ∙ ap (λ (o : Order). desk d.start (reply_to o d.plan).plan fresh) (holds-order l d.line g.line)
-      ∙ ap (λ (r : Plan). desk d.start (reply_to (order_of l) r).plan fresh) g.plan
-      ∙ ap (λ (r : Plan). desk r (reply_to (order_of l) p).plan fresh) g.start
+      after-newline d.plan (after_line d.line d.plan) d.line fresh newline refl refl refl
+      ∙ ap (λ (o : Order). desk (reply_to o d.plan).plan fresh) (holds-order l d.line g.line)
+      ∙ ap (λ (s : Plan). desk (reply_to (order_of l) s).plan fresh) g.plan
 
-  line-plays : (rest : List ℕ) → played_bytes (desk s p fresh) (l ++ (newline ∷ rest)) ≡ played_bytes (desk s (reply_to (order_of l) p).plan fresh) rest
+  line-plays : (rest : List ℕ) → played_bytes (desk p fresh) (l ++ (newline ∷ rest)) ≡ played_bytes (desk (reply_to (order_of l) p).plan fresh) rest
   unfolding played_bytes
-  line-plays rest = chunks-join (desk s p fresh) l (newline ∷ rest) ∙ ap (λ (d : Desk). played_bytes d rest) (ended (played_bytes (desk s p fresh) l) come)
+  line-plays rest = chunks-join (desk p fresh) l (newline ∷ rest) ∙ ap (λ (d : Desk). played_bytes d rest) (ended (played_bytes (desk p fresh) l) come)
 
-  pub cut-plan : (played_bytes (desk s p fresh) l).plan ≡ p
+  pub cut-plan : (played_bytes (desk p fresh) l).plan ≡ p
   cut-plan = come.plan
 
-  pub cut-told : (played_bytes (desk s p fresh) l).line.len ≡ 0 → length l ≡ 0
+  pub cut-told : (played_bytes (desk p fresh) l).line.len ≡ 0 → length l ≡ 0
   cut-told none =
       elim (dec_le (length l) line_room) [
         | yes few ↦ omega (arith, come.line.short few)
@@ -82,19 +79,18 @@ reply-asked Deed.Add t p = refl
 reply-asked Deed.Withdraw t p = refl
 reply-asked Deed.Retime t p = refl
 reply-asked Deed.List t p = refl
-reply-asked Deed.Diff t p = refl
 reply-asked Deed.Other t p = refl
 
 played-append : (es fs : List TaskEdit) (p : Plan) → played (es ++ fs) p ≡ played fs (played es p)
 played-append [] fs p = refl
 played-append (e ∷ es) fs p = played-append es fs _
 
-pub script-plays : (ls : List (List ℕ)) (s p : Plan) → AllUnbroken ls → played_bytes (desk s p fresh) (written ls) ≡ desk s (played (asked ls) p) fresh
+pub script-plays : (ls : List (List ℕ)) (p : Plan) → AllUnbroken ls → played_bytes (desk p fresh) (written ls) ≡ desk (played (asked ls) p) fresh
 unfolding played_bytes
-script-plays [] s p u = refl
-script-plays (l ∷ ls) s p u =
+script-plays [] p u = refl
+script-plays (l ∷ ls) p u =
     let es = edits_by (order_of l).deed (order_of l).task in
-    line-plays s p l u.0 (written ls)
-    ∙ ap (λ (r : Plan). played_bytes (desk s r fresh) (written ls)) (reply-asked (order_of l).deed (order_of l).task p)
-    ∙ script-plays ls s (played es p) u.1
-    ∙ ap (λ (r : Plan). desk s r fresh) (sym (played-append es (asked ls) p))
+    line-plays p l u.0 (written ls)
+    ∙ ap (λ (s : Plan). played_bytes (desk s fresh) (written ls)) (reply-asked (order_of l).deed (order_of l).task p)
+    ∙ script-plays ls (played es p) u.1
+    ∙ ap (λ (s : Plan). desk s fresh) (sym (played-append es (asked ls) p))

@@ -1,4 +1,4 @@
--- A held plan, and a script of edits that is played on it: document 01, "Edits on a held plan"; document 02, E3. No contract can say what is read or written; these
+-- A held plan, and a script of edits that is played on it: document 01, "Edits on a held plan". No contract can say what is read or written; these
 -- say what each line is taken for and which plan is held after it.
 --
 --   line_most             the most bytes of a line that are looked at
@@ -6,7 +6,7 @@
 --   order_in l            what the line l says
 --   reply_to o s          what comes of the order o on the plan s
 --   after_line l s        the plan that is held after the line l
---   played_bytes d bs     the desk after the bytes bs; the plan at the start is the same
+--   played_bytes d bs     the desk after the bytes bs
 use Rattle.std.specs.Prelude.{cond, List, [], ◌∷◌, ℕ, ◌+◌, leb, eqb, take, set, replicate}
 use Rattle.task.specs.declared.Task.{Task}
 use Rattle.plan.specs.declared.Plan.{Plan}
@@ -45,7 +45,6 @@ reply_by Deed.Add t s = edit_of (Edit.add t) s
 reply_by Deed.Withdraw t s = edit_of (Edit.withdraw t.name) s
 reply_by Deed.Retime t s = edit_of (Edit.retime t) s
 reply_by Deed.List t s = accepted s
-reply_by Deed.Diff t s = accepted s
 reply_by Deed.Other t s = given_back s 8 0
 
 abbrev pub reply_to : Order → Plan → Reply
@@ -57,10 +56,7 @@ after_line l s = (reply_to (order_in l) s).plan
 -- ---- the bytes of a script
 
 unfoldable pub after_byte : Desk → ℕ → Desk
-after_byte d b =
-    cond (eqb b newline)
-    (record { start = d.start; plan = after_line d.line d.plan; line = fresh })
-    (record { start = d.start; plan = d.plan; line = with_byte d.line b })
+after_byte d b = cond (eqb b newline) (record { plan = after_line d.line d.plan; line = fresh }) (record { plan = d.plan; line = with_byte d.line b })
 
 unfoldable pub played_bytes : Desk → List ℕ → Desk
 played_bytes d [] = d

@@ -3,7 +3,7 @@
 --   Unbroken l       no byte of l is a newline
 --   AllUnbroken ls   no byte of any of the lines ls is
 --   written ls       the bytes of the lines ls, each ended by its newline
---   asked ls         the edits that the lines ls ask for, in their order; a listing, a difference and a line of no form ask for none
+--   asked ls         the edits that the lines ls ask for, in their order; a listing and a line of no form ask for none
 use Rattle.std.specs.Prelude.{◌≡◌, List, [], ◌∷◌, ◌++◌, ℕ}
 use Rattle.task.specs.declared.Task.{Task}
 use Rattle.walks.specs.Edits.{Edit}
@@ -29,7 +29,6 @@ edits_by Deed.Add t = Edit.add t ∷ []
 edits_by Deed.Withdraw t = Edit.withdraw t.name ∷ []
 edits_by Deed.Retime t = Edit.retime t ∷ []
 edits_by Deed.List t = []
-edits_by Deed.Diff t = []
 edits_by Deed.Other t = []
 
 abbrev pub asked : List (List ℕ) → List TaskEdit

@@ -3,7 +3,7 @@ ghost use Rattle.std.specs.Prelude.{◌≡◌, length};
 
 use libc::STDOUT_FILENO;
 use lines::Deed;
-use listing::{write_diff, write_listing};
+use listing::write_listing;
 use plan::{Plan, Reply};
 
 // A refusal: its number and what it carries.
@@ -22,34 +22,15 @@ fn listing_room() -> [u8; 8192]
     [0u8; 8192]
 }
 
-// Room for the listing of two plans.
-fn diff_room() -> [u8; 16384]
-    ensures { 16384 ≡ length result }
-{
-    [0u8; 16384]
-}
-
-// A listing of n bytes; 10 with its length, where it is longer than the room for it.
-fn show(room: &[u8], n: usize) {
-    if room.len() < n {
+// The listing of a plan; 10 with its length, where it is longer than the room for it.
+fn list(plan: Plan) {
+    let mut buf = listing_room();
+    let n = write_listing(plan, &mut buf);
+    if 8192 < n {
         refuse(10, n as u64);
         return;
     }
-    io::write_all(STDOUT_FILENO, &room[..n]);
-}
-
-// The listing of a plan.
-fn list(plan: Plan) {
-    let mut room = listing_room();
-    let n = write_listing(plan, &mut room);
-    show(&room, n);
-}
-
-// The listing of how a plan differs from the one at the start.
-fn diff(start: Plan, plan: Plan) {
-    let mut room = diff_room();
-    let n = write_diff(start, plan, &mut room);
-    show(&room, n);
+    io::write_all(STDOUT_FILENO, &buf[..n]);
 }
 
 // What came of an edit, or of a line of no form.
@@ -61,14 +42,13 @@ fn settle(number: u64, carries: usize) {
     io::write_all(STDOUT_FILENO, b"ok\n");
 }
 
-// What came of a line, where the plan at the start was that.
-pub fn tell(deed: Deed, start: Plan, reply: Reply) {
+// What came of a line.
+pub fn tell(deed: Deed, reply: Reply) {
     match deed {
         Deed::Add => settle(reply.number, reply.carries),
         Deed::Withdraw => settle(reply.number, reply.carries),
         Deed::Retime => settle(reply.number, reply.carries),
         Deed::List => list(reply.plan),
-        Deed::Diff => diff(start, reply.plan),
         Deed::Other => settle(reply.number, reply.carries),
     }
 }

@@ -1,6 +1,7 @@
-// A sheet and a script of edits, played: document 01, "Edits on a held plan"; document 02, E3. The argument names the sheet and the script comes by standard
-// input; each of its lines is answered by `ok`, by `refusal` with number and carry, or by a listing: of the plan held, or of how it differs from the one at the start.
-// `stdout` beside `src` is what must come out.
+// A sheet and a script of edits, played: document 01, "Edits on a held plan". The argument names the sheet and the script comes by standard
+// input; each of its lines is answered by `ok`, by `refusal` with number and carry, or by the listing. `stdout` beside `src` is what must come out.
+#![tactic(auto)]
+
 mod answers;
 mod play;
 mod script;
@@ -15,22 +16,21 @@ use script::fresh;
 use sheet::{Read, read_sheet};
 
 /// The bytes of a script's line so far. A line of more than 200 bytes is held as 201 of them: it is too long for any form.
-#[derive(Drop)]
+#[derive(Clone, Copy)]
 pub struct Pending {
     pub len: usize,
     pub bytes: [u8; 201],
 }
 
-/// The plan at the start, the one that is held, and the line under way.
-#[derive(Drop)]
+/// A held plan, and the line under way.
+#[derive(Clone, Copy)]
 pub struct Desk {
-    pub start: Plan,
     pub plan: Plan,
     pub line: Pending,
 }
 
 /// A desk, and whether more of the script may come.
-#[derive(Drop)]
+#[derive(Clone, Copy)]
 pub struct Turn {
     pub more: bool,
     pub desk: Desk,
@@ -77,11 +77,7 @@ fn play_some(desk: Desk) -> Turn {
 // Plays the whole script. A proved loop has to end, and nothing says that a script does: it counts its turns down, from a number that no run uses up.
 fn play_all(plan: Plan) {
     let line = fresh();
-    let desk = Desk {
-        start: plan,
-        plan,
-        line,
-    };
+    let desk = Desk { plan, line };
     let mut turn = Turn { more: true, desk };
     let mut turns = u64::MAX;
     while turns > 0 {

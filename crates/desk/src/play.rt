@@ -34,19 +34,18 @@ fn reply_to(order: Order, state: Plan) -> Reply
         Deed::Withdraw => withdraw(state, name),
         Deed::Retime => retime(state, name, times),
         Deed::List => keep(state, 0),
-        Deed::Diff => keep(state, 0),
         Deed::Other => keep(state, 8),
     }
 }
 
-// Answers a line, and hands back the plan that is held then. The plan at the start is for the answer alone.
-fn answer(start: Plan, state: Plan, line: Pending) -> Plan
+// Answers a line, and hands back the plan that is held then.
+fn answer(state: Plan, line: Pending) -> Plan
     ensures { result ≡ after_line line state }
 {
     let order = order_in(line);
     let deed = order.deed;
     let reply = reply_to(order, state);
-    tell(deed, start, reply);
+    tell(deed, reply);
     reply.plan
 }
 
@@ -54,19 +53,18 @@ fn answer(start: Plan, state: Plan, line: Pending) -> Plan
 pub fn play_bytes(desk: Desk, bytes: &[u8]) -> Desk
     ensures { result ≡ played_bytes desk bytes.now }
 {
-    let start = desk.start;
     let mut plan = desk.plan;
     let mut line = desk.line;
     let mut i = 0;
     while i < bytes.len() {
         let b = bytes[i];
         if b == 10 {
-            plan = answer(start, plan, line);
+            plan = answer(plan, line);
             line = fresh();
         } else {
             line = with_byte(line, b);
         }
         i += 1;
     }
-    Desk { start, plan, line }
+    Desk { plan, line }
 }

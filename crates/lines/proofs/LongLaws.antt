@@ -19,7 +19,7 @@ use Rattle.lines.specs.Lines.{bytes_of, tab, up_to, beyond, is_digit, every, unl
 use Rattle.task.specs.Tasks.{task_of}
 use Rattle.lines.specs.Forms.{untimed, no_line, part_line, times_of, numbered, values, part_form}
 use Rattle.lines.specs.declared.Order.{Order}
-use Rattle.lines.specs.Orders.{no_order, for_part, timed_form, withdraw_form, bare_form, deed_of, order_form, order_of}
+use Rattle.lines.specs.Orders.{no_order, for_part, timed_form, withdraw_form, list_form, deed_of, order_form, order_of}
 use Rattle.demand.proofs.Tests.{both_left, both_right}
 use Rattle.lines.proofs.SaysLaws.{name-short}
 
@@ -90,10 +90,10 @@ withdraw-long (f ∷ []) long = by-test (is_name f) refl
     by-test false e = refl
 withdraw-long (f ∷ g ∷ fs) long = refl
 
-bare-long : (d : Deed) (fs : List (List ℕ)) → 0 < span fs → bare_form d fs ≡ no_order
-unfolding bare_form
-bare-long d [] long = absurd (omega arith)
-bare-long d (f ∷ fs) long = refl
+list-long : (fs : List (List ℕ)) → 0 < span fs → list_form fs ≡ no_order
+unfolding list_form
+list-long [] long = absurd (omega arith)
+list-long (f ∷ fs) long = refl
 
 -- ---- a line
 
@@ -101,28 +101,24 @@ pub order-long : (l : List ℕ) → order_most < length l → order_of l ≡ no_
 unfolding order_of deed_of
 order-long l long =
     by_word (same_bytes (up_to tab l) (bytes_of "add")) (same_bytes (up_to tab l) (bytes_of "withdraw"))
-    (same_bytes (up_to tab l) (bytes_of "retime")) (same_bytes (up_to tab l) (bytes_of "list")) (same_bytes (up_to tab l) (bytes_of "diff")) refl refl refl refl refl
+    (same_bytes (up_to tab l) (bytes_of "retime")) (same_bytes (up_to tab l) (bytes_of "list")) refl refl refl refl
   where
-    by_word : (a w r s d : Bool)
+    by_word : (a w r s : Bool)
         → same_bytes (up_to tab l) (bytes_of "add") ≡ a
         → same_bytes (up_to tab l) (bytes_of "withdraw") ≡ w
         → same_bytes (up_to tab l) (bytes_of "retime") ≡ r
         → same_bytes (up_to tab l) (bytes_of "list") ≡ s
-        → same_bytes (up_to tab l) (bytes_of "diff") ≡ d
-        → order_form (cond a Deed.Add (cond w Deed.Withdraw (cond r Deed.Retime (cond s Deed.List (cond d Deed.Diff Deed.Other))))) (beyond tab l) ≡ no_order
-    by_word true w r s d e ew er es ed =
+        → order_form (cond a Deed.Add (cond w Deed.Withdraw (cond r Deed.Retime (cond s Deed.List Deed.Other)))) (beyond tab l) ≡ no_order
+    by_word true w r s e ew er es =
         let word : length (up_to tab l) ≡ 3 = ap length ((same-bytes-exact (up_to tab l) (bytes_of "add")).0 e) in
         timed-long Deed.Add (beyond tab l) (omega (arith, line-span l, word))
-    by_word false true r s d ea e er es ed =
+    by_word false true r s ea e er es =
         let word : length (up_to tab l) ≡ 8 = ap length ((same-bytes-exact (up_to tab l) (bytes_of "withdraw")).0 e) in
         withdraw-long (beyond tab l) (omega (arith, line-span l, word))
-    by_word false false true s d ea ew e es ed =
+    by_word false false true s ea ew e es =
         let word : length (up_to tab l) ≡ 6 = ap length ((same-bytes-exact (up_to tab l) (bytes_of "retime")).0 e) in
         timed-long Deed.Retime (beyond tab l) (omega (arith, line-span l, word))
-    by_word false false false true d ea ew er e ed =
+    by_word false false false true ea ew er e =
         let word : length (up_to tab l) ≡ 4 = ap length ((same-bytes-exact (up_to tab l) (bytes_of "list")).0 e) in
-        bare-long Deed.List (beyond tab l) (omega (arith, line-span l, word))
-    by_word false false false false true ea ew er es e =
-        let word : length (up_to tab l) ≡ 4 = ap length ((same-bytes-exact (up_to tab l) (bytes_of "diff")).0 e) in
-        bare-long Deed.Diff (beyond tab l) (omega (arith, line-span l, word))
-    by_word false false false false false ea ew er es ed = refl
+        list-long (beyond tab l) (omega (arith, line-span l, word))
+    by_word false false false false ea ew er es = refl

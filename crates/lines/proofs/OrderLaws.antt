@@ -3,7 +3,7 @@
 --
 --   timed-by-word                            an `add` or `retime` line, by what the form of a part says of its fields
 --   withdraw-many, -unnamed, -some           a `withdraw` line
---   bare-more                                a `list` or `diff` line with a field
+--   list-more                                a `list` line with a field
 --   order-bare, order-some                   a line of one field, and of more
 use mathlib.Core.Path.{◌≡◌, refl}
 use mathlib.Core.Bool.{Bool, true, false}
@@ -19,7 +19,7 @@ use Rattle.lines.specs.declared.Deed.{Deed}
 use Rattle.lines.specs.Lines.{tab, up_to, fields, name_of, is_name}
 use Rattle.task.specs.Tasks.{task_of}
 use Rattle.lines.specs.Forms.{untimed, part_form}
-use Rattle.lines.specs.Orders.{no_order, for_part, timed_form, withdraw_form, bare_form, deed_of, order_form, order_of}
+use Rattle.lines.specs.Orders.{no_order, for_part, timed_form, withdraw_form, list_form, deed_of, order_form, order_of}
 use Rattle.lines.proofs.LineLaws.{rest, run_take, run-whole, run-last, run_more}
 
 -- ---- the forms
@@ -28,9 +28,9 @@ pub timed-by-word : (d : Deed) (fs : List (List ℕ)) (l : Line) → l ≡ part_
 unfolding timed_form
 timed-by-word d fs l answer w word = rw (← answer, word)
 
-pub bare-more : (d : Deed) (f : List ℕ) (fs : List (List ℕ)) → no_order ≡ bare_form d (f ∷ fs)
-unfolding bare_form
-bare-more d f fs = refl
+pub list-more : (f : List ℕ) (fs : List (List ℕ)) → no_order ≡ list_form (f ∷ fs)
+unfolding list_form
+list-more f fs = refl
 
 module _ (s : List ℕ) (e : ℕ) (run : e ≡ length (up_to tab s)) where
   pub withdraw-many : e < length s → no_order ≡ withdraw_form (fields s)

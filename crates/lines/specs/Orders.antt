@@ -1,9 +1,9 @@
--- What one line of a script of edits says by its form alone: document 01, "Edits on a held plan"; document 02, E3. A line of no form says `no_order`.
+-- What one line of a script of edits says by its form alone: document 01, "Edits on a held plan". A line of no form says `no_order`.
 --
 --   deed_of f              what the first field asks for
 --   timed_form d fs        name, C, D, T, J, P, M, as in a `part` line: a task to add, or other times for one
 --   withdraw_form fs       task name
---   bare_form d fs         nothing beyond the word: a listing of the plan held, or of how it differs from the one at the start
+--   list_form fs           nothing beyond the word
 --   order_of l             the line l: its word, and the fields beyond it
 use Rattle.std.specs.Prelude.{cond, List, [], ◌∷◌, ℕ}
 use Rattle.task.specs.declared.Part.{Part}
@@ -19,6 +19,9 @@ use Rattle.lines.specs.Forms.{untimed, part_form}
 
 abbrev pub no_order : Order
 no_order = record { deed = Deed.Other; task = no_task }
+
+abbrev pub list_order : Order
+list_order = record { deed = Deed.List; task = no_task }
 
 -- ---- the forms
 
@@ -38,9 +41,9 @@ withdraw_form [] = no_order
 withdraw_form (f ∷ []) = cond (is_name f) (record { deed = Deed.Withdraw; task = task_of (name_of f) (untimed (name_of f)) }) no_order
 withdraw_form (f ∷ g ∷ fs) = no_order
 
-unfoldable pub bare_form : Deed → List (List ℕ) → Order
-bare_form d [] = record { deed = d; task = no_task }
-bare_form d (f ∷ fs) = no_order
+unfoldable pub list_form : List (List ℕ) → Order
+list_form [] = list_order
+list_form (f ∷ fs) = no_order
 
 -- ---- a line
 
@@ -49,15 +52,13 @@ deed_of f =
     cond (same_bytes f (bytes_of "add")) Deed.Add
     (cond (same_bytes f (bytes_of "withdraw")) Deed.Withdraw
     (cond (same_bytes f (bytes_of "retime")) Deed.Retime
-    (cond (same_bytes f (bytes_of "list")) Deed.List
-    (cond (same_bytes f (bytes_of "diff")) Deed.Diff Deed.Other))))
+    (cond (same_bytes f (bytes_of "list")) Deed.List Deed.Other)))
 
 abbrev pub order_form : Deed → List (List ℕ) → Order
 order_form Deed.Add fs = timed_form Deed.Add fs
 order_form Deed.Withdraw fs = withdraw_form fs
 order_form Deed.Retime fs = timed_form Deed.Retime fs
-order_form Deed.List fs = bare_form Deed.List fs
-order_form Deed.Diff fs = bare_form Deed.Diff fs
+order_form Deed.List fs = list_form fs
 order_form Deed.Other fs = no_order
 
 unfoldable pub order_of : List ℕ → Order

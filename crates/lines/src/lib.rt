@@ -1,4 +1,6 @@
-// One line of a timing sheet, or of a script of edits, by its form alone: document 01, "Sheet", "Sizes" and "Edits on a held plan"; document 02, E3.
+// One line of a timing sheet, or of a script of edits, by its form alone: document 01, "Sheet", "Sizes" and "Edits on a held plan".
+#![tactic(auto)]
+
 mod fields;
 mod forms;
 mod orders;
@@ -10,14 +12,14 @@ ghost use Rattle.lines.specs.Orders.{no_order, order_of};
 
 use demand::{Costs, no_costs};
 use forms::{cost_form, fit_form, machine_form, part_form, untimed, word_of};
-use orders::{deed_of, only_word, timed_order, withdraw_order};
+use orders::{bare_order, deed_of, timed_order, withdraw_order};
 use task::{Machine, Name, Part, Task, no_machine, no_name, no_task};
 
 /// The most numbers that stand in a line.
 pub const NUMBERS_MOST: usize = 9;
 
 /// The kind of a line, by its first field.
-#[derive(Drop)]
+#[derive(Clone, Copy)]
 pub enum Word {
     Machine,
     Cost,
@@ -27,7 +29,7 @@ pub enum Word {
 }
 
 /// What a line says by its form alone: a machine, costs, a part, or a task's name with its part's, whose times stand above. What it does not say is zero.
-#[derive(Drop)]
+#[derive(Clone, Copy)]
 pub struct Line {
     pub word: Word,
     pub machine: Machine,
@@ -37,32 +39,31 @@ pub struct Line {
 }
 
 /// What a line of a script asks for, by its first field.
-#[derive(Drop)]
+#[derive(Clone, Copy)]
 pub enum Deed {
     Add,
     Withdraw,
     Retime,
     List,
-    Diff,
     Other,
 }
 
 /// What a line of a script says by its form alone. What it does not say is zero.
-#[derive(Drop)]
+#[derive(Clone, Copy)]
 pub struct Order {
     pub deed: Deed,
     pub task: Task,
 }
 
 /// The answer on a field that is to be a number.
-#[derive(Drop)]
+#[derive(Clone, Copy)]
 pub struct Number {
     pub ok: bool,
     pub value: u64,
 }
 
 /// The answer on fields that are to be numbers: how many, or 0 where they are not, or are more than nine.
-#[derive(Drop)]
+#[derive(Clone, Copy)]
 pub struct Numbers {
     pub count: usize,
     pub values: [u64; NUMBERS_MOST],
@@ -136,7 +137,7 @@ pub fn order_of(line: &[u8]) -> Order
     let e = until(line, 9);
     let deed = deed_of(&line[..e]);
     if e == line.len() {
-        return only_word(deed);
+        return bare_order(deed);
     }
     let rest = &line[e + 1..];
     match deed {
@@ -144,7 +145,6 @@ pub fn order_of(line: &[u8]) -> Order
         Deed::Withdraw => withdraw_order(rest),
         Deed::Retime => timed_order(Deed::Retime, rest),
         Deed::List => no_order(),
-        Deed::Diff => no_order(),
         Deed::Other => no_order(),
     }
 }

@@ -1,19 +1,22 @@
 // What a line of a script says by its form alone.
 ghost use Rattle.std.specs.Prelude.{◌≡◌, []};
 ghost use Rattle.lines.specs.Lines.{fields};
-ghost use Rattle.lines.specs.Orders.{bare_form, deed_of, timed_form, withdraw_form, order_form};
+ghost use Rattle.lines.specs.Orders.{list_order, deed_of, timed_form, withdraw_form, order_form};
 
 use crate::fields::{name_of, same_run};
 use crate::forms::{part_form, untimed};
 use crate::{Deed, Order, Word, no_order, until};
 use task::{no_task, task_of, well_formed};
 
-// A `list` or `diff` line, with nothing beyond its word.
-fn bare_order(deed: Deed) -> Order
-    ensures { result ≡ bare_form deed [] }
+// A `list` line.
+pub fn list_order() -> Order
+    ensures { result ≡ list_order }
 {
     let task = no_task();
-    Order { deed, task }
+    Order {
+        deed: Deed::List,
+        task,
+    }
 }
 
 // What a first field asks for.
@@ -32,22 +35,18 @@ pub fn deed_of(f: &[u8]) -> Deed
     if same_run(f, b"list") {
         return Deed::List;
     }
-    if same_run(f, b"diff") {
-        return Deed::Diff;
-    }
     Deed::Other
 }
 
 // A line that has its first field only.
-pub fn only_word(deed: Deed) -> Order
+pub fn bare_order(deed: Deed) -> Order
     ensures { result ≡ order_form deed [] }
 {
     match deed {
         Deed::Add => no_order(),
         Deed::Withdraw => no_order(),
         Deed::Retime => no_order(),
-        Deed::List => bare_order(Deed::List),
-        Deed::Diff => bare_order(Deed::Diff),
+        Deed::List => list_order(),
         Deed::Other => no_order(),
     }
 }

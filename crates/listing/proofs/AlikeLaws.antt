@@ -112,6 +112,7 @@ module _ {A : Type 0} where
   pub every_some : (t : A → Bool) (l : List A) (a : A) → every t l ≡ true → Some (λ x. x ≡ a) l → t a ≡ true
   every_some t (b ∷ l) a h (inl e) = subst (λ (c : A). t c ≡ true) e (both_left (t b) (every t l) h)
   every_some t (b ∷ l) a h (inr i) = every_some t l a (both_right (t b) (every t l) h) i
+  every_some t [] a h x'' = elim x'' [ ]
 
   pub each-with : (P : A → Type 0) (l : List A) → ((a : A) → Some (λ x. x ≡ a) l → P a) → Each P l
   each-with P [] h = tt

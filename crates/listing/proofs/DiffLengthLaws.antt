@@ -6,7 +6,7 @@
 --   diff-few              so of two plans of at most 79 pieces, by names of at most 24 bytes, it has less than 5,000,000 bytes
 --   standing-few, standing-short       and such are the plans that the walk gives
 use mathlib.Core.Path.{◌≡◌}
-use mathlib.Core.Bool.{Bool, true, false, not}
+use mathlib.Core.Bool.{not}
 use mathlib.Core.List.{List, [], ◌∷◌, ◌++◌, map}
 use Prim.Native.Nat.{ℕ, zero, suc, ◌+◌, ◌*◌, ◌≤◌, ◌<◌}
 use native.Mathlib.Omega.{arith}

@@ -116,6 +116,7 @@ name-at (v ∷ vs) (suc k) low = inr (name-at vs k (omega arith))
 at_name : (vs : List Task) (n : List ℕ) → Some (λ x. x ≡ n) (names_in vs) → (k : ℕ) × ((k < length vs) × (spelling (task_at vs k).name ≡ n))
 at_name (v ∷ vs) n (inl e) = (0, (omega arith, e))
 at_name (v ∷ vs) n (inr h) = let more = at_name vs n h in (suc more.0, (omega (arith, more.1.0), more.1.1))
+at_name [] n x' = elim x' [ ]
 
 past-name : (vs : List Task) (k : ℕ) → length vs ≤ k → spelling (task_at vs k).name ≡ []
 past-name vs k high = ap (λ (t : Task). spelling t.name) (get_or-eq_default vs past {n = k} high)

@@ -97,6 +97,7 @@ module _ (l k : List (Placed (List ℕ))) where
 some-named : (l : List (Placed (List ℕ))) (e : Placed (List ℕ)) → Some (λ x. x ≡ e) l → Some (λ x. x ≡ e.item) (names_of l)
 some-named (f ∷ l) e (inl is) = inl (ap (λ (g : Placed (List ℕ)). g.item) is)
 some-named (f ∷ l) e (inr h) = inr (some-named l e h)
+some-named [] e x' = elim x' [ ]
 
 -- their own names are all that two plans need
 module _ (l k : List (Placed (List ℕ))) where

@@ -17,7 +17,6 @@ use lib.ListN.{length, take}
 use Rattle.demand.specs.declared.Piece.{Piece}
 use Rattle.demand.specs.declared.Costs.{Costs}
 use Rattle.demand.specs.declared.Shown.{Shown}
-use Rattle.demand.specs.declared.Showing.{Showing}
 use Rattle.demand.specs.declared.Showing.TheVariants.{Shows, Unshown}
 use Rattle.demand.specs.declared.Answer.{Answer}
 use Rattle.demand.specs.declared.Answer.TheVariants.{Refused}
@@ -26,7 +25,7 @@ use Rattle.demand.specs.declared.Refusal.TheVariants.{TooMany, BadCosts, BadReco
 use Rattle.demand.specs.declared.Check.{Check}
 use Rattle.demand.specs.declared.Check.TheVariants.{Fine, Bad}
 use Rattle.demand.specs.Answer.{check_run, showing, showing_of, told}
-use Rattle.demand.specs.Records.{record_at, records_of}
+use Rattle.demand.specs.Records.{records_of}
 use Rattle.demand.specs.Sizes.{run_most, length_most}
 use Rattle.demand.specs.Why.{shown_of}
 use Rattle.demand.proofs.AnswerLaws.{answer-carries}
@@ -36,7 +35,7 @@ use Rattle.task.specs.Tasks.{task_at}
 use Rattle.plan.specs.declared.Plan.{Plan}
 use Rattle.listing.specs.declared.Note.{Note}
 use Rattle.listing.specs.Text.{Wrote}
-use Rattle.listing.specs.Papers.{Paper, refused, written, note_of, left}
+use Rattle.listing.specs.Papers.{Paper, written, note_of, left}
 use Rattle.listing.specs.Listing.{spelling}
 use Rattle.listing.specs.Why.{pieces_in, no_room_line, why_text, unless_bad, why_paper, why_run, row_seats, why_row, whole_seat, why_stuck, why_asked, why_of}
 use Rattle.listing.specs.Ways.SeatArrays.{seats_laid, titled_in, front_of}

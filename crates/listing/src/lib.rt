@@ -1,4 +1,6 @@
 // The texts that are written into a lent buffer: a plan's listing (document 01, "Sheet"), the listing that says why (document 02, E1), and two plans side by side (E3).
+#![tactic(auto)]
+
 mod diffs;
 mod names;
 mod rows;
@@ -41,7 +43,7 @@ pub const STAND_NUMBERS: usize = 9 * STANDS_MOST;
 pub const RANKS_MOST: usize = 1 + 2 * TASKS_MOST;
 
 /// A piece on a core, from 0, of a task whose name has that rank among the names of two plans.
-#[derive(Drop)]
+#[derive(Clone, Copy)]
 pub struct Ranked {
     pub core: usize,
     pub rank: usize,
@@ -49,7 +51,7 @@ pub struct Ranked {
 }
 
 /// What is said of a text that is asked for in a lent buffer: a refusal's number and what it carries, or 0 and the text's length.
-#[derive(Drop)]
+#[derive(Clone, Copy)]
 pub struct Note {
     pub number: u64,
     pub carries: u64,

@@ -21,7 +21,7 @@ use task::{Name, TASKS_MOST, Tasks};
 use verdicts::{ask_of, show_records};
 
 // A task that found no room: its place from 1, its name, and how many cores there are. Where there is none, the place is 0.
-#[derive(Drop)]
+#[derive(Clone, Copy)]
 pub struct NoRoom {
     pub place: u64,
     pub name: Name,

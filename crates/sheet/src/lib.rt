@@ -1,4 +1,6 @@
 // A timing sheet, read from its bytes: document 01, "Sheet" and "Refusal numbers".
+#![tactic(auto)]
+
 mod drafts;
 
 ghost use Rattle.std.specs.Prelude.{◌≡◌};
@@ -13,7 +15,7 @@ use task::{Machine, Tasks, same_name, task_of};
 pub const SHEET_MOST: usize = 16384;
 
 /// What a sheet says: the machine, the nine cost constants, and the tasks with their parts' times.
-#[derive(Drop)]
+#[derive(Clone, Copy)]
 pub struct Sheet {
     pub machine: Machine,
     pub costs: Costs,
@@ -21,7 +23,7 @@ pub struct Sheet {
 }
 
 /// The answer on a sheet: 0, 0 and the sheet; or a refusal's number, its line, and the empty sheet. 9 carries 0.
-#[derive(Drop)]
+#[derive(Clone, Copy)]
 pub struct Read {
     pub number: u64,
     pub carries: u64,
@@ -30,7 +32,7 @@ pub struct Read {
 
 /// What stands above a line, but for the parts and tasks. The stage is 0 at the top, 1 below `machine`, 2 below `cost` and among the parts, 3 among
 /// the fits.
-#[derive(Drop)]
+#[derive(Clone, Copy)]
 pub struct Head {
     pub stage: u64,
     pub machine: Machine,

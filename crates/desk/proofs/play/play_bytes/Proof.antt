@@ -12,11 +12,11 @@ use Rattle.desk.proofs.play.play_bytes.Statement.{statement}
 use Rattle.desk.proofs.play.play_bytes.Tie as tie
 
 abbrev invariant-loop : tie.invariant-loop
-invariant-loop bytes start plan₀ line₀ i₀ plan line i =
-    (i ≤ length bytes) × (played_bytes (desk start plan₀ line₀) bytes ≡ played_bytes (desk start plan line) (drop i bytes))
+invariant-loop bytes plan₀ line₀ i₀ plan line i =
+    (i ≤ length bytes) × (played_bytes (desk plan₀ line₀) bytes ≡ played_bytes (desk plan line) (drop i bytes))
 
 abbrev decreases-loop : tie.decreases-loop
-decreases-loop bytes start plan₀ line₀ i₀ plan line i =
+decreases-loop bytes plan₀ line₀ i₀ plan line i =
     length bytes - i
 
 loop-holds : tie.Need-loop-init invariant-loop decreases-loop
@@ -49,24 +49,22 @@ loop-less c =
 
 loop-again : tie.Need-loop-preserved invariant-loop decreases-loop
 loop-again c =
-    let args = c.before.before.before.before.before.before.before.before.args in
-    let s = args.desk.start in
-    let bs = args.bytes.now in
+    let bs = c.before.before.before.before.before.before.before.args.bytes.now in
     let loop = c.before.before.before.loop in
     let i = loop.i in
     let low : i < length bs = omega arith in
     let so_far = loop.invariant.1 in (
       omega arith,
-      ⊎_elim (λ w. so_far ∙ played-newline s loop.plan loop.line bs i low c.if1.plan c.if1.line w.0.taken
+      ⊎_elim (λ w. so_far ∙ played-newline loop.plan loop.line bs i low c.if1.plan c.if1.line w.0.taken
           (w.3 ∙ w.1.ensures) (w.4 ∙ w.2.ensures)) (λ w. so_far
-          ∙ played-other s loop.plan loop.line bs i low c.if1.plan c.if1.line w.0.left w.2 (w.3 ∙ w.1.ensures)) c.if1.branch,
+          ∙ played-other loop.plan loop.line bs i low c.if1.plan c.if1.line w.0.left w.2 (w.3 ∙ w.1.ensures)) c.if1.branch,
     )
 
 returns : tie.Need-returns invariant-loop decreases-loop
 returns c =
     let loop = c.before.loop in
-    let args = c.before.before.before.before.before.before.args in
-    sym (loop.invariant.1 ∙ played-end args.desk.start loop.plan loop.line args.bytes.now loop.i (omega arith))
+    let start = c.before.before.before.before.before.args in
+    sym (loop.invariant.1 ∙ played-end loop.plan loop.line start.bytes.now loop.i (omega arith))
 
 pub play-bytes-spec : {M : Type 1} → statement M
 play-bytes-spec =

@@ -34,12 +34,6 @@ enum-told-5 c = search rules
 keep-requires-2 : tie.Need-keep-requires-2
 keep-requires-2 c κs = search rules
 
-enum-told-6 : tie.Need-enum-told-6
-enum-told-6 c = search rules
-
-keep-requires-3 : tie.Need-keep-requires-3
-keep-requires-3 c κs = search rules
-
 returns : tie.Need-returns
 returns c =
     rw c.before.enum_told.given.1 c.add.ensures
@@ -60,10 +54,6 @@ returns-5 : tie.Need-returns-5
 returns-5 c =
     rw c.before.enum-told5.given.1 c.keep2.ensures
 
-returns-6 : tie.Need-returns-6
-returns-6 c =
-    rw c.before.enum-told6.given.1 c.keep3.ensures
-
 pub reply-to-spec : {M : Type 1} → statement M
 reply-to-spec =
     tie.close
@@ -78,11 +68,8 @@ reply-to-spec =
     keep-requires
     enum-told-5
     keep-requires-2
-    enum-told-6
-    keep-requires-3
     returns
     returns-2
     returns-3
     returns-4
-    returns-5
-    returns-6)
+    returns-5)

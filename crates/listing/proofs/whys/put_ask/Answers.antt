@@ -1,0 +1,8 @@
+-- `whys::put_ask` meets its contract: three numbers, one behind another.
+use native.Mathlib.Omega.{arith}
+use Rattle.listing.proofs.TextLaws.{wrote-both}
+use Rattle.listing.proofs.whys.put_ask.Goals as goal
+
+pub returns : goal.returns
+returns c =
+    (wrote-both c.put_number-a.ensures.0 (wrote-both c.put_number-b.ensures.0 c.put_number.ensures.0), omega (arith, c.put_number-a.ensures.1, c.put_number-b.ensures.1, c.put_number.ensures.1))
