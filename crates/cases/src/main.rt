@@ -1,4 +1,6 @@
 // The run examples of document 01, one line a case, through the proved code; `stdout` beside `src` is what must come out.
+#![tactic(auto)]
+
 mod lent;
 mod plans;
 mod print;

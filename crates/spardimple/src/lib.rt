@@ -2,6 +2,8 @@
 //
 // The functions take any input, and their contracts are equations with one definition of `specs/`: one for the answer, and one for a buffer
 // that is lent by `&mut`. What is lent by `&` is not written.
+#![tactic(auto)]
+
 mod bytes;
 mod numbers;
 mod runs;
