@@ -14,7 +14,7 @@ use native.Mathlib.Omega.{arith}
 use lib.ListN.{length}
 use Rattle.demand.specs.Sizes.{Each}
 use Rattle.demand.specs.Tables.{Rule, Kept}
-use Rattle.demand.proofs.TableLaws.{Comes, none, here, next, comes-kept, comes-before, comes-behind}
+use Rattle.demand.proofs.TableLaws.{Comes, none, here, next, comes-before, comes-behind}
 use Rattle.task.specs.declared.Task.{Task}
 use Rattle.task.specs.Tasks.{list_of, cores_most}
 use Rattle.walks.specs.Way.{fine}

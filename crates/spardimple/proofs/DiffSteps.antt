@@ -6,7 +6,7 @@
 --   both-planned          any other two come to the listing of their plans
 --   thousand              100 and 1000 more
 --   written-told, written-short, written-left      what is told of a text, where the buffer is long enough and where not; and what it then holds
-use mathlib.Core.Path.{◌≡◌, refl, sym, ap, ◌∙◌}
+use mathlib.Core.Path.{◌≡◌, sym, ap, ◌∙◌}
 use mathlib.Core.List.{List}
 use Prim.Native.Nat.{ℕ, ◌+◌, ◌*◌, ◌^◌, ◌≤◌, ◌<◌}
 use native.Mathlib.Omega.{arith}

@@ -5,9 +5,9 @@
 --   row_kept          a core's row has what the walk placed there
 --   task-held         a held task is the one at its place
 --   plan-shown        so it is, of every core of the machine
-use mathlib.Core.Path.{◌≡◌, refl, sym, ap, subst, ◌∙◌}
-use mathlib.Core.List.{List, [], ◌∷◌, ◌++◌, map}
-use Prim.Native.Nat.{ℕ, ◌+◌, ◌*◌, ◌-◌, ◌≤◌, ◌<◌, min}
+use mathlib.Core.Path.{◌≡◌, sym, ap, ◌∙◌}
+use mathlib.Core.List.{List, [], map}
+use Prim.Native.Nat.{ℕ, ◌*◌, ◌-◌, ◌≤◌, ◌<◌}
 use native.Mathlib.Decide.{dec_le}
 use native.Mathlib.Omega.{arith}
 use lib.Dec.{eqb}
@@ -18,19 +18,18 @@ use Rattle.task.specs.declared.Task.{Task}
 use Rattle.task.specs.Tasks.{past, task_at, state_fault}
 use Rattle.task.proofs.TaskLaws.{Sane, state-sane}
 use Rattle.task.proofs.RefusalLaws.{state-kept}
-use Rattle.walks.specs.Way.{Placed, on_core, row_of}
+use Rattle.walks.specs.Way.{Placed, on_core}
 use Rattle.walks.proofs.ListLaws.{each-only}
 use Rattle.plan.specs.declared.Plan.{Plan}
-use Rattle.plan.specs.declared.Stored.{Stored}
 use Rattle.plan.specs.Layout.{blank}
 use Rattle.plan.specs.Shows.{stored_of, numbers_on}
 use Rattle.plan.proofs.Theorems.{placed-places, placed-sized, plan-counts}
 use Rattle.listing.specs.Listing.{spelling, row_pieces}
 use Rattle.listing.specs.Papers.{written}
-use Rattle.listing.specs.Why.{Titled, why_text, titled_placed, row_seats, why_seats, why_row, why_of}
+use Rattle.listing.specs.Why.{Titled, why_text, titled_placed, why_seats, why_row, why_of}
 use Rattle.listing.proofs.PlacedLaws.{map_same}
 use Rattle.listing.proofs.WhyPlacedLaws.{kept-seats, paper-fine, asked-inside}
-use Rattle.edits.specs.Edits.{tasks_held, row_in, Held}
+use Rattle.edits.specs.Edits.{tasks_held, Held}
 
 -- of a row that is not longer than 64 nothing is cut
 cut-none : (n : ℕ) (xs : List ℕ) → length (take n xs) ≤ 64 → take n (take 64 xs) ≡ take n xs

@@ -8,14 +8,14 @@
 --   demand-told, demand-untold          g(t) of lent records, where they are judged, and 0 elsewhere
 use mathlib.Core.Path.{◌≡◌, refl, sym, ap, subst, ◌∙◌}
 use mathlib.Core.Bool.{Bool, true, false, cond}
-use mathlib.Core.Logic.{◌⊎◌, inl, inr, ◌↔◌}
+use mathlib.Core.Logic.{◌⊎◌, inl, inr}
 use mathlib.Core.List.{List, [], ◌∷◌, ◌++◌, map}
 use Prim.Native.Nat.{ℕ, zero, suc, ◌+◌, ◌*◌, ◌-◌, ◌%◌, ◌^◌, ◌≤◌, ◌<◌}
 use native.Mathlib.Decide.{dec_lt, dec_le}
 use native.Mathlib.Omega.{arith}
 use borrow.Author.Tests.{eqb-true, eqb-false, le-leb, lt-leb}
 use lib.Dec.{leb, eqb}
-use lib.ListN.{length, take, drop, length-map, length-append}
+use lib.ListN.{length, take, length-map, length-append}
 use lib.Seq.{take-length}
 use Rattle.demand.specs.declared.Piece.{Piece}
 use Rattle.demand.specs.declared.Costs.{Costs}
@@ -28,8 +28,8 @@ use Rattle.demand.specs.declared.Answer.TheVariants.{Refused}
 use Rattle.demand.specs.Answer.{check_run, demand_figure, figured, Told, told}
 use Rattle.demand.specs.Charge.{core_of, stall}
 use Rattle.demand.specs.Demand.{demand}
-use Rattle.demand.specs.Sizes.{Sized, Each, run_most, length_most}
-use Rattle.demand.specs.Tables.{Rule, ◌if◌carrying◌, Not, Gives, Kept}
+use Rattle.demand.specs.Sizes.{Each, run_most, length_most}
+use Rattle.demand.specs.Tables.{Rule, ◌if◌carrying◌, Not, Kept}
 use Rattle.demand.specs.Refusals.{record_table}
 use Rattle.demand.proofs.AnswerLaws.{answer-carries}
 use Rattle.demand.proofs.RefusalLaws.{bad_number, bad_carries, check-comes}
@@ -37,7 +37,6 @@ use Rattle.demand.proofs.RunLaws.{answer-bad, check-taken}
 use Rattle.demand.proofs.Sums.{each_at, each_snoc}
 use Rattle.demand.proofs.TableLaws.{Comes, none, here, next, comes-kept, comes-before, comes-behind, breaks-kept, breaks-leb}
 use Rattle.task.specs.declared.Task.{Task}
-use Rattle.task.specs.declared.Tasks.{Tasks}
 use Rattle.task.specs.declared.Machine.{Machine}
 use Rattle.task.specs.Tasks.{list_of, past, task_at}
 use Rattle.walks.specs.Way.{Placed, Ending, fine, stuck, on_core, row_of}
@@ -50,16 +49,14 @@ use Rattle.sheet.specs.declared.Sheet.{Sheet}
 use Rattle.sheet.specs.Sheet.{read_of}
 use Rattle.sheet.specs.Refusals.{read_table}
 use Rattle.sheet.proofs.RefusalLaws.{read-comes, read_kept}
-use Rattle.sheet.proofs.RuleLaws.{breaks-no-rule}
 use Rattle.sheet.proofs.SmallLaws.{read_small}
-use Rattle.listing.specs.Text.{over, decimal}
 use Rattle.listing.specs.Listing.{spelling}
 use Rattle.listing.specs.Papers.{Paper, refused, written, left}
-use Rattle.listing.specs.Why.{Titled, pieces_in, no_room_line, unless_bad, why_text, why_paper, by_place, why_run, titled_placed, whole_seat, why_of}
+use Rattle.listing.specs.Why.{pieces_in, no_room_line, unless_bad, why_text, why_paper, by_place, why_run, titled_placed, whole_seat, why_of}
 use Rattle.listing.proofs.TextLaws.{decimal-few, over-short, over-fits}
 use Rattle.listing.proofs.WhyPlacedLaws.{why-fine, why-stuck, why-outside, why-few, front-few, titles-few}
 use Rattle.spardimple.specs.Bytes.{pieces_of, costs_spelt}
-use Rattle.spardimple.specs.Numbers.{number, measured}
+use Rattle.spardimple.specs.Numbers.{number}
 use Rattle.spardimple.specs.Refusals.{lent_table, room_table, why_records_table, why_core_table, Answered, Leaves}
 use Rattle.spardimple.specs.Sheets.{machine_in, costs_in, tasks_in, refusal, told_paper}
 use Rattle.spardimple.specs.Whys.{why_records_text, why_ending, why_core_text, why_records, why_core, why_records_number, why_records_left, why_core_number, why_core_left, figure_number, demand_number}

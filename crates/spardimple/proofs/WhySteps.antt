@@ -9,10 +9,10 @@
 --   holds-why, holds-demand         what the records that were copied come to
 --   unread-core, read-core          a sheet that is refused, and one that is read
 --   demand-odd, demand-formed       the demand of lent bytes
-use mathlib.Core.Path.{◌≡◌, refl, sym, ap, subst, ◌∙◌}
+use mathlib.Core.Path.{◌≡◌, refl, sym, ap, ◌∙◌}
 use mathlib.Core.Bool.{Bool, true, false, cond, ◌&&◌}
 use mathlib.Core.List.{List, [], ◌∷◌, ◌++◌}
-use Prim.Native.Nat.{ℕ, zero, suc, ◌+◌, ◌*◌, ◌%◌, ◌^◌, ◌≤◌, ◌<◌}
+use Prim.Native.Nat.{ℕ, zero, suc, ◌+◌, ◌*◌, ◌%◌, ◌^◌, ◌<◌}
 use native.Mathlib.Decide.{dec_le}
 use native.Mathlib.Omega.{arith}
 use borrow.Author.Tests.{eq-eqb, ne_eqb}
@@ -25,11 +25,10 @@ use Rattle.demand.specs.declared.Check.{Check}
 use Rattle.demand.specs.declared.Check.TheVariants.{Fine, Bad}
 use Rattle.demand.specs.declared.Refusal.TheVariants.{TooMany, BadCosts, BadRecord}
 use Rattle.demand.specs.declared.Figure.{Figure}
-use Rattle.demand.specs.Answer.{check_run, figured, demand_figure, Told}
+use Rattle.demand.specs.Answer.{check_run, demand_figure}
 use Rattle.demand.specs.Sizes.{run_most}
 use Rattle.demand.proofs.RunLaws.{check-many}
 use Rattle.plan.specs.declared.Plan.{Plan}
-use Rattle.plan.specs.declared.Reply.{Reply}
 use Rattle.sheet.specs.declared.Read.{Read}
 use Rattle.sheet.specs.Sheet.{read_of}
 use Rattle.listing.specs.declared.Note.{Note}

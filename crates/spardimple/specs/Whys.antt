@@ -9,7 +9,7 @@
 --   why_core sheet core         what a sheet and a core come to: the sheet's own refusal; 1 where the machine has no such core; else the listing
 --   why_records_number, why_records_left, why_core_number, why_core_left       what is given back for them, and what the buffer then holds
 --   demand_number rs cs t       g(t) of lent records; 0 where they are refused, or t is no length that can be judged
-use Rattle.std.specs.Prelude.{cond, List, [], ◌∷◌, ◌++◌, map, ℕ, suc, ◌+◌, ◌-◌, length}
+use Rattle.std.specs.Prelude.{cond, List, [], ◌∷◌, ◌++◌, map, ℕ, ◌+◌, ◌-◌, length}
 use Rattle.demand.specs.declared.Costs.{Costs}
 use Rattle.demand.specs.declared.Figure.{Figure}
 use Rattle.demand.specs.declared.Figure.TheVariants.{Of, Barred}
@@ -18,7 +18,7 @@ use Rattle.demand.specs.Answer.{demand_figure}
 use Rattle.task.specs.declared.Task.{Task}
 use Rattle.task.specs.declared.Machine.{Machine}
 use Rattle.task.specs.Tasks.{task_at}
-use Rattle.walks.specs.Way.{Placed, Ending, fine, stuck, on_core}
+use Rattle.walks.specs.Way.{Ending, fine, stuck, on_core}
 use Rattle.walks.specs.Halves.{Stand}
 use Rattle.plan.specs.declared.Reply.{Reply}
 use Rattle.plan.specs.Walk.{walked, walked_until}

@@ -28,7 +28,7 @@ pub fn put(run: Run, i: usize, piece: Piece) -> Run
     }
 }
 
-// The lent records as a run: a walk by hand, since no covered function goes through a slice of structs.
+// The lent records as a run.
 pub fn gather(pieces: &[Piece]) -> Run
     ensures { Copied pieces.now result }
 {
