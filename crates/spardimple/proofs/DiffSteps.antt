@@ -44,7 +44,7 @@ module _ (sheet : List ℕ) (r : Read) (is : r ≡ read_of sheet) (m : ℕ) (go 
 
 -- ---- two sheets
 
-pub thousand : (n : ℕ) → 100 + (second_from + n) ≡ 1100 + n
+pub thousand : (n : ℕ) → 100 + (second_from + n) ≡ 1000 + (100 + n)
 thousand n = omega arith
 
 module _ (sheet sheet' : List ℕ) (r : Read) (is : r ≡ read_of sheet) where

@@ -45,7 +45,7 @@ plan_rules sheet = read_table sheet ++ walk_table (machine_in sheet) (costs_in s
 
 -- what a sheet says, and what is listed of it, are looked at only where no rule before is broken
 unfoldable pub sheet_table : (sheet : List ℕ) → (room : ℕ) → List Rule
-sheet_table sheet room = plan_rules sheet ++ room_table (text_of sheet) room
+sheet_table sheet room = read_table sheet ++ walk_table (machine_in sheet) (costs_in sheet) (tasks_in sheet) ++ room_table (text_of sheet) room
 
 -- the same rules, with m added to their numbers
 abbrev pub numbered_from : ℕ → List Rule → List Rule

@@ -18,7 +18,7 @@ ghost use Rattle.spardimple.specs.Whys.{why_records_number, why_records_left, wh
 use bytes::{read_costs, read_records};
 use demand::{Answer, Costs, Figure, Found, Piece, RUN_NUMBERS};
 use listing::{why_plan, why_run, write_diff, write_listing};
-use numbers::{note_number, number_of, numbered};
+use numbers::{note_number, number_of, numbered, numbered_second};
 use plan::{plan_reached, plan_tasks};
 use runs::gather;
 use sheet::read_sheet;
@@ -142,12 +142,12 @@ pub fn diff_listing(sheet1: &[u8], sheet2: &[u8], out: &mut [u8]) -> u64
     }
     let other = read_sheet(sheet2);
     if other.number != 0 {
-        return numbered(1100 + other.number, other.carries);
+        return numbered_second(100 + other.number, other.carries);
     }
     let said = other.sheet;
     let second = plan_tasks(said.machine, said.costs, said.tasks);
     if second.number != 0 {
-        return numbered(1100 + second.number, second.carries as u64);
+        return numbered_second(100 + second.number, second.carries as u64);
     }
     let plan = first.plan;
     let next = second.plan;

@@ -8,10 +8,18 @@ use demand::{Answer, Refusal, Verdict};
 use listing::Note;
 
 pub fn numbered(which: u64, carries: u64) -> u64
-    requires { (which ≤ 2000) × (carries < 2 ^ 32) }
+    requires { (which ≤ 200) × (carries < 2 ^ 32) }
     ensures { result ≡ 2 ^ 32 * which + carries }
 {
     4294967296 * which + carries
+}
+
+// The same of the second of two sheets, whose refusals have 1000 added.
+pub fn numbered_second(which: u64, carries: u64) -> u64
+    requires { (which ≤ 200) × (carries < 2 ^ 32) }
+    ensures { result ≡ 2 ^ 32 * (1000 + which) + carries }
+{
+    4294967296 * (1000 + which) + carries
 }
 
 // Which answer, and what it carries.

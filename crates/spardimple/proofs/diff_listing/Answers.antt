@@ -69,8 +69,8 @@ overflow_add-other c =
     let n : c.read_sheet-other.result.number ≤ 9 = small.0 in
     search rules
 
-pub numbered-requires-then-other-ne0 : goal.numbered-requires-then-other-ne0
-numbered-requires-then-other-ne0 c =
+pub numbered_second-requires : goal.numbered_second-requires
+numbered_second-requires c =
     let small = subst (λ (t : Read). (t.number ≤ 9) × (t.carries ≤ 16385)) (sym c.read_sheet-other.ensures.exact) (read_small c.args.sheet2.now) in
     (omega (arith, small.0), omega (arith, small.1))
 
@@ -83,7 +83,7 @@ returns-then-other-ne0 c = record {
       let b = s.sheet2.now in
       let old = s.out.now in
       let paper = second-unread a b c.read_sheet-read.result c.read_sheet-read.ensures.exact c.if-read-ne0.false c.plan_tasks-first.result c.plan_tasks-first.ensures.exact c.if-first-ne0.false c.read_sheet-other.result c.read_sheet-other.ensures.exact c.if-other-ne0.true in (
-        c.numbered-then-other-ne0.ensures
+        c.numbered_second.ensures
             ∙ (ap (λ (n : ℕ). 2 ^ 32 * n + c.read_sheet-other.result.carries) (sym (thousand c.read_sheet-other.result.number))
             ∙ refused-told (diff_paper a b) (second_from + c.read_sheet-other.result.number) c.read_sheet-other.result.carries paper (length old)),
         refused-left (diff_paper a b) (second_from + c.read_sheet-other.result.number) c.read_sheet-other.result.carries paper old,
@@ -96,8 +96,8 @@ overflow_add-second c =
     let n : c.plan_tasks-second.result.number ≤ 7 = small.0 in
     search rules
 
-pub numbered-requires-then-second-ne0 : goal.numbered-requires-then-second-ne0
-numbered-requires-then-second-ne0 c =
+pub numbered_second-requires-then-second-ne0 : goal.numbered_second-requires-then-second-ne0
+numbered_second-requires-then-second-ne0 c =
     let small = reply-small c.args.sheet2.now c.read_sheet-other.result c.read_sheet-other.ensures.exact c.if-other-ne0.false c.plan_tasks-second.result c.plan_tasks-second.ensures.exact in
     (omega (arith, small.0), omega (arith, small.1))
 
@@ -112,7 +112,7 @@ returns-then-second-ne0 c = record {
       let paper =
       second_stuck a b c.read_sheet-read.result c.read_sheet-read.ensures.exact c.if-read-ne0.false c.plan_tasks-first.result c.plan_tasks-first.ensures.exact c.if-first-ne0.false c.read_sheet-other.result c.read_sheet-other.ensures.exact c.if-other-ne0.false c.plan_tasks-second.result c.plan_tasks-second.ensures.exact
       c.if-second-ne0.true in (
-        c.numbered-then-second-ne0.ensures
+        c.numbered_second-then-second-ne0.ensures
             ∙ (ap (λ (n : ℕ). 2 ^ 32 * n + c.plan_tasks-second.result.carries) (sym (thousand c.plan_tasks-second.result.number))
             ∙ refused-told (diff_paper a b) (second_from + c.plan_tasks-second.result.number) c.plan_tasks-second.result.carries paper (length old)),
         refused-left (diff_paper a b) (second_from + c.plan_tasks-second.result.number) c.plan_tasks-second.result.carries paper old,
