@@ -1,7 +1,7 @@
 // Plans: the whole of a small one, and the counts of a large one.
 use demand::Costs;
-use libc::STDOUT_FILENO;
 use plan::{Layout, PIECES_MOST, Plan, ROW_MOST, Reply, Stored, plan_tasks, tasks_on};
+use std::io;
 use task::{Machine, Name, TASKS_MOST, Task, Tasks, Times};
 
 // A task named by its place, of window and period d, with the migration charge given.
@@ -49,94 +49,107 @@ pub fn pair(worst: u64, d: u64, other: u64, e: u64) -> Tasks {
     tasks
 }
 
-pub fn field(n: u64) {
-    io::write_all(STDOUT_FILENO, b"\t");
-    io::print_decimal(STDOUT_FILENO, n);
+pub fn field(rt: &impl Print, n: u64) -> io::Result<()> {
+    print!(rt; "\t{n}")
 }
 
 // One piece: its core from 1, its task's place from 1, kind, budget and window.
-fn show_piece(core: usize, piece: Stored) {
-    io::write_all(STDOUT_FILENO, b"piece");
-    field(core as u64 % 100 + 1);
-    field(piece.task as u64 % 100 + 1);
-    field(piece.kind);
-    field(piece.budget);
-    field(piece.window);
-    io::write_all(STDOUT_FILENO, b"\n");
+fn show_piece(rt: &impl Print, core: usize, piece: Stored) -> io::Result<()> {
+    print!(rt; "piece")?;
+    field(rt, core as u64 % 100 + 1)?;
+    field(rt, piece.task as u64 % 100 + 1)?;
+    field(rt, piece.kind)?;
+    field(rt, piece.budget)?;
+    field(rt, piece.window)?;
+    print!(rt; "\n")
 }
 
 // A core's row, in placement order.
-fn show_row(layout: Layout, core: usize) {
+fn show_row(rt: &impl Print, layout: Layout, core: usize) -> io::Result<()> {
     if 16 <= core {
-        return;
+        return Ok(());
     }
     let len = layout.lens[core];
     let mut i: usize = 0;
     while i < len {
         if ROW_MOST <= i {
-            return;
+            return Ok(());
         }
         let number = layout.rows[core * ROW_MOST + i];
         if PIECES_MOST <= number {
-            return;
+            return Ok(());
         }
         let piece = layout.pieces[number];
-        show_piece(core, piece);
+        show_piece(rt, core, piece)?;
         i += 1;
     }
+    Ok(())
 }
 
 // The plan's counts: tasks, pieces, and the ones of each core's word.
-pub fn show_counts(plan: Plan) {
+pub fn show_counts(rt: &impl Print, plan: Plan) -> io::Result<()> {
     let layout = plan.layout;
     let tasks = plan.tasks;
-    io::write_all(STDOUT_FILENO, b"\tplan");
-    field(tasks.count as u64);
-    field(layout.count as u64);
+    print!(rt; "\tplan")?;
+    field(rt, tasks.count as u64)?;
+    field(rt, layout.count as u64)?;
     let mut core: usize = 0;
     while core < plan.machine.cores {
         if 16 <= core {
-            return;
+            return Ok(());
         }
-        field(tasks_on(layout, core));
+        field(rt, tasks_on(layout, core))?;
         core += 1;
     }
-    io::write_all(STDOUT_FILENO, b"\n");
+    print!(rt; "\n")
 }
 
-fn planned(case: &[u8], cores: usize, costs: Costs, tasks: Tasks) -> Reply {
-    io::write_all(STDOUT_FILENO, case);
+fn planned(
+    rt: &impl Print,
+    case: &str,
+    cores: usize,
+    costs: Costs,
+    tasks: Tasks,
+) -> io::Result<Reply> {
+    print!(rt; "{case}")?;
     let machine = Machine {
         cores: cores,
         grain: 1,
     };
-    plan_tasks(machine, costs, tasks)
+    Ok(plan_tasks(machine, costs, tasks))
 }
 
 // All rows of a plan.
-pub fn show_rows(layout: Layout) {
+pub fn show_rows(rt: &impl Print, layout: Layout) -> io::Result<()> {
     let mut core: usize = 0;
     while core < 16 {
-        show_row(layout, core);
+        show_row(rt, layout, core)?;
         core += 1;
     }
+    Ok(())
 }
 
 // The counts, or the refusal.
-pub fn show_plan(case: &[u8], cores: usize, costs: Costs, tasks: Tasks, whole: bool) {
-    let reply = planned(case, cores, costs, tasks);
+pub fn show_plan(
+    rt: &impl Print,
+    case: &str,
+    cores: usize,
+    costs: Costs,
+    tasks: Tasks,
+    whole: bool,
+) -> io::Result<()> {
+    let reply = planned(rt, case, cores, costs, tasks)?;
     if reply.number != 0 {
-        io::write_all(STDOUT_FILENO, b"\trefusal");
-        field(reply.number);
-        field(reply.carries as u64);
-        io::write_all(STDOUT_FILENO, b"\n");
-        return;
+        print!(rt; "\trefusal")?;
+        field(rt, reply.number)?;
+        field(rt, reply.carries as u64)?;
+        return print!(rt; "\n");
     }
     let plan = reply.plan;
-    show_counts(plan);
+    show_counts(rt, plan)?;
     if !whole {
-        return;
+        return Ok(());
     }
     let layout = plan.layout;
-    show_rows(layout);
+    show_rows(rt, layout)
 }

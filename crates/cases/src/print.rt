@@ -5,161 +5,149 @@ use crate::lent::{LENT_MOST, judge_first};
 use demand::{
     Answer, Costs, Figure, Found, Piece, RUN_NUMBERS, Refusal, Run, Split, Splitting, Verdict,
 };
-use libc::STDOUT_FILENO;
+use std::io;
 
-pub fn name(text: &[u8]) {
-    io::write_all(STDOUT_FILENO, text);
-    io::write_all(STDOUT_FILENO, b"\t");
+pub fn name(rt: &impl Print, text: &str) -> io::Result<()> {
+    print!(rt; "{text}\t")
 }
 
-fn number(n: u64) {
-    io::write_all(STDOUT_FILENO, b"\t");
-    io::print_decimal(STDOUT_FILENO, n);
-    io::write_all(STDOUT_FILENO, b"\n");
+fn number(rt: &impl Print, n: u64) -> io::Result<()> {
+    print!(rt; "\t{n}\n")
 }
 
 // A refusal's number, and what it carries.
-pub fn numbers(refusal: u64, carries: u64) {
-    io::write_all(STDOUT_FILENO, b"refusal\t");
-    io::print_decimal(STDOUT_FILENO, refusal);
-    number(carries);
+pub fn numbers(rt: &impl Print, refusal: u64, carries: u64) -> io::Result<()> {
+    print!(rt; "refusal\t{refusal}")?;
+    number(rt, carries)
 }
 
-fn refusal(why: Refusal) {
-    io::write_all(STDOUT_FILENO, b"refusal");
+fn refusal(rt: &impl Print, why: Refusal) -> io::Result<()> {
     match why {
-        Refusal::TooMany => {
-            io::write_all(STDOUT_FILENO, b"\t6");
-            number(0);
-        }
-        Refusal::BadCosts => {
-            io::write_all(STDOUT_FILENO, b"\t2");
-            number(0);
-        }
-        Refusal::BadRecord(place) => {
-            io::write_all(STDOUT_FILENO, b"\t3");
-            number(place);
-        }
+        Refusal::TooMany => numbers(rt, 6, 0),
+        Refusal::BadCosts => numbers(rt, 2, 0),
+        Refusal::BadRecord(place) => numbers(rt, 3, place),
     }
 }
 
-fn verdict(v: Verdict) {
+fn verdict(rt: &impl Print, v: Verdict) -> io::Result<()> {
     match v {
-        Verdict::Passes => {
-            io::write_all(STDOUT_FILENO, b"passes\n");
-        }
+        Verdict::Passes => print!(rt; "passes\n"),
         Verdict::Overloaded(t) => {
-            io::write_all(STDOUT_FILENO, b"overloaded");
-            number(t);
+            print!(rt; "overloaded")?;
+            number(rt, t)
         }
-        Verdict::Undecided => {
-            io::write_all(STDOUT_FILENO, b"undecided\n");
-        }
+        Verdict::Undecided => print!(rt; "undecided\n"),
     }
 }
 
-fn figure(f: Figure) {
+fn figure(rt: &impl Print, f: Figure) -> io::Result<()> {
     match f {
-        Figure::Barred(why) => {
-            refusal(why);
-        }
+        Figure::Barred(why) => refusal(rt, why),
         Figure::Of(found) => match found {
-            Found::At(n) => {
-                number(n);
-            }
-            Found::Nothing => {
-                io::write_all(STDOUT_FILENO, b"none\n");
-            }
+            Found::At(n) => number(rt, n),
+            Found::Nothing => print!(rt; "none\n"),
         },
     }
 }
 
-fn answer(a: Answer) {
+fn answer(rt: &impl Print, a: Answer) -> io::Result<()> {
     match a {
-        Answer::Judged(v) => {
-            verdict(v);
-        }
-        Answer::Refused(why) => {
-            refusal(why);
-        }
+        Answer::Judged(v) => verdict(rt, v),
+        Answer::Refused(why) => refusal(rt, why),
     }
 }
 
-pub fn show_verdict(case: &[u8], costs: Costs, run: Run) {
-    name(case);
-    answer(verdicts::judge(costs, run));
+pub fn show_verdict(rt: &impl Print, case: &str, costs: Costs, run: Run) -> io::Result<()> {
+    name(rt, case)?;
+    answer(rt, verdicts::judge(costs, run))
 }
 
 // The same of the first n records that are lent as numbers.
-pub fn show_records(case: &[u8], costs: Costs, records: &[u64; RUN_NUMBERS], n: usize) {
-    name(case);
-    answer(verdicts::judge_records(costs, records, n));
+pub fn show_records(
+    rt: &impl Print,
+    case: &str,
+    costs: Costs,
+    records: &[u64; RUN_NUMBERS],
+    n: usize,
+) -> io::Result<()> {
+    name(rt, case)?;
+    answer(rt, verdicts::judge_records(costs, records, n))
 }
 
 // The same of the first n records that are lent as structs.
-pub fn show_lent(case: &[u8], costs: Costs, records: [Piece; LENT_MOST], n: usize)
+pub fn show_lent(
+    rt: &impl Print,
+    case: &str,
+    costs: Costs,
+    records: [Piece; LENT_MOST],
+    n: usize,
+) -> io::Result<()>
     requires { n ≤ 80 }
 {
-    name(case);
-    answer(judge_first(costs, records, n));
+    name(rt, case)?;
+    answer(rt, judge_first(costs, records, n))
 }
 
-pub fn show_busy(case: &[u8], costs: Costs, run: Run) {
-    name(case);
-    io::write_all(STDOUT_FILENO, b"busy length");
+pub fn show_busy(rt: &impl Print, case: &str, costs: Costs, run: Run) -> io::Result<()> {
+    name(rt, case)?;
+    print!(rt; "busy length")?;
     let records = demand::records_of(run);
     let n = run.count;
-    figure(verdicts::busy_length(costs, &records, n));
+    figure(rt, verdicts::busy_length(costs, &records, n))
 }
 
-pub fn show_demand(case: &[u8], costs: Costs, run: Run, t: u64) {
-    name(case);
-    io::write_all(STDOUT_FILENO, b"demand at ");
-    io::print_decimal(STDOUT_FILENO, t);
+pub fn show_demand(rt: &impl Print, case: &str, costs: Costs, run: Run, t: u64) -> io::Result<()> {
+    name(rt, case)?;
+    print!(rt; "demand at {t}")?;
     let records = demand::records_of(run);
     let n = run.count;
-    figure(verdicts::demand_of(costs, &records, n, t));
+    figure(rt, verdicts::demand_of(costs, &records, n, t))
 }
 
-pub fn show_tight(case: &[u8], costs: Costs, run: Run) {
-    name(case);
-    io::write_all(STDOUT_FILENO, b"tight window");
+pub fn show_tight(rt: &impl Print, case: &str, costs: Costs, run: Run) -> io::Result<()> {
+    name(rt, case)?;
+    print!(rt; "tight window")?;
     let records = demand::records_of(run);
     let n = run.count;
-    figure(verdicts::tight_window(costs, &records, n));
+    figure(rt, verdicts::tight_window(costs, &records, n))
 }
 
-pub fn show_split(case: &[u8], costs: Costs, run: Run, task: Piece, grain: u64) {
+pub fn show_split(
+    rt: &impl Print,
+    case: &str,
+    costs: Costs,
+    run: Run,
+    task: Piece,
+    grain: u64,
+) -> io::Result<()> {
     let records = demand::records_of(run);
     let n = run.count;
-    show_split_beside(case, costs, &records, n, task, grain);
+    show_split_beside(rt, case, costs, &records, n, task, grain)
 }
 
 // The first piece's budget and its window, beside the first n records that are lent as numbers.
 pub fn show_split_beside(
-    case: &[u8],
+    rt: &impl Print,
+    case: &str,
     costs: Costs,
     records: &[u64; RUN_NUMBERS],
     n: usize,
     task: Piece,
     grain: u64,
-) {
-    name(case);
-    io::write_all(STDOUT_FILENO, b"split");
+) -> io::Result<()> {
+    name(rt, case)?;
+    print!(rt; "split")?;
     match splits::split_records(costs, records, n, task, grain) {
         Splitting::Denied(why) => {
-            io::write_all(STDOUT_FILENO, b"\t");
-            refusal(why);
+            print!(rt; "\t")?;
+            refusal(rt, why)
         }
         Splitting::Best(best) => match best {
             Split::Cut(x, w) => {
-                io::write_all(STDOUT_FILENO, b"\t");
-                io::print_decimal(STDOUT_FILENO, x);
-                number(w);
+                print!(rt; "\t{x}")?;
+                number(rt, w)
             }
-            Split::Nowhere => {
-                io::write_all(STDOUT_FILENO, b"\tnone\n");
-            }
+            Split::Nowhere => print!(rt; "\tnone\n"),
         },
     }
 }

@@ -3,8 +3,8 @@ use crate::plans::{alike, field, many, pair, show_counts, show_rows};
 use crate::runs::{costs, free};
 use demand::Costs;
 use edits::{add, retime, withdraw};
-use libc::STDOUT_FILENO;
 use plan::{Plan, Reply, plan_tasks};
+use std::io;
 use task::{Machine, Name, Task, Tasks, Times, no_machine, no_name};
 
 // A state that says of itself that seven pieces are placed, of the first and the third task on the first core, and has none.
@@ -27,19 +27,18 @@ fn by_hand(cores: usize, costs: Costs, tasks: Tasks) -> Plan {
 }
 
 // The refusal, and the counts of the plan beside it: of a refused edit the state's own. Of an accepted one also the rows.
-fn show_edit(case: &[u8], reply: Reply) {
-    io::write_all(STDOUT_FILENO, case);
+fn show_edit(rt: &impl Print, case: &str, reply: Reply) -> io::Result<()> {
+    print!(rt; "{case}")?;
     let plan = reply.plan;
     if reply.number != 0 {
-        io::write_all(STDOUT_FILENO, b"\trefusal");
-        field(reply.number);
-        field(reply.carries as u64);
-        show_counts(plan);
-        return;
+        print!(rt; "\trefusal")?;
+        field(rt, reply.number)?;
+        field(rt, reply.carries as u64)?;
+        return show_counts(rt, plan);
     }
-    show_counts(plan);
+    show_counts(rt, plan)?;
     let layout = plan.layout;
-    show_rows(layout);
+    show_rows(rt, layout)
 }
 
 fn name_at(place: usize) -> Name {
@@ -64,108 +63,129 @@ fn with_name(name: Name) -> Tasks {
 }
 
 // What the state itself breaks, before anything that is wrong with the edit: 1, 2, 6, then at the first bad task 8, 3 or 4.
-fn faults() {
+fn faults(rt: &impl Print) -> io::Result<()> {
     let bad = costs(0, 0, 0, 100001, 0, 0);
     show_edit(
-        b"by hand, no cores",
+        rt,
+        "by hand, no cores",
         add(by_hand(0, bad, many(65, 6, 10, 1)), no_name(), lasting(0)),
-    );
+    )?;
     show_edit(
-        b"by hand, bad constant",
+        rt,
+        "by hand, bad constant",
         withdraw(by_hand(2, bad, many(65, 6, 10, 1)), no_name()),
-    );
+    )?;
     show_edit(
-        b"by hand, sixty-five tasks",
+        rt,
+        "by hand, sixty-five tasks",
         retime(
             by_hand(2, free(), many(65, 0, 10, 1)),
             no_name(),
             lasting(0),
         ),
-    );
+    )?;
     show_edit(
-        b"by hand, a name of no form",
+        rt,
+        "by hand, a name of no form",
         add(
             by_hand(2, free(), with_name(no_name())),
             no_name(),
             lasting(0),
         ),
-    );
+    )?;
     show_edit(
-        b"by hand, no time",
+        rt,
+        "by hand, no time",
         withdraw(by_hand(2, free(), pair(6, 10, 0, 10)), no_name()),
-    );
+    )?;
     show_edit(
-        b"by hand, one name twice",
+        rt,
+        "by hand, one name twice",
         withdraw(by_hand(2, free(), with_name(name_at(0))), no_name()),
-    );
+    )
 }
 
 // The edit's own: 8, 3, 4 or 5, 6, then 7 with the task's place in the new list.
-fn own() {
+fn own(rt: &impl Print) -> io::Result<()> {
     let two = by_hand(2, free(), many(2, 6, 10, 1));
-    show_edit(b"add no name", add(two, no_name(), lasting(0)));
-    show_edit(b"add no time", add(two, name_at(0), lasting(0)));
-    show_edit(b"add one that is there", add(two, name_at(0), lasting(1)));
+    show_edit(rt, "add no name", add(two, no_name(), lasting(0)))?;
+    show_edit(rt, "add no time", add(two, name_at(0), lasting(0)))?;
     show_edit(
-        b"add a sixty-fifth",
+        rt,
+        "add one that is there",
+        add(two, name_at(0), lasting(1)),
+    )?;
+    show_edit(
+        rt,
+        "add a sixty-fifth",
         add(
             by_hand(2, free(), many(64, 1, 64, 0)),
             name_at(64),
             lasting(10),
         ),
-    );
+    )?;
     show_edit(
-        b"add where no room is",
+        rt,
+        "add where no room is",
         add(
             by_hand(1, free(), many(1, 5, 10, 0)),
             name_at(1),
             lasting(6),
         ),
-    );
-    show_edit(b"withdraw no name", withdraw(two, no_name()));
-    show_edit(b"withdraw one that is not there", withdraw(two, name_at(2)));
-    show_edit(b"retime no name", retime(two, no_name(), lasting(0)));
-    show_edit(b"retime to no time", retime(two, name_at(2), lasting(0)));
+    )?;
+    show_edit(rt, "withdraw no name", withdraw(two, no_name()))?;
     show_edit(
-        b"retime one that is not there",
+        rt,
+        "withdraw one that is not there",
+        withdraw(two, name_at(2)),
+    )?;
+    show_edit(rt, "retime no name", retime(two, no_name(), lasting(0)))?;
+    show_edit(rt, "retime to no time", retime(two, name_at(2), lasting(0)))?;
+    show_edit(
+        rt,
+        "retime one that is not there",
         retime(two, name_at(2), lasting(1)),
-    );
+    )?;
     show_edit(
-        b"retime where no room is",
+        rt,
+        "retime where no room is",
         retime(
             by_hand(1, free(), many(2, 5, 10, 0)),
             name_at(0),
             lasting(6),
         ),
-    );
+    )
 }
 
 // Accepted: the plan is the walk's, whatever the state said of its own.
-fn accepted() {
+fn accepted(rt: &impl Print) -> io::Result<()> {
     show_edit(
-        b"add",
+        rt,
+        "add",
         add(
             by_hand(2, free(), many(2, 6, 10, 1)),
             name_at(2),
             lasting(6),
         ),
-    );
+    )?;
     show_edit(
-        b"withdraw",
+        rt,
+        "withdraw",
         withdraw(by_hand(2, free(), many(3, 6, 10, 1)), name_at(1)),
-    );
+    )?;
     show_edit(
-        b"retime",
+        rt,
+        "retime",
         retime(
             by_hand(2, free(), many(3, 6, 10, 1)),
             name_at(0),
             lasting(1),
         ),
-    );
+    )
 }
 
-pub fn states_by_hand() {
-    faults();
-    own();
-    accepted();
+pub fn states_by_hand(rt: &impl Print) -> io::Result<()> {
+    faults(rt)?;
+    own(rt)?;
+    accepted(rt)
 }

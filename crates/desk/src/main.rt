@@ -6,14 +6,17 @@ mod answers;
 mod play;
 mod script;
 
-ghost use Rattle.std.specs.Prelude.{◌≡◌, length};
+ghost use Rattle.std.specs.Prelude.{◌≡◌, ◌≤◌, IfOk, length};
 
-use answers::refuse;
-use libc::STDIN_FILENO;
+use answers::{Answers, refuse};
 use plan::{Plan, plan_tasks};
 use play::play_bytes;
 use script::fresh;
 use sheet::{Read, read_sheet};
+use std::env::FillError;
+use std::io::Read as _;
+use std::rt::{Env, Files};
+use std::{fs, io, str};
 
 /// The bytes of a script's line so far. A line of more than 200 bytes is held as 201 of them: it is too long for any form.
 #[derive(Clone, Copy)]
@@ -29,13 +32,6 @@ pub struct Desk {
     pub line: Pending,
 }
 
-/// A desk, and whether more of the script may come.
-#[derive(Clone, Copy)]
-pub struct Turn {
-    pub more: bool,
-    pub desk: Desk,
-}
-
 // Room for a sheet of the largest size, and one byte more.
 fn sheet_room() -> [u8; 16385]
     ensures { 16385 ≡ length result }
@@ -43,63 +39,62 @@ fn sheet_room() -> [u8; 16385]
     [0u8; 16385]
 }
 
-// Whether a file can be read: a folder can be opened, and not read.
-fn readable(fd: i32) -> bool {
-    let mut none = [0u8; 1];
-    libc::read(fd, &mut none[..0]) >= 0
+// Reads until the room is full or the file is at its end, and says how many bytes came.
+fn fill(file: &mut impl io::Read, room: &mut [u8]) -> io::Result<usize>
+    ensures { IfOk result (λ n. n ≤ length room.new) }
+{
+    let mut done = 0;
+    while done < room.len() {
+        let n = file.read(&mut room[done..])?;
+        if n == 0 {
+            break;
+        }
+        done += n;
+    }
+    Ok(done)
 }
 
 // Reads the sheet in a file. One byte past the largest size is enough for its refusal.
-fn sheet_in(fd: i32) -> Read {
+fn sheet_in(rt: &impl Files, path: &str) -> io::Result<Read> {
+    let mut file = fs::open(rt, path)?;
     let mut buf = sheet_room();
-    let n = io::read_full(fd, &mut buf);
-    read_sheet(&buf[..n])
+    let n = fill(&mut file, &mut buf)?;
+    Ok(read_sheet(&buf[..n]))
 }
 
-// Reads once, and plays what came.
-fn play_some(desk: Desk) -> Turn {
-    let mut buf = io::buffer();
-    let got = libc::read(STDIN_FILENO, &mut buf);
-    if got < 0 {
-        os::fail(b"standard input");
-    }
-    let n = io::count(got, &buf);
-    if n == 0 {
-        return Turn { more: false, desk };
-    }
-    let next = play_bytes(desk, &buf[..n]);
-    Turn {
-        more: true,
-        desk: next,
-    }
-}
-
-// Plays the whole script. A proved loop has to end, and nothing says that a script does: it counts its turns down, from a number that no run uses up.
-fn play_all(plan: Plan) {
-    let line = fresh();
-    let desk = Desk { plan, line };
-    let mut turn = Turn { more: true, desk };
-    let mut turns = u64::MAX;
-    while turns > 0 {
-        if !turn.more {
+// Plays the whole script. A proved loop has to end, and nothing says that a script does: it counts its reads, up to a number that no run reaches.
+fn play_all(rt: &(impl Print + Input + Eprint), plan: Plan) -> io::Result<()> {
+    let mut answers = Answers::new(rt);
+    let mut script = rt.reader();
+    let mut desk = Desk {
+        plan,
+        line: fresh(),
+    };
+    for _ in 0..u64::MAX {
+        let mut buf = [0u8; 4096];
+        match script.read(&mut buf) {
+            Ok(0) => break,
+            Ok(n) => desk = play_bytes(&mut answers, desk, &buf[..n]),
+            Err(error) => {
+                eprintln!(rt; "standard input: {error}")?;
+                break;
+            }
+        }
+        if answers.failed() {
             break;
         }
-        let now = turn.desk;
-        turn = play_some(now);
-        turns -= 1;
     }
-    let last = turn.desk;
-    let cut = last.line;
-    if 0 < cut.len {
-        refuse(8, 0);
+    answers.outcome()?;
+    if 0 < desk.line.len {
+        refuse(rt, 8, 0)?;
     }
+    Ok(())
 }
 
 // Plays the script over the plan of a sheet; a refused sheet is the one answer.
-fn play_sheet(read: Read) {
+fn play_sheet(rt: &(impl Print + Input + Eprint), read: Read) -> io::Result<()> {
     if read.number != 0 {
-        refuse(read.number, read.carries);
-        return;
+        return refuse(rt, read.number, read.carries);
     }
     let sheet = read.sheet;
     let machine = sheet.machine;
@@ -107,31 +102,28 @@ fn play_sheet(read: Read) {
     let tasks = sheet.tasks;
     let reply = plan_tasks(machine, costs, tasks);
     if reply.number != 0 {
-        refuse(reply.number, reply.carries as u64);
-        return;
+        return refuse(rt, reply.number, reply.carries as u64);
     }
     let plan = reply.plan;
-    play_all(plan);
+    play_all(rt, plan)
 }
 
-fn main() {
-    let mut path = io::buffer();
-    let n = os::arg(1, &mut path);
-    if os::errno() != 0 {
-        os::fail(b"the sheet's path");
-        return;
+// Plays the script over the sheet at the path.
+fn play_path(rt: &(impl Print + Input + Eprint + Files), path: &str) -> io::Result<()> {
+    match sheet_in(rt, path) {
+        Ok(read) => play_sheet(rt, read),
+        Err(error) => eprintln!(rt; "{path}: {error}"),
     }
-    let fd = os::open_read(&path[..n]);
-    if fd < 0 {
-        os::fail(&path[..n]);
-        return;
+}
+
+fn main(rt: HostRuntime) -> io::Result<()> {
+    let mut path = [0u8; 4096];
+    match rt.arg(1, &mut path) {
+        Ok(n) => match str::from_utf8(&path[..n]) {
+            Ok(path) => play_path(&rt, path),
+            Err(error) => eprintln!(rt; "the sheet's path: {error}"),
+        },
+        Err(FillError::NotPresent) => eprintln!(rt; "the sheet's path: Invalid argument"),
+        Err(FillError::TooLong) => eprintln!(rt; "the sheet's path: File name too long"),
     }
-    if !readable(fd) {
-        os::fail(&path[..n]);
-        libc::close(fd);
-        return;
-    }
-    let read = sheet_in(fd);
-    libc::close(fd);
-    play_sheet(read);
 }

@@ -3,7 +3,7 @@ ghost use Rattle.std.specs.Prelude.{◌≡◌};
 ghost use Rattle.edits.specs.Edits.{given_back};
 ghost use Rattle.desk.specs.Desk.{reply_to, after_line, played_bytes};
 
-use crate::answers::tell;
+use crate::answers::Answers;
 use crate::script::{fresh, order_in, with_byte};
 use crate::{Desk, Pending};
 use edits::{add, retime, withdraw};
@@ -39,18 +39,18 @@ fn reply_to(order: Order, state: Plan) -> Reply
 }
 
 // Answers a line, and hands back the plan that is held then.
-fn answer(state: Plan, line: Pending) -> Plan
+fn answer<R: Print>(answers: &mut Answers<'_, R>, state: Plan, line: Pending) -> Plan
     ensures { result ≡ after_line line state }
 {
     let order = order_in(line);
     let deed = order.deed;
     let reply = reply_to(order, state);
-    tell(deed, reply);
+    answers.tell(deed, reply);
     reply.plan
 }
 
 // Takes the bytes of a script, and answers each line that ends among them.
-pub fn play_bytes(desk: Desk, bytes: &[u8]) -> Desk
+pub fn play_bytes<R: Print>(answers: &mut Answers<'_, R>, desk: Desk, bytes: &[u8]) -> Desk
     ensures { result ≡ played_bytes desk bytes.now }
 {
     let mut plan = desk.plan;
@@ -59,7 +59,7 @@ pub fn play_bytes(desk: Desk, bytes: &[u8]) -> Desk
     while i < bytes.len() {
         let b = bytes[i];
         if b == 10 {
-            plan = answer(plan, line);
+            plan = answer(answers, plan, line);
             line = fresh();
         } else {
             line = with_byte(line, b);
