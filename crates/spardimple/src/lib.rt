@@ -33,8 +33,7 @@ pub fn judge_lent(costs: Costs, pieces: &[Piece]) -> Answer
 
 /// The same on records and costs that are lent as bytes, four a number, lowest first. First 8, where the bytes make no whole records or not
 /// nine costs. The answer is one number, 2^32 · which + carries: 0 passes, 1 overloaded, 2 undecided, 100 + N the refusal N.
-#[unsafe(no_mangle)]
-pub extern "C" fn verdict(records: &[u8], costs: &[u8]) -> u64
+pub fn verdict(records: &[u8], costs: &[u8]) -> u64
     ensures exact { result ≡ verdict_number records.now costs.now }
 {
     if records.len() % 28 != 0 {
@@ -51,8 +50,7 @@ pub extern "C" fn verdict(records: &[u8], costs: &[u8]) -> u64
 /// A sheet's listing, written into a lent buffer. The answer is one number, 2^32 · which + carries: 0 and the listing's length, where it is
 /// written; 100 + N the refusal N: 9, then the first bad line's with its line, then 7 with the task, then 10 with the length needed. A refusal writes
 /// no byte, and the bytes beyond a listing stay.
-#[unsafe(no_mangle)]
-pub extern "C" fn plan_listing(sheet: &[u8], listing: &mut [u8]) -> u64
+pub fn plan_listing(sheet: &[u8], listing: &mut [u8]) -> u64
     ensures exact { (result ≡ listing_number sheet.now (length listing.old)) × (listing.new ≡ listing_left sheet.now listing.old) }
 {
     let read = read_sheet(sheet);
@@ -74,8 +72,7 @@ pub extern "C" fn plan_listing(sheet: &[u8], listing: &mut [u8]) -> u64
 
 /// Why the verdict on lent records is as it is: the listing of document 02, E1, written into a lent buffer. The answer is one number as `plan_listing` has it: refused as `verdict`
 /// is, then 10 with the length needed. A refusal writes no byte, and the bytes beyond a listing stay.
-#[unsafe(no_mangle)]
-pub extern "C" fn why_records(records: &[u8], costs: &[u8], out: &mut [u8]) -> u64
+pub fn why_records(records: &[u8], costs: &[u8], out: &mut [u8]) -> u64
     ensures exact { (result ≡ why_records_number records.now costs.now (length out.old)) × (out.new ≡ why_records_left records.now costs.now out.old) }
 {
     if records.len() % 28 != 0 {
@@ -92,8 +89,7 @@ pub extern "C" fn why_records(records: &[u8], costs: &[u8], out: &mut [u8]) -> u
 
 /// The same of a core, from 1, of a sheet's plan, its pieces called by the names of their tasks. Refused as the sheet is, but for 7; then a core that the machine has not with 1; then 10. Where the walk
 /// sticks, a first line tells which task found no room, and it is the last core, whichever was asked for, with the whole task added.
-#[unsafe(no_mangle)]
-pub extern "C" fn why_core(sheet: &[u8], core: u64, out: &mut [u8]) -> u64
+pub fn why_core(sheet: &[u8], core: u64, out: &mut [u8]) -> u64
     ensures exact { (result ≡ why_core_number sheet.now core (length out.old)) × (out.new ≡ why_core_left sheet.now core out.old) }
 {
     let read = read_sheet(sheet);
@@ -109,8 +105,7 @@ pub extern "C" fn why_core(sheet: &[u8], core: u64, out: &mut [u8]) -> u64
 }
 
 /// The demand g(t) of lent records as one core; 0 where `verdict` refuses them, and where t is above 101,000,000, which no judged length reaches.
-#[unsafe(no_mangle)]
-pub extern "C" fn demand_at(records: &[u8], costs: &[u8], t: u64) -> u64
+pub fn demand_at(records: &[u8], costs: &[u8], t: u64) -> u64
     ensures exact { result ≡ demand_number records.now costs.now t }
 {
     if records.len() % 28 != 0 {
@@ -133,8 +128,7 @@ pub extern "C" fn demand_at(records: &[u8], costs: &[u8], t: u64) -> u64
 
 /// Two sheets' plans side by side: the listing of document 02, E3, written into a lent buffer. The answer is one number as `plan_listing` has it: refused as the first sheet is, then as the second with
 /// 1000 added to `which`, then 10 with the length needed. A refusal writes no byte, and the bytes beyond a listing stay.
-#[unsafe(no_mangle)]
-pub extern "C" fn diff_listing(sheet1: &[u8], sheet2: &[u8], out: &mut [u8]) -> u64
+pub fn diff_listing(sheet1: &[u8], sheet2: &[u8], out: &mut [u8]) -> u64
     ensures exact { (result ≡ diff_number sheet1.now sheet2.now (length out.old)) × (out.new ≡ diff_left sheet1.now sheet2.now out.old) }
 {
     let read = read_sheet(sheet1);
