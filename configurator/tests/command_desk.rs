@@ -46,6 +46,16 @@ fn fed(command: &mut Command, bytes: &[u8]) -> Output {
     output
 }
 
+/// Copies a program. A process of its own writes it: had this one it open, so could a child that another
+/// test begins, and what is open for writing cannot be run.
+fn copied(from: &Path, to: &Path) {
+    assert!(Command::new("cp")
+        .args([from, to])
+        .status()
+        .unwrap()
+        .success());
+}
+
 const FILM: &str = "examples/film-line.sheet";
 
 /// What to do where the form is wrong and the cause is not known better.
@@ -472,8 +482,8 @@ fn the_installed_program() {
     fs::create_dir_all(&bin).unwrap();
     fs::create_dir_all(&lib).unwrap();
     let command = bin.join("spardimple");
-    fs::copy(env!("CARGO_BIN_EXE_spardimple"), &command).unwrap();
-    fs::copy(desk(), lib.join("desk")).unwrap();
+    copied(env!("CARGO_BIN_EXE_spardimple").as_ref(), &command);
+    copied(&desk(), &lib.join("desk"));
     let link = folder.join("link");
     std::os::unix::fs::symlink("bin/spardimple", &link).unwrap();
     for command in [&command, &link] {
@@ -484,7 +494,7 @@ fn the_installed_program() {
         assert_eq!(text(&played.stdout), file("examples/film-line.listing"));
     }
     fs::remove_file(lib.join("desk")).unwrap();
-    fs::copy("/bin/false", lib.join("desk")).unwrap();
+    copied("/bin/false".as_ref(), &lib.join("desk"));
     let mut program = program_at(&command);
     let program = program
         .env_remove("SPARDIMPLE_DESK")
