@@ -1,6 +1,6 @@
-//! Links the proved library. The archive is what `rt staticlib spardimple` writes at the project's
-//! root; the environment variable `SPARDIMPLE_ARCHIVE` may name another. Writes the manual page from
-//! the command's own description, and tells the command what it is built from.
+//! Links the proved library. The archive is what `bash .ci/prove archive` writes at the project's root;
+//! the environment variable `SPARDIMPLE_ARCHIVE` may name another. Writes the manual page from the
+//! command's own description, and tells the command what it is built from.
 
 #![warn(clippy::all, clippy::pedantic)]
 
@@ -27,7 +27,7 @@ fn main() {
     println!("cargo:rerun-if-changed={}", archive.display());
     if !archive.is_file() {
         stop(&format!(
-            "{} is missing: `rt staticlib spardimple` at the project's root writes it",
+            "{} is missing: `bash .ci/prove archive` at the project's root writes it",
             archive.display()
         ));
     }

@@ -1,5 +1,5 @@
 //! The proved program `desk` against stated answers and the oracle, which plans afresh at each edit.
-//! The program is `target/bin/desk`, which `rt check desk` writes; `SPARDIMPLE_EMULATOR` names what
+//! The program is `target/bin/desk`, which `bash .ci/prove desk` writes; `SPARDIMPLE_EMULATOR` names what
 //! runs it on a machine that is not x86-64.
 
 #![warn(clippy::all, clippy::pedantic)]
@@ -18,7 +18,7 @@ use tempfile::NamedTempFile;
 fn answers(file: &NamedTempFile, sheet: &[u8], script: &[u8]) -> Vec<u8> {
     std::fs::write(file, sheet).unwrap();
     let desk = PathBuf::from(env!("CARGO_MANIFEST_DIR")).join("../target/bin/desk");
-    assert!(desk.exists(), "no program: run `rt check desk` first");
+    assert!(desk.exists(), "no program: run `bash .ci/prove desk` first");
     let mut command = match std::env::var_os("SPARDIMPLE_EMULATOR") {
         Some(emulator) => {
             let mut command = Command::new(emulator);

@@ -39,11 +39,9 @@ pub(crate) const NAMES: [&str; 12] = [
 ];
 
 /// Lines of a script that are of another form, or whose numbers are outside the sizes.
-const OTHER_LINES: [&str; 10] = [
+const OTHER_LINES: [&str; 8] = [
     "\n",
     "list\t\n",
-    "diff\t\n",
-    "diff\tx\n",
     "add\n",
     "add\tt1\t1\t2\t3\t0\t0\n",
     "add\tt1\t0\t0\t0\t0\t0\t0\n",
@@ -201,8 +199,8 @@ impl SheetDraw {
         [budget, deadline, period, jitter, preemption, migration]
     }
 
-    /// A script of that many lines: edits with names that are held or not, formed or not, what
-    /// the plan is and what moved, and now and then a line of another form.
+    /// A script of that many lines: edits with names that are held or not, formed or not, lists,
+    /// and now and then a line of another form.
     pub fn script(&self, lines: u64, random: &mut Random) -> Vec<u8> {
         let mut text = Vec::new();
         for _ in 0..lines {
@@ -219,12 +217,12 @@ impl SheetDraw {
                 1..=4 => format!("add\t{name}\t{times}\n"),
                 5..=7 => format!("withdraw\t{name}\n"),
                 8..=10 => format!("retime\t{name}\t{times}\n"),
-                11 => random.pick(&["list\n", "diff\n"]).to_owned(),
+                11 => "list\n".to_owned(),
                 _ => random.pick(&OTHER_LINES).to_owned(),
             };
             text.extend(line.bytes());
         }
-        text.extend(b"list\ndiff\n");
+        text.extend(b"list\n");
         text
     }
 

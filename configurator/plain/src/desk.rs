@@ -1,8 +1,6 @@
 //! The three edits, and scripts of them: document 01, "Edits on a held plan". Each edit plans
-//! afresh. A script may ask for the plan, and for how it differs from the one at the start (document
-//! 02, E3).
+//! afresh.
 
-use crate::diff;
 use crate::listing;
 use crate::refusal::Refusal;
 use crate::sheet::{self, numbers, Sheet};
@@ -130,8 +128,8 @@ fn position(tasks: &[Task], name: &[u8]) -> Option<usize> {
     tasks.iter().position(|task| task.name == name)
 }
 
-/// Plays a script over a sheet: one answer a line, `ok`, `refusal` with number and carry, the listing,
-/// or what moved since the start. A line of another form is `refusal 8 0`, and so is a last line without its newline. A
+/// Plays a script over a sheet: one answer a line, `ok`, `refusal` with number and carry, or the
+/// listing. A line of another form is `refusal 8 0`, and so is a last line without its newline. A
 /// refused sheet is the one answer and nothing is played.
 #[must_use]
 pub fn play(bytes: &[u8], script: &[u8], way: Way) -> Vec<u8> {
@@ -140,14 +138,10 @@ pub fn play(bytes: &[u8], script: &[u8], way: Way) -> Vec<u8> {
         Ok(desk) => desk,
         Err(refusal) => return refusal_line(refusal),
     };
-    let start = desk.clone();
     script
         .split_inclusive(|&byte| byte == b'\n')
         .flat_map(|line| match command(line) {
             Some(Command::List) => listing::of_plan(&desk.sheet, &desk.plan),
-            Some(Command::Diff) => {
-                diff::of_plans((&start.sheet, &start.plan), (&desk.sheet, &desk.plan))
-            }
             Some(Command::Edit(edit)) => match desk.edit(edit, way) {
                 Ok(()) => b"ok\n".to_vec(),
                 Err(refusal) => refusal_line(refusal),
@@ -160,7 +154,6 @@ pub fn play(bytes: &[u8], script: &[u8], way: Way) -> Vec<u8> {
 /// A line of a script.
 enum Command<'a> {
     List,
-    Diff,
     Edit(Edit<'a>),
 }
 
@@ -171,7 +164,6 @@ fn command(line: &[u8]) -> Option<Command<'_>> {
     let times = |fields: &[&[u8]]| numbers(fields).map(Times::from_numbers);
     Some(match fields.as_slice() {
         [b"list"] => Command::List,
-        [b"diff"] => Command::Diff,
         [b"withdraw", name] => Command::Edit(Edit::Withdraw(name)),
         [b"add", name, rest @ ..] => Command::Edit(Edit::Add(name, times(rest)?)),
         [b"retime", name, rest @ ..] => Command::Edit(Edit::Retime(name, times(rest)?)),

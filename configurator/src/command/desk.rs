@@ -113,8 +113,7 @@ impl Desk {
         }
     }
 
-    /// Plays what is typed, each line answered before the next is asked for. What moved ends where
-    /// another answer begins: behind such a line an empty one is sent, and its refusal is no edit's.
+    /// Plays what is typed, each line answered before the next is asked for.
     fn converse(
         &mut self,
         keys: &mut dyn FnMut() -> Result<Typed, Failure>,
@@ -140,23 +139,18 @@ impl Desk {
                     streams.say(prompt::HELP);
                     continue;
                 }
-                let unended = prompt::asks_diff(&edit);
                 let line = Line {
                     bytes: edit.into_bytes(),
                     ended: true,
                 };
                 if let Some(edits) = &mut edits {
-                    let end: &[u8] = if unended { b"\n\n" } else { b"\n" };
-                    let sent = [&line.bytes[..], end].concat();
+                    let sent = [&line.bytes[..], b"\n"].concat();
                     // a program that is gone gives no answer
                     let _ = edits.write_all(&sent);
                 }
                 match self.program.answer(streams)? {
                     Some(answer) => self.answered(&line, answer, streams),
                     None => return Err(self.program.early()),
-                }
-                if unended && !self.program.swallow(streams)? {
-                    return Err(self.program.early());
                 }
             }
         }

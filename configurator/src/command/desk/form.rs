@@ -14,12 +14,11 @@ const PART: &str = "put one tab between fields";
 /// An edit's word, then so many names, then so many numbers.
 struct Form(&'static str, usize, usize);
 
-const FORMS: [Form; 5] = [
+const FORMS: [Form; 4] = [
     Form("add", 1, 6),
     Form("withdraw", 1, 0),
     Form("retime", 1, 6),
     Form("list", 0, 0),
-    Form("diff", 0, 0),
 ];
 
 /// 8: what is wrong with an edit's form.
@@ -93,7 +92,7 @@ fn no_word(field: &[u8]) -> Fault {
     } else if known {
         Fault::new(whole, SPACES).with(PART)
     } else {
-        let why = "an edit begins with `add`, `withdraw`, `retime`, `list` or `diff`";
+        let why = "an edit begins with `add`, `withdraw`, `retime` or `list`";
         Fault::new(whole, why)
     }
 }
@@ -115,7 +114,7 @@ mod tests {
 
     #[test]
     fn faults_of_forms() {
-        let words = "an edit begins with `add`, `withdraw`, `retime`, `list` or `diff`";
+        let words = "an edit begins with `add`, `withdraw`, `retime` or `list`";
         let spaces = "there are spaces, and only tabs part fields";
         let returns = "a carriage return; the script has another system's line ends";
         let help =
@@ -140,12 +139,6 @@ mod tests {
             ["add x 1 1", "add x 1 1", spaces],
             [" list", " list", spaces],
             ["List", "List", "the word is `list`, in lower case"],
-            ["Diff", "Diff", "the word is `diff`, in lower case"],
-            [
-                "diff\tx",
-                "diff⇥x",
-                "fields behind `diff`: 1, where 0 should stand",
-            ],
             ["HELP", "HELP", help],
             ["quit", "quit", quit],
             ["\u{feff}list\r", "\\u{feff}", mark],

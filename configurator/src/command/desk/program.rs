@@ -74,15 +74,6 @@ impl Program {
         self.answers.next(&self.path, streams)
     }
 
-    /// Takes the answer to a line of no form without printing it. Whether there was one.
-    ///
-    /// # Errors
-    ///
-    /// Another answer was there, and cannot be printed.
-    pub fn swallow(&mut self, streams: &mut Streams) -> Result<bool, Failure> {
-        self.answers.swallow(&self.path, streams)
-    }
-
     /// Looks how the program has ended, once its answers have.
     ///
     /// # Errors

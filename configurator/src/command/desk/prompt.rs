@@ -14,13 +14,12 @@ const PROMPT: &str = "desk> ";
 pub const HELP: &str = "\
 edits, one a line, fields parted by spaces or tabs:
   list                                the plan as it is now
-  diff                                what moved since the desk began
   add       NAME  C  D  T  J  P  M    one task more, behind the others
   retime    NAME  C  D  T  J  P  M    other times for a task
   withdraw  NAME                      one task less
 C is the work, D the deadline, T the period, J the jitter, P and M the cache
 charges of a preemption and a migration, all in ticks. The answer is ok, the
-listing, what moved, or refusal with its number and what it carries.
+listing, or refusal with its number and what it carries.
 The sheet itself is not changed, and nothing is kept when the desk ends.
 The arrow keys bring back what was typed before, Ctrl-C drops a line;
 `quit`, `exit` or Ctrl-D ends.";
@@ -96,12 +95,6 @@ pub fn edit(typed: &str) -> Option<String> {
     (!fields.is_empty()).then(|| fields.join("\t"))
 }
 
-/// Whether an edit asks what moved. Its answer does not tell where it ends.
-#[must_use]
-pub fn asks_diff(edit: &str) -> bool {
-    edit == "diff"
-}
-
 /// Whether an edit is none, but `help` or `?`, alone or before other words.
 #[must_use]
 pub fn asks_help(edit: &str) -> bool {
@@ -136,20 +129,16 @@ mod tests {
 
     #[test]
     fn words_of_the_prompt() {
-        for (edit, help, end, diff) in [
-            ("help", true, false, false),
-            ("Help\tadd", true, false, false),
-            ("?", true, false, false),
-            ("quit", false, true, false),
-            ("EXIT", false, true, false),
-            ("quit\tnow", false, false, false),
-            ("list", false, false, false),
-            ("diff", false, false, true),
-            ("Diff", false, false, false),
-            ("diff\tlist", false, false, false),
+        for (edit, help, end) in [
+            ("help", true, false),
+            ("Help\tadd", true, false),
+            ("?", true, false),
+            ("quit", false, true),
+            ("EXIT", false, true),
+            ("quit\tnow", false, false),
+            ("list", false, false),
         ] {
-            let asks = (asks_help(edit), asks_end(edit), asks_diff(edit));
-            assert_eq!(asks, (help, end, diff), "{edit}");
+            assert_eq!((asks_help(edit), asks_end(edit)), (help, end), "{edit}");
         }
     }
 
