@@ -22,41 +22,41 @@ use std::io;
 
 // K1 to K7, without costs but for the last.
 fn verdicts(rt: &impl Print) -> io::Result<()> {
-    show_verdict(rt, "K1", free(), empty())?;
-    show_verdict(rt, "K2", free(), with(empty(), whole(1, 1, 1)))?;
+    show_verdict(rt, b"K1", free(), empty())?;
+    show_verdict(rt, b"K2", free(), with(empty(), whole(1, 1, 1)))?;
     let twice_five = with(with(empty(), whole(5, 5, 10)), whole(5, 5, 10));
-    show_verdict(rt, "K3", free(), twice_five)?;
+    show_verdict(rt, b"K3", free(), twice_five)?;
     let twice_six = with(with(empty(), whole(6, 10, 10)), whole(6, 10, 10));
-    show_verdict(rt, "K4", free(), twice_six)?;
+    show_verdict(rt, b"K4", free(), twice_six)?;
     let two = with(with(empty(), whole(2, 10, 10)), whole(2, 10, 10));
     let four = with(with(two, whole(2, 10, 10)), whole(2, 10, 10));
-    show_verdict(rt, "K5", free(), with(four, whole(2, 2, 10)))?;
-    show_verdict(rt, "K6", free(), with(four, whole(3, 3, 10)))?;
+    show_verdict(rt, b"K5", free(), with(four, whole(2, 2, 10)))?;
+    show_verdict(rt, b"K6", free(), with(four, whole(3, 3, 10)))?;
     let windows = with(with(empty(), whole(8, 10, 50)), whole(1, 12, 50));
-    show_verdict(rt, "K7", costs(0, 0, 0, 4, 0, 0), windows)
+    show_verdict(rt, b"K7", costs(0, 0, 0, 4, 0, 0), windows)
 }
 
 // K8 to K11, with the figures that document 01 gives.
 fn figures(rt: &impl Print) -> io::Result<()> {
     let one = with(empty(), whole(5, 100, 100));
-    show_busy(rt, "K8", costs(2, 3, 1, 4, 0, 0), one)?;
-    show_demand(rt, "K8", costs(2, 3, 1, 4, 0, 0), one, 100)?;
-    show_verdict(rt, "K8", costs(2, 3, 1, 4, 0, 0), one)?;
+    show_busy(rt, b"K8", costs(2, 3, 1, 4, 0, 0), one)?;
+    show_demand(rt, b"K8", costs(2, 3, 1, 4, 0, 0), one, 100)?;
+    show_verdict(rt, b"K8", costs(2, 3, 1, 4, 0, 0), one)?;
     show_tight(
         rt,
-        "K9",
+        b"K9",
         costs(2, 3, 1, 4, 2, 1),
         with(empty(), piece(Kind::First, 5, 100, 100, 0)),
     )?;
     show_tight(
         rt,
-        "K10",
+        b"K10",
         costs(2, 3, 1, 4, 2, 1),
         with(empty(), piece(Kind::First, 5, 100, 100, 5)),
     )?;
     show_verdict(
         rt,
-        "K11",
+        b"K11",
         free(),
         with(empty(), piece(Kind::Whole, 1, 5, 10, 5)),
     )
@@ -68,42 +68,47 @@ fn table_four(rt: &impl Print) -> io::Result<()> {
         with(empty(), piece(Kind::First, 5, 5, 16, 0)),
         whole(14, 40, 40),
     );
-    show_verdict(rt, "table IV, core 1", free(), with(one, whole(16, 48, 48)))?;
+    show_verdict(
+        rt,
+        b"table IV, core 1",
+        free(),
+        with(one, whole(16, 48, 48)),
+    )?;
     let two = with(
         with(empty(), piece(Kind::First, 1, 1, 12, 0)),
         whole(9, 20, 20),
     );
     let more = with(with(two, whole(6, 15, 15)), piece(Kind::Last, 1, 11, 16, 0));
-    show_verdict(rt, "table IV, core 2", free(), more)?;
+    show_verdict(rt, b"table IV, core 2", free(), more)?;
     let three = with(
         with(empty(), whole(5, 10, 10)),
         piece(Kind::Last, 5, 11, 12, 0),
     );
-    show_verdict(rt, "table IV, core 3", free(), three)
+    show_verdict(rt, b"table IV, core 3", free(), three)
 }
 
 // What is refused, in its order: 6, 2, 3.
 fn refusals(rt: &impl Print) -> io::Result<()> {
     let bad = with(with(empty(), whole(1, 1, 1)), whole(2, 1, 1));
-    show_verdict(rt, "second record", free(), bad)?;
-    show_verdict(rt, "bad constant", costs(0, 0, 0, 100001, 0, 0), bad)?;
+    show_verdict(rt, b"second record", free(), bad)?;
+    show_verdict(rt, b"bad constant", costs(0, 0, 0, 100001, 0, 0), bad)?;
     let mut many = bad;
     many.count = 80;
-    show_verdict(rt, "80 records", costs(0, 0, 0, 100001, 0, 0), many)
+    show_verdict(rt, b"80 records", costs(0, 0, 0, 100001, 0, 0), many)
 }
 
 // Records that are lent as numbers, of which the eighth is the second one's kind.
 fn lent_numbers(rt: &impl Print) -> io::Result<()> {
     let mut records = records_of(with(with(empty(), whole(1, 2, 4)), whole(1, 2, 4)));
-    show_records(rt, "two whole pieces", free(), &records, 2)?;
+    show_records(rt, b"two whole pieces", free(), &records, 2)?;
     records[7] = 2;
-    show_records(rt, "the second a last piece", free(), &records, 2)?;
+    show_records(rt, b"the second a last piece", free(), &records, 2)?;
     records[7] = 3;
-    show_records(rt, "the second of another kind", free(), &records, 2)?;
-    show_records(rt, "the first alone", free(), &records, 1)?;
+    show_records(rt, b"the second of another kind", free(), &records, 2)?;
+    show_records(rt, b"the first alone", free(), &records, 1)?;
     show_split_beside(
         rt,
-        "beside another kind",
+        b"beside another kind",
         free(),
         &records,
         2,
@@ -112,7 +117,7 @@ fn lent_numbers(rt: &impl Print) -> io::Result<()> {
     )?;
     show_split_beside(
         rt,
-        "beside the first alone",
+        b"beside the first alone",
         free(),
         &records,
         1,
@@ -124,36 +129,36 @@ fn lent_numbers(rt: &impl Print) -> io::Result<()> {
 // Records that are lent as structs: K1 to K4 and K7 once more, as many as a run may have, and what is refused: 3, 2, 6.
 fn lent_structs(rt: &impl Print) -> io::Result<()> {
     let mut records = [whole(1, 1, 1); LENT_MOST];
-    show_lent(rt, "K1, lent", free(), records, 0)?;
-    show_lent(rt, "K2, lent", free(), records, 1)?;
+    show_lent(rt, b"K1, lent", free(), records, 0)?;
+    show_lent(rt, b"K2, lent", free(), records, 1)?;
     records[0] = whole(5, 5, 10);
     records[1] = whole(5, 5, 10);
-    show_lent(rt, "K3, lent", free(), records, 2)?;
+    show_lent(rt, b"K3, lent", free(), records, 2)?;
     records[0] = whole(6, 10, 10);
     records[1] = whole(6, 10, 10);
-    show_lent(rt, "K4, lent", free(), records, 2)?;
+    show_lent(rt, b"K4, lent", free(), records, 2)?;
     records[0] = whole(8, 10, 50);
     records[1] = whole(1, 12, 50);
-    show_lent(rt, "K7, lent", costs(0, 0, 0, 4, 0, 0), records, 2)?;
+    show_lent(rt, b"K7, lent", costs(0, 0, 0, 4, 0, 0), records, 2)?;
     records[1] = whole(2, 1, 1);
-    show_lent(rt, "second record, lent", free(), records, 2)?;
+    show_lent(rt, b"second record, lent", free(), records, 2)?;
     show_lent(
         rt,
-        "bad constant, lent",
+        b"bad constant, lent",
         costs(0, 0, 0, 100001, 0, 0),
         records,
         2,
     )?;
     show_lent(
         rt,
-        "79 records, lent",
+        b"79 records, lent",
         free(),
         [whole(1, 79, 79); LENT_MOST],
         79,
     )?;
     show_lent(
         rt,
-        "80 records, lent",
+        b"80 records, lent",
         costs(0, 0, 0, 100001, 0, 0),
         records,
         80,
@@ -164,43 +169,64 @@ fn lent_structs(rt: &impl Print) -> io::Result<()> {
 // does not pass, at x = 2 it does.
 fn splits(rt: &impl Print) -> io::Result<()> {
     let press = with(empty(), whole(6, 10, 10));
-    show_split(rt, "feed beside press", free(), press, whole(6, 10, 10), 1)?;
+    show_split(rt, b"feed beside press", free(), press, whole(6, 10, 10), 1)?;
     let last_of_one = with(empty(), piece(Kind::Last, 2, 3, 4, 0));
-    show_verdict(rt, "hole, last piece of 1", ipis(1, 2), last_of_one)?;
-    show_split(rt, "hole", ipis(1, 2), empty(), whole(3, 4, 4), 1)?;
+    show_verdict(rt, b"hole, last piece of 1", ipis(1, 2), last_of_one)?;
+    show_split(rt, b"hole", ipis(1, 2), empty(), whole(3, 4, 4), 1)?;
     let beside = with(empty(), whole(4, 7, 7));
     show_split(
         rt,
-        "hole beside a task",
+        b"hole beside a task",
         ipis(3, 0),
         beside,
         whole(3, 6, 6),
         1,
     )?;
-    show_split(rt, "no grain", free(), press, whole(6, 10, 10), 0)?;
-    show_split(rt, "bad task", free(), press, whole(6, 5, 10), 1)
+    show_split(rt, b"no grain", free(), press, whole(6, 10, 10), 0)?;
+    show_split(rt, b"bad task", free(), press, whole(6, 5, 10), 1)
 }
 
 // Plans: 001's table II, document 01's sheet, no room, splits on fifteen of sixteen cores, sixty-four tasks on one core, and what is refused before.
 fn whole_plans(rt: &impl Print) -> io::Result<()> {
-    show_plan(rt, "table II", 2, free(), many(3, 66, 100, 1), true)?;
+    show_plan(rt, b"table II", 2, free(), many(3, 66, 100, 1), true)?;
     show_plan(
         rt,
-        "document 01's sheet",
+        b"document 01's sheet",
         2,
         free(),
         many(3, 6, 10, 1),
         true,
     )?;
-    show_plan(rt, "the hole", 2, ipis(3, 0), pair(4, 7, 3, 6), true)?;
-    show_plan(rt, "no room", 1, free(), many(2, 6, 10, 0), true)?;
-    show_plan(rt, "sixteen cores", 16, free(), many(31, 51, 100, 0), false)?;
-    show_plan(rt, "sixty-four tasks", 1, free(), many(64, 1, 64, 0), false)?;
-    show_plan(rt, "sixty-five tasks", 1, free(), many(65, 1, 64, 0), false)?;
-    show_plan(rt, "no tasks", 3, free(), many(0, 1, 1, 0), false)?;
+    show_plan(rt, b"the hole", 2, ipis(3, 0), pair(4, 7, 3, 6), true)?;
+    show_plan(rt, b"no room", 1, free(), many(2, 6, 10, 0), true)?;
     show_plan(
         rt,
-        "no cores",
+        b"sixteen cores",
+        16,
+        free(),
+        many(31, 51, 100, 0),
+        false,
+    )?;
+    show_plan(
+        rt,
+        b"sixty-four tasks",
+        1,
+        free(),
+        many(64, 1, 64, 0),
+        false,
+    )?;
+    show_plan(
+        rt,
+        b"sixty-five tasks",
+        1,
+        free(),
+        many(65, 1, 64, 0),
+        false,
+    )?;
+    show_plan(rt, b"no tasks", 3, free(), many(0, 1, 1, 0), false)?;
+    show_plan(
+        rt,
+        b"no cores",
         0,
         costs(0, 0, 0, 100001, 0, 0),
         many(3, 6, 10, 1),

@@ -106,12 +106,12 @@ pub fn show_counts(rt: &impl Print, plan: Plan) -> io::Result<()> {
 
 fn planned(
     rt: &impl Print,
-    case: &str,
+    case: &[u8],
     cores: usize,
     costs: Costs,
     tasks: Tasks,
 ) -> io::Result<Reply> {
-    print!(rt; "{case}")?;
+    rt.write_all(case)?;
     let machine = Machine {
         cores: cores,
         grain: 1,
@@ -132,7 +132,7 @@ pub fn show_rows(rt: &impl Print, layout: Layout) -> io::Result<()> {
 // The counts, or the refusal.
 pub fn show_plan(
     rt: &impl Print,
-    case: &str,
+    case: &[u8],
     cores: usize,
     costs: Costs,
     tasks: Tasks,

@@ -7,8 +7,9 @@ use demand::{
 };
 use std::io;
 
-pub fn name(rt: &impl Print, text: &str) -> io::Result<()> {
-    print!(rt; "{text}\t")
+pub fn name(rt: &impl Print, text: &[u8]) -> io::Result<()> {
+    rt.write_all(text)?;
+    print!(rt; "\t")
 }
 
 fn number(rt: &impl Print, n: u64) -> io::Result<()> {
@@ -57,7 +58,7 @@ fn answer(rt: &impl Print, a: Answer) -> io::Result<()> {
     }
 }
 
-pub fn show_verdict(rt: &impl Print, case: &str, costs: Costs, run: Run) -> io::Result<()> {
+pub fn show_verdict(rt: &impl Print, case: &[u8], costs: Costs, run: Run) -> io::Result<()> {
     name(rt, case)?;
     answer(rt, verdicts::judge(costs, run))
 }
@@ -65,7 +66,7 @@ pub fn show_verdict(rt: &impl Print, case: &str, costs: Costs, run: Run) -> io::
 // The same of the first n records that are lent as numbers.
 pub fn show_records(
     rt: &impl Print,
-    case: &str,
+    case: &[u8],
     costs: Costs,
     records: &[u64; RUN_NUMBERS],
     n: usize,
@@ -77,7 +78,7 @@ pub fn show_records(
 // The same of the first n records that are lent as structs.
 pub fn show_lent(
     rt: &impl Print,
-    case: &str,
+    case: &[u8],
     costs: Costs,
     records: [Piece; LENT_MOST],
     n: usize,
@@ -88,7 +89,7 @@ pub fn show_lent(
     answer(rt, judge_first(costs, records, n))
 }
 
-pub fn show_busy(rt: &impl Print, case: &str, costs: Costs, run: Run) -> io::Result<()> {
+pub fn show_busy(rt: &impl Print, case: &[u8], costs: Costs, run: Run) -> io::Result<()> {
     name(rt, case)?;
     print!(rt; "busy length")?;
     let records = demand::records_of(run);
@@ -96,7 +97,7 @@ pub fn show_busy(rt: &impl Print, case: &str, costs: Costs, run: Run) -> io::Res
     figure(rt, verdicts::busy_length(costs, &records, n))
 }
 
-pub fn show_demand(rt: &impl Print, case: &str, costs: Costs, run: Run, t: u64) -> io::Result<()> {
+pub fn show_demand(rt: &impl Print, case: &[u8], costs: Costs, run: Run, t: u64) -> io::Result<()> {
     name(rt, case)?;
     print!(rt; "demand at {t}")?;
     let records = demand::records_of(run);
@@ -104,7 +105,7 @@ pub fn show_demand(rt: &impl Print, case: &str, costs: Costs, run: Run, t: u64) 
     figure(rt, verdicts::demand_of(costs, &records, n, t))
 }
 
-pub fn show_tight(rt: &impl Print, case: &str, costs: Costs, run: Run) -> io::Result<()> {
+pub fn show_tight(rt: &impl Print, case: &[u8], costs: Costs, run: Run) -> io::Result<()> {
     name(rt, case)?;
     print!(rt; "tight window")?;
     let records = demand::records_of(run);
@@ -114,7 +115,7 @@ pub fn show_tight(rt: &impl Print, case: &str, costs: Costs, run: Run) -> io::Re
 
 pub fn show_split(
     rt: &impl Print,
-    case: &str,
+    case: &[u8],
     costs: Costs,
     run: Run,
     task: Piece,
@@ -128,7 +129,7 @@ pub fn show_split(
 // The first piece's budget and its window, beside the first n records that are lent as numbers.
 pub fn show_split_beside(
     rt: &impl Print,
-    case: &str,
+    case: &[u8],
     costs: Costs,
     records: &[u64; RUN_NUMBERS],
     n: usize,

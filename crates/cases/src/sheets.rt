@@ -13,7 +13,7 @@ fn buffer() -> [u8; 1024]
 }
 
 // The refusal with what it carries; or a newline and the listing.
-pub fn show_sheet(rt: &impl Print, title: &str, bytes: &[u8]) -> io::Result<()> {
+pub fn show_sheet(rt: &impl Print, title: &[u8], bytes: &[u8]) -> io::Result<()> {
     let mut buf = buffer();
     let said = plan_listing(bytes, &mut buf);
     let which = said / 4294967296;
@@ -34,13 +34,13 @@ pub fn show_sheet(rt: &impl Print, title: &str, bytes: &[u8]) -> io::Result<()> 
 pub fn whole_sheets(rt: &impl Print) -> io::Result<()> {
     show_sheet(
         rt,
-        "document 01's sheet, from bytes",
+        b"document 01's sheet, from bytes",
         b"machine\t2\t1\ncost\t0\t0\t0\t0\t0\t0\t0\t0\t0\npart\tdrv-a\t6\t10\t10\t0\t0\t1\nfit\tpress\tdrv-a\nfit\tfeed\tdrv-a\nfit\tweld\tdrv-a\n",
     )?;
     show_sheet(
         rt,
-        "drv-a2 where only drv-a is listed",
+        b"drv-a2 where only drv-a is listed",
         b"machine\t2\t1\ncost\t0\t0\t0\t0\t0\t0\t0\t0\t0\npart\tdrv-a\t6\t10\t10\t0\t0\t1\nfit\tpress\tdrv-a\nfit\tfeed\tdrv-a2\n",
     )?;
-    show_sheet(rt, "no sheet", b"")
+    show_sheet(rt, b"no sheet", b"")
 }

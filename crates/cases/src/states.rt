@@ -27,8 +27,8 @@ fn by_hand(cores: usize, costs: Costs, tasks: Tasks) -> Plan {
 }
 
 // The refusal, and the counts of the plan beside it: of a refused edit the state's own. Of an accepted one also the rows.
-fn show_edit(rt: &impl Print, case: &str, reply: Reply) -> io::Result<()> {
-    print!(rt; "{case}")?;
+fn show_edit(rt: &impl Print, case: &[u8], reply: Reply) -> io::Result<()> {
+    rt.write_all(case)?;
     let plan = reply.plan;
     if reply.number != 0 {
         print!(rt; "\trefusal")?;
@@ -67,17 +67,17 @@ fn faults(rt: &impl Print) -> io::Result<()> {
     let bad = costs(0, 0, 0, 100001, 0, 0);
     show_edit(
         rt,
-        "by hand, no cores",
+        b"by hand, no cores",
         add(by_hand(0, bad, many(65, 6, 10, 1)), no_name(), lasting(0)),
     )?;
     show_edit(
         rt,
-        "by hand, bad constant",
+        b"by hand, bad constant",
         withdraw(by_hand(2, bad, many(65, 6, 10, 1)), no_name()),
     )?;
     show_edit(
         rt,
-        "by hand, sixty-five tasks",
+        b"by hand, sixty-five tasks",
         retime(
             by_hand(2, free(), many(65, 0, 10, 1)),
             no_name(),
@@ -86,7 +86,7 @@ fn faults(rt: &impl Print) -> io::Result<()> {
     )?;
     show_edit(
         rt,
-        "by hand, a name of no form",
+        b"by hand, a name of no form",
         add(
             by_hand(2, free(), with_name(no_name())),
             no_name(),
@@ -95,12 +95,12 @@ fn faults(rt: &impl Print) -> io::Result<()> {
     )?;
     show_edit(
         rt,
-        "by hand, no time",
+        b"by hand, no time",
         withdraw(by_hand(2, free(), pair(6, 10, 0, 10)), no_name()),
     )?;
     show_edit(
         rt,
-        "by hand, one name twice",
+        b"by hand, one name twice",
         withdraw(by_hand(2, free(), with_name(name_at(0))), no_name()),
     )
 }
@@ -108,16 +108,16 @@ fn faults(rt: &impl Print) -> io::Result<()> {
 // The edit's own: 8, 3, 4 or 5, 6, then 7 with the task's place in the new list.
 fn own(rt: &impl Print) -> io::Result<()> {
     let two = by_hand(2, free(), many(2, 6, 10, 1));
-    show_edit(rt, "add no name", add(two, no_name(), lasting(0)))?;
-    show_edit(rt, "add no time", add(two, name_at(0), lasting(0)))?;
+    show_edit(rt, b"add no name", add(two, no_name(), lasting(0)))?;
+    show_edit(rt, b"add no time", add(two, name_at(0), lasting(0)))?;
     show_edit(
         rt,
-        "add one that is there",
+        b"add one that is there",
         add(two, name_at(0), lasting(1)),
     )?;
     show_edit(
         rt,
-        "add a sixty-fifth",
+        b"add a sixty-fifth",
         add(
             by_hand(2, free(), many(64, 1, 64, 0)),
             name_at(64),
@@ -126,29 +126,33 @@ fn own(rt: &impl Print) -> io::Result<()> {
     )?;
     show_edit(
         rt,
-        "add where no room is",
+        b"add where no room is",
         add(
             by_hand(1, free(), many(1, 5, 10, 0)),
             name_at(1),
             lasting(6),
         ),
     )?;
-    show_edit(rt, "withdraw no name", withdraw(two, no_name()))?;
+    show_edit(rt, b"withdraw no name", withdraw(two, no_name()))?;
     show_edit(
         rt,
-        "withdraw one that is not there",
+        b"withdraw one that is not there",
         withdraw(two, name_at(2)),
     )?;
-    show_edit(rt, "retime no name", retime(two, no_name(), lasting(0)))?;
-    show_edit(rt, "retime to no time", retime(two, name_at(2), lasting(0)))?;
+    show_edit(rt, b"retime no name", retime(two, no_name(), lasting(0)))?;
     show_edit(
         rt,
-        "retime one that is not there",
+        b"retime to no time",
+        retime(two, name_at(2), lasting(0)),
+    )?;
+    show_edit(
+        rt,
+        b"retime one that is not there",
         retime(two, name_at(2), lasting(1)),
     )?;
     show_edit(
         rt,
-        "retime where no room is",
+        b"retime where no room is",
         retime(
             by_hand(1, free(), many(2, 5, 10, 0)),
             name_at(0),
@@ -161,7 +165,7 @@ fn own(rt: &impl Print) -> io::Result<()> {
 fn accepted(rt: &impl Print) -> io::Result<()> {
     show_edit(
         rt,
-        "add",
+        b"add",
         add(
             by_hand(2, free(), many(2, 6, 10, 1)),
             name_at(2),
@@ -170,12 +174,12 @@ fn accepted(rt: &impl Print) -> io::Result<()> {
     )?;
     show_edit(
         rt,
-        "withdraw",
+        b"withdraw",
         withdraw(by_hand(2, free(), many(3, 6, 10, 1)), name_at(1)),
     )?;
     show_edit(
         rt,
-        "retime",
+        b"retime",
         retime(
             by_hand(2, free(), many(3, 6, 10, 1)),
             name_at(0),

@@ -37,7 +37,7 @@ fn settle(rt: &impl Print, number: u64, carries: usize) -> io::Result<()> {
 }
 
 // What came of a line.
-fn tell(rt: &impl Print, deed: Deed, reply: Reply) -> io::Result<()> {
+pub fn tell(rt: &impl Print, deed: Deed, reply: Reply) -> io::Result<()> {
     match deed {
         Deed::Add => settle(rt, reply.number, reply.carries),
         Deed::Withdraw => settle(rt, reply.number, reply.carries),
