@@ -257,10 +257,10 @@ fn desk() -> Command {
              On a terminal there is a prompt with a history, where `help` has the forms of edits,\n\
              spaces part fields too, and `quit` ends. From a file or a pipe edits come one a line,\n\
              fields parted by one tab:\n  \
-             add NAME C D T J P M, withdraw NAME, retime NAME C D T J P M, list, diff\n\
-             The answer is ok, the listing, what moved since the start, or refusal with its number and what\n\
-             it carries; standard error has the reason of each refusal. A refused edit changes nothing, and\n\
-             the exit status is 0 without --exit-status; a refused sheet is 1.\n\n\
+             add NAME C D T J P M, withdraw NAME, retime NAME C D T J P M, list\n\
+             The answer is ok, the listing, or refusal with its number and what it carries; standard error\n\
+             has the reason of each refusal. A refused edit changes nothing, and the exit status is 0\n\
+             without --exit-status; a refused sheet is 1.\n\n\
              SPARDIMPLE_DESK names the desk program; without it, it is lib/spardimple/desk beside bin.",
         )
         .arg(file("SHEET", "A timing sheet"))

@@ -131,7 +131,9 @@ fit\tt\tp
 
 /// Sheets that break a rule, with their refusals: each number but 7 and 10, which no rule for lines has.
 pub fn broken_sheets() -> Vec<(Vec<u8>, Refusal)> {
-    let mut many_tasks = GOOD.replace("\t6\t10\t10", "\t1\t100\t100");
+    let mut many_tasks = GOOD
+        .replace("\t6\t10\t10", "\t1\t100\t100")
+        .replace("fit\tt\t", "fit\tt1\t");
     for place in 2..=66 {
         let _ = writeln!(many_tasks, "fit\tt{place}\tp");
     }

@@ -24,17 +24,27 @@ pub fn example(folder: &Path, name: &str, status: i32) -> (PathBuf, String) {
     page(folder, name, &sheet, status)
 }
 
-/// The page of a sheet that is made here.
+/// The page of a sheet that is made here. Its file's name is a long one too.
 pub fn made(folder: &Path, name: &str, sheet: &str, status: i32) -> (PathBuf, String) {
-    page(folder, name, &long_named(folder, name, sheet), status)
+    page(
+        folder,
+        name,
+        &called(folder, &name.repeat(30), sheet),
+        status,
+    )
 }
 
-/// A sheet that is made here. Its file's name is a long one too.
-fn long_named(folder: &Path, name: &str, sheet: &str) -> PathBuf {
-    let letters = name.chars().cycle().take(180).collect::<String>();
-    let path = folder.join(format!("{letters}.sheet"));
+/// A sheet that is made here, in a file of that name.
+fn called(folder: &Path, name: &str, sheet: &str) -> PathBuf {
+    let path = folder.join(format!("{name}.sheet"));
     fs::write(&path, sheet).unwrap();
     path
+}
+
+/// The same under a long name, which begins so.
+fn long_named(folder: &Path, name: &str, sheet: &str) -> PathBuf {
+    let letters = name.chars().cycle().take(180).collect::<String>();
+    called(folder, &letters, sheet)
 }
 
 /// Writes the page of what moved between two sheets and gives back its path and its text.
