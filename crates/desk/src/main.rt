@@ -5,6 +5,7 @@
 mod answers;
 mod play;
 mod script;
+mod words;
 
 ghost use Rattle.std.specs.Prelude.{◌≡◌, ◌≤◌, IfOk, length};
 
@@ -17,6 +18,7 @@ use std::env::FillError;
 use std::io::Read as _;
 use std::rt::{Env, Files};
 use std::{fs, io, str};
+use words::tell_failure;
 
 /// The bytes of a script's line so far. A line of more than 200 bytes is held as 201 of them: it is too long for any form.
 #[derive(Clone, Copy)]
@@ -76,7 +78,7 @@ fn play_all(rt: &(impl Print + Input + Eprint), plan: Plan) -> io::Result<()> {
             Ok(0) => break,
             Ok(n) => desk = play_bytes(&mut answers, desk, &buf[..n]),
             Err(error) => {
-                eprintln!(rt; "standard input: {error}")?;
+                tell_failure(rt, "standard input", &error)?;
                 break;
             }
         }
@@ -112,7 +114,7 @@ fn play_sheet(rt: &(impl Print + Input + Eprint), read: Read) -> io::Result<()> 
 fn play_path(rt: &(impl Print + Input + Eprint + Files), path: &str) -> io::Result<()> {
     match sheet_in(rt, path) {
         Ok(read) => play_sheet(rt, read),
-        Err(error) => eprintln!(rt; "{path}: {error}"),
+        Err(error) => tell_failure(rt, path, &error),
     }
 }
 
