@@ -26,7 +26,7 @@ use Rattle.task.proofs.NameLaws.{same-bytes-exact}
 use Rattle.walks.specs.Lists.{keep, only}
 use Rattle.walks.specs.Way.{Placed}
 use Rattle.lines.specs.Lines.{every}
-use Rattle.listing.specs.Diff.{same_piece, same_placed, often, of_item, as_often, alike, Alike}
+use Rattle.listing.specs.Diff.{same_piece, same_placed, how_often, of_item, as_often, alike, Alike}
 use Rattle.listing.proofs.ByteOrderLaws.{never, only-each, only-has}
 
 -- ---- what is the same
@@ -160,31 +160,31 @@ module _ {A : Type 0} (same : A → A → Bool) (exact : (a b : A) → (same a b
       by [] h = tt
       by (e ∷ k) h = ((exact e.item n).0 h.0.0, by k h.1)
 
-  pub alike-says : (n : A) (l k : List (Placed A)) → alike same n l k ≡ true → (e : Placed A) → e.item ≡ n → often same e l ≡ often same e k
-  alike-says n l k h e is = elim (dec_lt 0 (often same e l)) [
-    | yes some ↦ eqb-true (often same e l) (often same e k) (told l k (both_left (every (as_often same l k) (of_item same n l)) (every (as_often same k l) (of_item same n k)) h) some)
-    | no none ↦ elim (dec_lt 0 (often same e k)) [
-      | yes some ↦ sym (eqb-true (often same e k) (often same e l) (told k l (both_right (every (as_often same l k) (of_item same n l)) (every (as_often same k l) (of_item same n k)) h) some))
+  pub alike-says : (n : A) (l k : List (Placed A)) → alike same n l k ≡ true → (e : Placed A) → e.item ≡ n → how_often same e l ≡ how_often same e k
+  alike-says n l k h e is = elim (dec_lt 0 (how_often same e l)) [
+    | yes some ↦ eqb-true (how_often same e l) (how_often same e k) (told l k (both_left (every (as_often same l k) (of_item same n l)) (every (as_often same k l) (of_item same n k)) h) some)
+    | no none ↦ elim (dec_lt 0 (how_often same e k)) [
+      | yes some ↦ sym (eqb-true (how_often same e k) (how_often same e l) (told k l (both_right (every (as_often same l k) (of_item same n l)) (every (as_often same k l) (of_item same n k)) h) some))
       | no neither ↦ omega arith
     ]
   ]
     where
-      told : (l k : List (Placed A)) → every (as_often same l k) (of_item same n l) ≡ true → 0 < often same e l → as_often same l k e ≡ true
+      told : (l k : List (Placed A)) → every (as_often same l k) (of_item same n l) ≡ true → 0 < how_often same e l → as_often same l k e ≡ true
       told l k all some =
           let there = found (same_placed same e) l some in
           let at = (same-placed-exact e there.0).0 there.1.0 in
           let here : Some (λ x. x ≡ e) l = subst (λ (f : Placed A). Some (λ x. x ≡ f) l) (sym at) there.1.1 in
           every_some (as_often same l k) (of_item same n l) e all (only-has (λ f. same f.item n) e ((exact e.item n).1 is) l here)
 
-  pub alike-found : (n : A) (l k : List (Placed A)) → ((e : Placed A) → e.item ≡ n → often same e l ≡ often same e k) → alike same n l k ≡ true
+  pub alike-found : (n : A) (l k : List (Placed A)) → ((e : Placed A) → e.item ≡ n → how_often same e l ≡ how_often same e k) → alike same n l k ≡ true
   alike-found n l k as-often = rw (all l k as-often) (all k l (λ e is. sym (as-often e is)))
     where
-      all : (l k : List (Placed A)) → ((e : Placed A) → e.item ≡ n → often same e l ≡ often same e k) → every (as_often same l k) (of_item same n l) ≡ true
+      all : (l k : List (Placed A)) → ((e : Placed A) → e.item ≡ n → how_often same e l ≡ how_often same e k) → every (as_often same l k) (of_item same n l) ≡ true
       all l k as-often = every-each (as_often same l k) (of_item same n l) (each (of_item same n l) (of-each n l))
         where
           each : (m : List (Placed A)) → Each (λ e. e.item ≡ n) m → Each (λ e. as_often same l k e ≡ true) m
           each [] h = tt
-          each (e ∷ m) h = (eq-eqb (often same e l) (often same e k) (as-often e h.0), each m h.1)
+          each (e ∷ m) h = (eq-eqb (how_often same e l) (how_often same e k) (as-often e h.0), each m h.1)
 
 pub alike-means : (n : List ℕ) (l k : List (Placed (List ℕ))) → (alike same_bytes n l k ≡ true) ↔ Alike n l k
 alike-means n l k = (alike-says same_bytes same-bytes-exact n l k, alike-found same_bytes same-bytes-exact n l k)

@@ -43,7 +43,7 @@ use Rattle.listing.specs.Placed.{by_core}
 use Rattle.listing.specs.Why.{row_seats}
 use Rattle.listing.specs.ByteOrder.{rank_in}
 use Rattle.listing.specs.Diff.{moved_names, diff_blocks, diff_head, diff_text, seats_on, called_by, standing, diff_of}
-use Rattle.listing.specs.Ways.RankArrays.{names_in, roll_of, Ranks, place_with, name_with, ranked_by, rank_blocks}
+use Rattle.listing.specs.Ways.RankArrays.{names_in, roll_of, Ranks, place_with, ranked_name, ranked_by, rank_blocks}
 use Rattle.listing.proofs.SeatLaws.{seat_of}
 use Rattle.listing.proofs.PlacedLaws.{Seated, all-seated, map_same, by-core-each, plan-is}
 use Rattle.listing.proofs.WhyPlacedLaws.{row-seats}
@@ -184,8 +184,8 @@ module _ (ts us : List Task) (a b : List ℕ) (first : Ranks ts (roll_of ts us) 
           ap (λ (k : ℕ). spelling (task_at vs k).name) place
           ∙ rank-one (roll_of ts us) (spelling (task_at vs i).name) n (called i) there (sym (ranks.ranks i) ∙ is)
 
-  pub name-ranked : (n : List ℕ) → Some (λ x. x ≡ n) (roll_of ts us) → name_with (rank_in (roll_of ts us) n) a ts b us ≡ n
-  unfolding name_with
+  pub name-ranked : (n : List ℕ) → Some (λ x. x ≡ n) (roll_of ts us) → ranked_name (rank_in (roll_of ts us) n) a ts b us ≡ n
+  unfolding ranked_name
   name-ranked n there = elim (dec_lt (place_with 0 (rank_in (roll_of ts us) n) a) 64) [
     | yes low ↦ rw (lt-ltb (place_with 0 (rank_in (roll_of ts us) n) a) 64 low) (there-is ts a first (called-first ts us) n there low)
     | no high ↦ (let past_all : 64 ≤ place_with 0 (rank_in (roll_of ts us) n) a = omega arith in
@@ -214,7 +214,7 @@ ranked-called vs ns c ranks (e ∷ l) =
 pub diff-lines : (p q : Plan) (a b : List ℕ)
     → Ranks p.tasks.list (roll_of p.tasks.list q.tasks.list) a → Ranks q.tasks.list (roll_of p.tasks.list q.tasks.list) b
     → diff_head p.tasks.count q.tasks.count
-    ++ rank_blocks (λ r. name_with r a p.tasks.list b q.tasks.list) (map (ranked_by a) (seats_on p.layout 16)) (map (ranked_by b) (seats_on q.layout 16)) 129
+    ++ rank_blocks (λ r. ranked_name r a p.tasks.list b q.tasks.list) (map (ranked_by a) (seats_on p.layout 16)) (map (ranked_by b) (seats_on q.layout 16)) 129
     ≡ diff_of p q
 unfolding diff_of diff_text standing
 diff-lines p q a b first second =
@@ -223,7 +223,7 @@ diff-lines p q a b first second =
     let ns = roll_of ts us in
     let l = map (called_by ts) (seats_on p.layout 16) in
     let k = map (called_by us) (seats_on q.layout 16) in
-    let name : ℕ → List ℕ = (λ r. name_with r a ts b us) in
+    let name : ℕ → List ℕ = (λ r. ranked_name r a ts b us) in
     let all : rank_blocks name (map (relabel (rank_in ns)) l) (map (relabel (rank_in ns)) k) (length ns) ≡ diff_blocks l k (moved_names l k) =
     blocks-by-rank ns l k (covers ns ts (called-first ts us) (seats_on p.layout 16)) (covers ns us (called-second ts us) (seats_on q.layout 16)) name
     (λ n there. name-ranked ts us a b first second n there) in
@@ -244,11 +244,11 @@ pub diff-wrote : (p q : Plan) (a b x y : List ℕ) (n m r : ℕ) (old new : List
     → Ranks p.tasks.list (roll_of p.tasks.list q.tasks.list) a → Ranks q.tasks.list (roll_of p.tasks.list q.tasks.list) b
     → placed_in x n ≡ map (ranked_by a) (seats_on p.layout 16) → placed_in y m ≡ map (ranked_by b) (seats_on q.layout 16)
     → Wrote old 0
-    (diff_head p.tasks.count q.tasks.count ++ rank_blocks (λ k. name_with k a p.tasks.list b q.tasks.list) (placed_in x n) (placed_in y m) 129) r new
+    (diff_head p.tasks.count q.tasks.count ++ rank_blocks (λ k. ranked_name k a p.tasks.list b q.tasks.list) (placed_in x n) (placed_in y m) 129) r new
     → Wrote old 0 (diff_of p q) r new
 diff-wrote p q a b x y n m r old new first second lies rests wrote =
     subst (λ (t : List ℕ). Wrote old 0 t r new)
-    ((λ i. diff_head p.tasks.count q.tasks.count ++ rank_blocks (λ k. name_with k a p.tasks.list b q.tasks.list) (lies i) (rests i) 129)
+    ((λ i. diff_head p.tasks.count q.tasks.count ++ rank_blocks (λ k. ranked_name k a p.tasks.list b q.tasks.list) (lies i) (rests i) 129)
     ∙ diff-lines p q a b first second) wrote
 
 -- ---- a plan that keeps what was placed

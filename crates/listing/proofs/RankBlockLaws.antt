@@ -18,7 +18,7 @@ use Rattle.walks.specs.Way.{Placed, relabel}
 use Rattle.walks.proofs.ListLaws.{each-only, only-append, only-map, only_none}
 use Rattle.lines.specs.Lines.{every}
 use Rattle.listing.specs.ByteOrder.{rank_in, byte_ordered}
-use Rattle.listing.specs.Diff.{same_piece, same_placed, often, of_item, as_often, alike, moved_names, side_by_side, diff_blocks}
+use Rattle.listing.specs.Diff.{same_piece, same_placed, how_often, of_item, as_often, alike, moved_names, side_by_side, diff_blocks}
 use Rattle.listing.specs.Ways.RankArrays.{under, rank_block, rank_blocks}
 use Rattle.listing.proofs.ByteOrderLaws.{never, rank-one, only-each, only-has, with_rank}
 use Rattle.listing.proofs.AlikeLaws.{only_same, every-same, every_map, of-each}
@@ -62,7 +62,7 @@ module _ (ns : List (List ℕ)) where
       each (e ∷ l) h = (agree e.item n h.0 here, each l h.1)
 
   often-rank : (e : Placed (List ℕ)) → Some (λ x. x ≡ e.item) ns → (l : List (Placed (List ℕ))) → Covered ns l
-      → often eqb (relabel (rank_in ns) e) (ranked l) ≡ often same_bytes e l
+      → how_often eqb (relabel (rank_in ns) e) (ranked l) ≡ how_often same_bytes e l
   often-rank e here l cover =
       let labelled : Placed ℕ = relabel (rank_in ns) e in
       ap (λ (k : List (Placed ℕ)). length k) (only-map (same_placed eqb labelled) (relabel (rank_in ns)) l)

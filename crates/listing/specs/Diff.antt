@@ -2,7 +2,7 @@
 --
 --   same_piece p q         equal in kind, budget, window, period, jitter, P and M
 --   same_placed same e f   equal pieces on equal cores, of the same item
---   often same e l        how often l has that
+--   how_often same e l    how often l has that
 --   of_item same n l       what l has of the item n
 --   as_often same l k e    k has e as often as l has it
 --   alike same n l k      l and k have the same of the item n, each piece on its core as often, whatever their order
@@ -45,21 +45,21 @@ module _ {A : Type 0} (same : A → A → Bool) where
   abbrev pub same_placed : Placed A → Placed A → Bool
   same_placed e f = same e.item f.item && eqb e.on f.on && same_piece e.piece f.piece
 
-  abbrev pub often : Placed A → List (Placed A) → ℕ
-  often e l = length (only (same_placed e) l)
+  abbrev pub how_often : Placed A → List (Placed A) → ℕ
+  how_often e l = length (only (same_placed e) l)
 
   abbrev pub of_item : A → List (Placed A) → List (Placed A)
   of_item n l = only (λ e. same e.item n) l
 
   abbrev pub as_often : List (Placed A) → List (Placed A) → Placed A → Bool
-  as_often l k e = eqb (often e l) (often e k)
+  as_often l k e = eqb (how_often e l) (how_often e k)
 
   abbrev pub alike : A → List (Placed A) → List (Placed A) → Bool
   alike n l k = every (as_often l k) (of_item n l) && every (as_often k l) (of_item n k)
 
 -- what the test `alike` means of a name
 abbrev pub Alike : List ℕ → (l k : List (Placed (List ℕ))) → Type 0
-Alike n l k = (e : Placed (List ℕ)) → e.item ≡ n → often same_bytes e l ≡ often same_bytes e k
+Alike n l k = (e : Placed (List ℕ)) → e.item ≡ n → how_often same_bytes e l ≡ how_often same_bytes e k
 
 -- ---- which names are told of
 

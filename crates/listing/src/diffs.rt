@@ -6,7 +6,7 @@ ghost use Rattle.plan.specs.Ways.PlacedArray.{placed_in};
 ghost use Rattle.listing.specs.Text.{Wrote, text_line, decimal};
 ghost use Rattle.listing.specs.Listing.{spelling};
 ghost use Rattle.listing.specs.Diff.{of_item, diff_line, diff_lines, diff_head};
-ghost use Rattle.listing.specs.Ways.RankArrays.{stands_most, ranks_most, name_with, under, rank_block, rank_blocks, ranked_below, figures_of};
+ghost use Rattle.listing.specs.Ways.RankArrays.{stands_most, ranks_most, ranked_name, under, rank_block, rank_blocks, ranked_below, figures_of};
 
 use crate::names::name_with;
 use crate::stands::{alike, of_rank, rank_at, ranked_at};
@@ -116,7 +116,7 @@ pub fn put_diff<'a>(
     m: usize,
 ) -> usize
     requires { (n ≤ stands_most) × (m ≤ stands_most) × Each (λ e. e.on < cores_most) (placed_in stands.now n) × Each (λ e. e.on < cores_most) (placed_in rest.now m) × (length ranks.now ≡ tasks_most) × (length others.now ≡ tasks_most) }
-    ensures { (Wrote buf.old 0 (diff_head tasks.count more.count ++ rank_blocks (λ k. name_with k ranks.now tasks.list others.now more.list) (placed_in stands.now n) (placed_in rest.now m) ranks_most) result buf.new) × (result ≤ 47 + 184 * n + 184 * m) }
+    ensures { (Wrote buf.old 0 (diff_head tasks.count more.count ++ rank_blocks (λ k. ranked_name k ranks.now tasks.list others.now more.list) (placed_in stands.now n) (placed_in rest.now m) ranks_most) result buf.new) × (result ≤ 47 + 184 * n + 184 * m) }
 {
     let mut k = put_diff_head(buf, tasks.count, more.count);
     let mut rank: usize = 0;

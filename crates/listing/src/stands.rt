@@ -4,7 +4,7 @@ ghost use Rattle.std.specs.Prelude.{map, ◌≡◌, ◌*◌, ◌≤◌, ◌<◌,
 ghost use Rattle.task.specs.Tasks.{tasks_most, cores_most};
 ghost use Rattle.plan.specs.Ways.PlacedArray.{seat_of, placed_at, placed_in};
 ghost use Rattle.lines.specs.Lines.{every};
-ghost use Rattle.listing.specs.Diff.{same_piece, same_placed, often, of_item, as_often, alike, seats_on};
+ghost use Rattle.listing.specs.Diff.{same_piece, same_placed, how_often, of_item, as_often, alike, seats_on};
 ghost use Rattle.listing.specs.Ways.RankArrays.{stands_most, ranked_by, PutRanked};
 
 use crate::{Ranked, STAND_NUMBERS, numbered, seats, wide, within};
@@ -157,7 +157,7 @@ pub fn same_ranked(e: Ranked, f: Ranked) -> bool
 // How often a piece is among the first n; of those of another rank no more is read than that.
 pub fn often(stands: &[u64; STAND_NUMBERS], n: usize, e: Ranked) -> usize
     requires { n ≤ stands_most }
-    ensures { result ≡ often eqb (seat_of e.core e.rank e.piece) (placed_in stands.now n) }
+    ensures { result ≡ how_often eqb (seat_of e.core e.rank e.piece) (placed_in stands.now n) }
 {
     let mut count: usize = 0;
     let mut i: usize = 0;

@@ -7,7 +7,7 @@ use Rattle.plan.specs.Ways.PlacedArray.{placed_in}
 use Rattle.plan.proofs.LentLaws.{placed-length}
 use Rattle.listing.specs.Text.{Wrote}
 use Rattle.listing.specs.Listing.{spelling}
-use Rattle.listing.specs.Ways.RankArrays.{name_with, rank_blocks}
+use Rattle.listing.specs.Ways.RankArrays.{ranked_name, rank_blocks}
 use Rattle.listing.proofs.TextLaws.{wrote_none, wrote-both, wrote-length}
 use Rattle.listing.proofs.DiffTextLaws.{blocks-alike, blocks_more, lesser-none, lesser-more, lesser-few}
 use Rattle.listing.proofs.diffs.put_diff.Goals as goal
@@ -28,7 +28,7 @@ loop-rank-preserved-then-alike c =
     let s = c.args in
     let l = placed_in s.stands.now s.n in
     let k = placed_in s.rest.now s.m in
-    let name : ℕ → List ℕ = (λ r. name_with r s.ranks.now s.tasks.list s.others.now s.more.list) in
+    let name : ℕ → List ℕ = (λ r. ranked_name r s.ranks.now s.tasks.list s.others.now s.more.list) in
     let at = c.loop-rank in (
       omega (arith, c.loop-rank-test.true),
       omega (arith, at.invariant.1, lesser-more at.rank l, lesser-more at.rank k),
@@ -68,7 +68,7 @@ loop-rank-preserved c =
     let s = c.args in
     let l = placed_in s.stands.now s.n in
     let k = placed_in s.rest.now s.m in
-    let name : ℕ → List ℕ = (λ r. name_with r s.ranks.now s.tasks.list s.others.now s.more.list) in (
+    let name : ℕ → List ℕ = (λ r. ranked_name r s.ranks.now s.tasks.list s.others.now s.more.list) in (
       omega (arith, c.loop-rank-test.true),
       omega (arith, at.invariant.1, c.put_moved-k.ensures.1, lesser-more at.rank l, lesser-more at.rank k),
       subst (λ (t : List ℕ). Wrote c.put_diff_head-k.new.buf c.put_diff_head-k.result t c.put_moved-k.result c.put_moved-k.new.buf)
@@ -86,7 +86,7 @@ returns c =
     let s = c.args in
     let l = placed_in s.stands.now s.n in
     let k = placed_in s.rest.now s.m in
-    let name : ℕ → List ℕ = (λ r. name_with r s.ranks.now s.tasks.list s.others.now s.more.list) in
+    let name : ℕ → List ℕ = (λ r. ranked_name r s.ranks.now s.tasks.list s.others.now s.more.list) in
     let at = c.loop-rank in
     let all : at.rank ≡ 129 = omega (arith, at.invariant.0, c.loop-rank-test.false) in
     let blocks : Wrote c.put_diff_head-k.new.buf c.put_diff_head-k.result (rank_blocks name l k 129) at.k at.buf =

@@ -8,7 +8,7 @@ use lib.Dec.{eqb}
 use Rattle.walks.specs.Way.{Placed}
 use Rattle.plan.specs.Ways.PlacedArray.{placed_at, placed_in}
 use Rattle.lines.specs.Lines.{every}
-use Rattle.listing.specs.Diff.{often, of_item, as_often}
+use Rattle.listing.specs.Diff.{how_often, of_item, as_often}
 use Rattle.listing.proofs.RankLaws.{often-as, every_more, every-fails}
 use Rattle.listing.proofs.stands.as_often.Goals as goal
 
@@ -35,11 +35,11 @@ returns-then-often c =
     let l = placed_in a s.n in
     let k = placed_in s.others.now s.m in
     let e = placed_at a i in
-    let here : c.often.result ≡ often eqb e l = often-as _ e l _ c.often.ensures c.ranked_at-e.ensures in
-    let there : c.often-then-rank_at-rank.result ≡ often eqb e k = often-as _ e k _ c.often-then-rank_at-rank.ensures c.ranked_at-e.ensures in
+    let here : c.often.result ≡ how_often eqb e l = often-as _ e l _ c.often.ensures c.ranked_at-e.ensures in
+    let there : c.often-then-rank_at-rank.result ≡ how_often eqb e k = often-as _ e k _ c.often-then-rank_at-rank.ensures c.ranked_at-e.ensures in
     sym (every-fails a (λ (f : Placed ℕ). eqb f.item s.rank) (as_often eqb l k) i s.n c.loop-i-test.true
     (eq-eqb e.item s.rank (sym c.rank_at.ensures ∙ c.if-rank_at-rank.true))
-    (ne_eqb (often eqb e l) (often eqb e k) (λ same. c.if-often.true (here ∙ (same ∙ sym there)))))
+    (ne_eqb (how_often eqb e l) (how_often eqb e k) (λ same. c.if-often.true (here ∙ (same ∙ sym there)))))
 
 pub loop-i-preserved : goal.loop-i-preserved
 loop-i-preserved c =
@@ -54,11 +54,11 @@ loop-i-preserved c =
       every_more a (λ (f : Placed ℕ). eqb f.item s.rank) (as_often eqb l k) i c.loop-i.invariant.1
           (⊎_elim
           (λ came.
-          let here : came.often.result ≡ often eqb e l = often-as _ e l _ came.often.ensures came.ranked_at-e.ensures in
-          let there : came.often-then-rank_at-rank.result ≡ often eqb e k = often-as _ e k _ came.often-then-rank_at-rank.ensures came.ranked_at-e.ensures in
+          let here : came.often.result ≡ how_often eqb e l = often-as _ e l _ came.often.ensures came.ranked_at-e.ensures in
+          let there : came.often-then-rank_at-rank.result ≡ how_often eqb e k = often-as _ e k _ came.often-then-rank_at-rank.ensures came.ranked_at-e.ensures in
           inl (
             eq-eqb e.item s.rank (sym item ∙ came.if-rank_at-rank.true),
-            eq-eqb (often eqb e l) (often eqb e k) (sym here ∙ (came.if-often.false ∙ there)),
+            eq-eqb (how_often eqb e l) (how_often eqb e k) (sym here ∙ (came.if-often.false ∙ there)),
           ))
           (λ came. inr (ne_eqb e.item s.rank (λ same. came.if-rank_at-rank.false (item ∙ same)))) c.if-rank_at-rank.branch-raw),
     )

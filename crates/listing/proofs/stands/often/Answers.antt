@@ -6,7 +6,7 @@ use Prim.Native.Nat.{ℕ}
 use native.Mathlib.Omega.{arith}
 use lib.Dec.{eqb}
 use Rattle.plan.specs.Ways.PlacedArray.{seat_of, placed_at, placed_in}
-use Rattle.listing.specs.Diff.{same_placed, often}
+use Rattle.listing.specs.Diff.{same_placed, how_often}
 use Rattle.listing.proofs.RankLaws.{counted, other-rank}
 use Rattle.listing.proofs.stands.often.Goals as goal
 
@@ -50,4 +50,4 @@ returns c =
     let s = c.args in
     let l = c.loop-i in
     let all : l.i ≡ s.n = omega (arith, l.invariant.0, c.loop-i-test.false) in
-    l.invariant.2 ∙ ap (λ (k : ℕ). often eqb (seat_of s.e.core s.e.rank s.e.piece) (placed_in s.stands.now k)) all
+    l.invariant.2 ∙ ap (λ (k : ℕ). how_often eqb (seat_of s.e.core s.e.rank s.e.piece) (placed_in s.stands.now k)) all
