@@ -42,9 +42,16 @@ returns-then-stuck-eq0 c = record {
       let s = c.args in
       let old = s.buf.now in
       let laid = c.lay_seats-n.ensures in
-      let same = row-asked s.plan s.stuck s.core (omega (arith, c.if-core-eq0.false)) (omega (arith, c.if-cores-core.false)) _ c.lay_seats-n.result c.lay_seats-n.new.places c.lay_seats-n.new.records c.if-stuck-eq0.true
-      (front-none c.room_for_all-fine.result.place (spelling c.room_for_all-fine.result.name) c.room_for_all-fine.result.cores c.room_for_all-fine.ensures) (omega (arith, laid.1)) laid.0 in
-      (c.write_why.ensures.value.0 ∙ ap (λ (p : Paper). note_of p (length old)) same, c.write_why.ensures.value.1 ∙ ap (λ (p : Paper). left p old) same, c.write_why.ensures.number_bound.0, c.write_why.ensures.number_bound.1);
+      let same = row-asked s.plan s.stuck s.core (omega (arith, c.if-core-eq0.false)) (omega (arith, c.if-cores-core.false)) _ c.lay_seats-n.result
+      c.lay_seats-n.new.places c.lay_seats-n.new.records c.if-stuck-eq0.true
+      (front-none c.room_for_all-fine.result.place (spelling c.room_for_all-fine.result.name) c.room_for_all-fine.result.cores
+      c.room_for_all-fine.ensures) (omega (arith, laid.1)) laid.0 in (
+        c.write_why.ensures.value.0 ∙ ap (λ (p : Paper). note_of p (length old)) same,
+        c.write_why.ensures.value.1
+            ∙ ap (λ (p : Paper). left p old) same,
+        c.write_why.ensures.number_bound.0,
+        c.write_why.ensures.number_bound.1,
+      );
 }
 
 pub returns : goal.returns
@@ -62,13 +69,19 @@ returns c = record {
       let name : spelling c.named-name.result ≡ spelling (task_at ts k).name =
       c.named-name.ensures ∙ at-within (λ (t : Task). spelling t.name) ts 64 k _ _ past long c.within-t.ensures.1 in
       let whole : c.whole_piece-whole.result ≡ whole_at ts k =
-      c.whole_piece-whole.ensures.exact ∙ (ap whole_piece c.timed.ensures ∙ ap whole_piece (at-within (λ (t : Task). t.times) ts 64 k _ _ past long c.within-t.ensures.1)) in
+      c.whole_piece-whole.ensures.exact ∙ (ap whole_piece c.timed.ensures
+      ∙ ap whole_piece (at-within (λ (t : Task). t.times) ts 64 k _ _ past long c.within-t.ensures.1)) in
       let front = front-some c.wide.result (spelling c.named-name.result) c.wide-2.result (λ e. omega (arith, c.wide.ensures, c.if-stuck-eq0.false))
       ∙ ((λ i. no_room_line (c.wide.ensures i) (name i) (c.wide-2.ensures i))) in
       let seats = seat.seats q
       ∙ (ap (λ (es : List (Placed ℕ)). es ++ (record { on = q; item = k; piece = c.whole_piece-whole.result } ∷ [])) laid.0
       ∙ ap (λ (x : Piece). row_seats s.plan.layout q ++ (record { on = q; item = k; piece = x } ∷ [])) whole) in
       let same = stuck-asked s.plan s.stuck s.core (omega (arith, c.if-core-eq0.false)) (omega (arith, c.if-cores-core.false))
-      _ (c.lay_seats-n-2.result + 1) c.lay_seat.new.places c.lay_seat.new.records k is front (omega (arith, laid.1)) seats in
-      (c.write_why-2.ensures.value.0 ∙ ap (λ (p : Paper). note_of p (length old)) same, c.write_why-2.ensures.value.1 ∙ ap (λ (p : Paper). left p old) same, c.write_why-2.ensures.number_bound.0, c.write_why-2.ensures.number_bound.1);
+      _ (c.lay_seats-n-2.result + 1) c.lay_seat.new.places c.lay_seat.new.records k is front (omega (arith, laid.1)) seats in (
+        c.write_why-2.ensures.value.0 ∙ ap (λ (p : Paper). note_of p (length old)) same,
+        c.write_why-2.ensures.value.1
+            ∙ ap (λ (p : Paper). left p old) same,
+        c.write_why-2.ensures.number_bound.0,
+        c.write_why-2.ensures.number_bound.1,
+      );
 }

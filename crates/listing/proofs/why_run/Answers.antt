@@ -12,7 +12,13 @@ returns c = record {
   exact =
       let s = c.args in
       let old = s.buf.now in
-      let empty = front-none c.room_for_all-fine.result.place (spelling c.room_for_all-fine.result.name) c.room_for_all-fine.result.cores c.room_for_all-fine.ensures in
-      let same = run-asked _ empty s.costs s.count (replicate 64 no_task) (replicate 79 0) s.records.now in
-      (c.write_why.ensures.value.0 ∙ ap (λ (p : Paper). note_of p (length old)) same, c.write_why.ensures.value.1 ∙ ap (λ (p : Paper). left p old) same, c.write_why.ensures.number_bound.0, c.write_why.ensures.number_bound.1);
+      let empty = front-none c.room_for_all-fine.result.place (spelling c.room_for_all-fine.result.name) c.room_for_all-fine.result.cores
+      c.room_for_all-fine.ensures in
+      let same = run-asked _ empty s.costs s.count (replicate 64 no_task) (replicate 79 0) s.records.now in (
+        c.write_why.ensures.value.0 ∙ ap (λ (p : Paper). note_of p (length old)) same,
+        c.write_why.ensures.value.1
+            ∙ ap (λ (p : Paper). left p old) same,
+        c.write_why.ensures.number_bound.0,
+        c.write_why.ensures.number_bound.1,
+      );
 }

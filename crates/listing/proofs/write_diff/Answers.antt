@@ -31,7 +31,8 @@ returns-then-n-m c = record {
       let t = diff_of p q in
       let y = s.buf.now in
       let w : Wrote _ 0 t c.put_diff.result c.put_diff.new.buf =
-      diff-wrote p q c.lay_ranks.new.ranks c.lay_ranks-2.new.ranks c.lay_stands-n.new.stands c.lay_stands-m.new.stands c.lay_stands-n.result c.lay_stands-m.result c.put_diff.result _ c.put_diff.new.buf c.lay_ranks.ensures c.lay_ranks-2.ensures c.lay_stands-n.ensures.0
+      diff-wrote p q c.lay_ranks.new.ranks c.lay_ranks-2.new.ranks c.lay_stands-n.new.stands c.lay_stands-m.new.stands c.lay_stands-n.result
+      c.lay_stands-m.result c.put_diff.result _ c.put_diff.new.buf c.lay_ranks.ensures c.lay_ranks-2.ensures c.lay_stands-n.ensures.0
       c.lay_stands-m.ensures.0 c.put_diff.ensures.0 in
       let j : c.put_diff.result ≡ length t = w.place ∙ rw zero-add in
       let fits : length t ≤ length y = omega (arith, j, c.put_diff.ensures.1, c.if-n-m.true) in
@@ -58,7 +59,8 @@ returns-then-buf-k c = record {
       let t = diff_of p q in
       let y = s.buf.now in
       let w : Wrote _ 0 t c.put_diff-k.result c.put_diff-k.new.buf =
-      diff-wrote p q c.lay_ranks.new.ranks c.lay_ranks-2.new.ranks c.lay_stands-n.new.stands c.lay_stands-m.new.stands c.lay_stands-n.result c.lay_stands-m.result c.put_diff-k.result _ c.put_diff-k.new.buf c.lay_ranks.ensures c.lay_ranks-2.ensures c.lay_stands-n.ensures.0
+      diff-wrote p q c.lay_ranks.new.ranks c.lay_ranks-2.new.ranks c.lay_stands-n.new.stands c.lay_stands-m.new.stands c.lay_stands-n.result
+      c.lay_stands-m.result c.put_diff-k.result _ c.put_diff-k.new.buf c.lay_ranks.ensures c.lay_ranks-2.ensures c.lay_stands-n.ensures.0
       c.lay_stands-m.ensures.0 c.put_diff-k.ensures.0 in
       let j : c.put_diff-k.result ≡ length t = w.place ∙ rw zero-add in
       let e = first-pass t c.put_diff-k.new.buf y c.put_diff-k.result w in
@@ -91,11 +93,13 @@ returns c = record {
       let t = diff_of p q in
       let y = s.buf.now in
       let w : Wrote _ 0 t c.put_diff-k.result c.put_diff-k.new.buf =
-      diff-wrote p q c.lay_ranks.new.ranks c.lay_ranks-2.new.ranks c.lay_stands-n.new.stands c.lay_stands-m.new.stands c.lay_stands-n.result c.lay_stands-m.result c.put_diff-k.result _ c.put_diff-k.new.buf c.lay_ranks.ensures c.lay_ranks-2.ensures c.lay_stands-n.ensures.0
+      diff-wrote p q c.lay_ranks.new.ranks c.lay_ranks-2.new.ranks c.lay_stands-n.new.stands c.lay_stands-m.new.stands c.lay_stands-n.result
+      c.lay_stands-m.result c.put_diff-k.result _ c.put_diff-k.new.buf c.lay_ranks.ensures c.lay_ranks-2.ensures c.lay_stands-n.ensures.0
       c.lay_stands-m.ensures.0 c.put_diff-k.ensures.0 in
       let j : c.put_diff-k.result ≡ length t = w.place ∙ rw zero-add in
       let v : Wrote _ 0 t c.put_diff-2.result c.put_diff-2.new.buf =
-      diff-wrote p q c.lay_ranks.new.ranks c.lay_ranks-2.new.ranks c.lay_stands-n.new.stands c.lay_stands-m.new.stands c.lay_stands-n.result c.lay_stands-m.result c.put_diff-2.result _ c.put_diff-2.new.buf c.lay_ranks.ensures c.lay_ranks-2.ensures c.lay_stands-n.ensures.0
+      diff-wrote p q c.lay_ranks.new.ranks c.lay_ranks-2.new.ranks c.lay_stands-n.new.stands c.lay_stands-m.new.stands c.lay_stands-n.result
+      c.lay_stands-m.result c.put_diff-2.result _ c.put_diff-2.new.buf c.lay_ranks.ensures c.lay_ranks-2.ensures c.lay_stands-n.ensures.0
       c.lay_stands-m.ensures.0 c.put_diff-2.ensures.0 in (
         v.place ∙ rw zero-add,
         second-pass t c.put_diff-k.new.buf y c.put_diff-2.new.buf c.put_diff-k.result c.put_diff-2.result w v (omega (arith, j, c.if-buf-k.false)),

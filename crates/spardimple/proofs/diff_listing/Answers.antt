@@ -40,13 +40,15 @@ returns-then-read-ne0 c = record {
 
 pub overflow_add-first : goal.overflow_add-first
 overflow_add-first c =
-    let small = reply-small c.args.sheet1.now c.read_sheet-read.result c.read_sheet-read.ensures.exact c.if-read-ne0.false c.plan_tasks-first.result c.plan_tasks-first.ensures.exact in
+    let small = reply-small c.args.sheet1.now c.read_sheet-read.result c.read_sheet-read.ensures.exact c.if-read-ne0.false c.plan_tasks-first.result
+    c.plan_tasks-first.ensures.exact in
     let n : c.plan_tasks-first.result.number ≤ 7 = small.0 in
     search rules
 
 pub numbered-requires-then-first-ne0 : goal.numbered-requires-then-first-ne0
 numbered-requires-then-first-ne0 c =
-    let small = reply-small c.args.sheet1.now c.read_sheet-read.result c.read_sheet-read.ensures.exact c.if-read-ne0.false c.plan_tasks-first.result c.plan_tasks-first.ensures.exact in
+    let small = reply-small c.args.sheet1.now c.read_sheet-read.result c.read_sheet-read.ensures.exact c.if-read-ne0.false c.plan_tasks-first.result
+    c.plan_tasks-first.ensures.exact in
     (omega (arith, small.0), omega (arith, small.1))
 
 pub returns-then-first-ne0 : goal.returns-then-first-ne0
@@ -57,7 +59,8 @@ returns-then-first-ne0 c = record {
       let a = s.sheet1.now in
       let b = s.sheet2.now in
       let old = s.out.now in
-      let paper = first-stuck a b c.read_sheet-read.result c.read_sheet-read.ensures.exact c.if-read-ne0.false c.plan_tasks-first.result c.plan_tasks-first.ensures.exact c.if-first-ne0.true in (
+      let paper = first-stuck a b c.read_sheet-read.result c.read_sheet-read.ensures.exact c.if-read-ne0.false c.plan_tasks-first.result
+      c.plan_tasks-first.ensures.exact c.if-first-ne0.true in (
         c.numbered-then-first-ne0.ensures ∙ refused-told (diff_paper a b) c.plan_tasks-first.result.number c.plan_tasks-first.result.carries paper (length old),
         refused-left (diff_paper a b) c.plan_tasks-first.result.number c.plan_tasks-first.result.carries paper old,
       );
@@ -82,7 +85,8 @@ returns-then-other-ne0 c = record {
       let a = s.sheet1.now in
       let b = s.sheet2.now in
       let old = s.out.now in
-      let paper = second-unread a b c.read_sheet-read.result c.read_sheet-read.ensures.exact c.if-read-ne0.false c.plan_tasks-first.result c.plan_tasks-first.ensures.exact c.if-first-ne0.false c.read_sheet-other.result c.read_sheet-other.ensures.exact c.if-other-ne0.true in (
+      let paper = second-unread a b c.read_sheet-read.result c.read_sheet-read.ensures.exact c.if-read-ne0.false c.plan_tasks-first.result
+      c.plan_tasks-first.ensures.exact c.if-first-ne0.false c.read_sheet-other.result c.read_sheet-other.ensures.exact c.if-other-ne0.true in (
         c.numbered_second.ensures
             ∙ (ap (λ (n : ℕ). 2 ^ 32 * n + c.read_sheet-other.result.carries) (sym (thousand c.read_sheet-other.result.number))
             ∙ refused-told (diff_paper a b) (second_from + c.read_sheet-other.result.number) c.read_sheet-other.result.carries paper (length old)),
@@ -92,13 +96,15 @@ returns-then-other-ne0 c = record {
 
 pub overflow_add-second : goal.overflow_add-second
 overflow_add-second c =
-    let small = reply-small c.args.sheet2.now c.read_sheet-other.result c.read_sheet-other.ensures.exact c.if-other-ne0.false c.plan_tasks-second.result c.plan_tasks-second.ensures.exact in
+    let small = reply-small c.args.sheet2.now c.read_sheet-other.result c.read_sheet-other.ensures.exact c.if-other-ne0.false
+    c.plan_tasks-second.result c.plan_tasks-second.ensures.exact in
     let n : c.plan_tasks-second.result.number ≤ 7 = small.0 in
     search rules
 
 pub numbered_second-requires-then-second-ne0 : goal.numbered_second-requires-then-second-ne0
 numbered_second-requires-then-second-ne0 c =
-    let small = reply-small c.args.sheet2.now c.read_sheet-other.result c.read_sheet-other.ensures.exact c.if-other-ne0.false c.plan_tasks-second.result c.plan_tasks-second.ensures.exact in
+    let small = reply-small c.args.sheet2.now c.read_sheet-other.result c.read_sheet-other.ensures.exact c.if-other-ne0.false
+    c.plan_tasks-second.result c.plan_tasks-second.ensures.exact in
     (omega (arith, small.0), omega (arith, small.1))
 
 pub returns-then-second-ne0 : goal.returns-then-second-ne0
@@ -110,7 +116,9 @@ returns-then-second-ne0 c = record {
       let b = s.sheet2.now in
       let old = s.out.now in
       let paper =
-      second_stuck a b c.read_sheet-read.result c.read_sheet-read.ensures.exact c.if-read-ne0.false c.plan_tasks-first.result c.plan_tasks-first.ensures.exact c.if-first-ne0.false c.read_sheet-other.result c.read_sheet-other.ensures.exact c.if-other-ne0.false c.plan_tasks-second.result c.plan_tasks-second.ensures.exact
+      second_stuck a b c.read_sheet-read.result c.read_sheet-read.ensures.exact c.if-read-ne0.false c.plan_tasks-first.result
+      c.plan_tasks-first.ensures.exact c.if-first-ne0.false c.read_sheet-other.result c.read_sheet-other.ensures.exact c.if-other-ne0.false
+      c.plan_tasks-second.result c.plan_tasks-second.ensures.exact
       c.if-second-ne0.true in (
         c.numbered_second-then-second-ne0.ensures
             ∙ (ap (λ (n : ℕ). 2 ^ 32 * n + c.plan_tasks-second.result.carries) (sym (thousand c.plan_tasks-second.result.number))
@@ -129,10 +137,13 @@ returns-then-out-long c = record {
       let old = s.out.now in
       let text = diff_of c.plan_tasks-first.result.plan c.plan_tasks-second.result.plan in
       let paper =
-      both-planned a b c.read_sheet-read.result c.read_sheet-read.ensures.exact c.if-read-ne0.false c.plan_tasks-first.result c.plan_tasks-first.ensures.exact c.if-first-ne0.false c.read_sheet-other.result c.read_sheet-other.ensures.exact c.if-other-ne0.false c.plan_tasks-second.result c.plan_tasks-second.ensures.exact
+      both-planned a b c.read_sheet-read.result c.read_sheet-read.ensures.exact c.if-read-ne0.false c.plan_tasks-first.result
+      c.plan_tasks-first.ensures.exact c.if-first-ne0.false c.read_sheet-other.result c.read_sheet-other.ensures.exact c.if-other-ne0.false
+      c.plan_tasks-second.result c.plan_tasks-second.ensures.exact
       c.if-second-ne0.false in
       let same = ap length c.write_diff-long.ensures.exact.1 ∙ over-length text old in (
-        c.numbered-then-out-long.ensures ∙ (ap (λ (n : ℕ). 2 ^ 32 * 110 + n) c.write_diff-long.ensures.exact.0 ∙ written-short (diff_paper a b) text paper (length old)
+        c.numbered-then-out-long.ensures ∙ (ap (λ (n : ℕ). 2 ^ 32 * 110 + n) c.write_diff-long.ensures.exact.0
+            ∙ written-short (diff_paper a b) text paper (length old)
             (omega (arith, c.if-out-long.true, c.write_diff-long.ensures.exact.0))),
         c.write_diff-long.ensures.exact.1 ∙ written-left (diff_paper a b) text paper old,
       );
@@ -148,7 +159,9 @@ returns c = record {
       let old = s.out.now in
       let text = diff_of c.plan_tasks-first.result.plan c.plan_tasks-second.result.plan in
       let paper =
-      both-planned a b c.read_sheet-read.result c.read_sheet-read.ensures.exact c.if-read-ne0.false c.plan_tasks-first.result c.plan_tasks-first.ensures.exact c.if-first-ne0.false c.read_sheet-other.result c.read_sheet-other.ensures.exact c.if-other-ne0.false c.plan_tasks-second.result c.plan_tasks-second.ensures.exact
+      both-planned a b c.read_sheet-read.result c.read_sheet-read.ensures.exact c.if-read-ne0.false c.plan_tasks-first.result
+      c.plan_tasks-first.ensures.exact c.if-first-ne0.false c.read_sheet-other.result c.read_sheet-other.ensures.exact c.if-other-ne0.false
+      c.plan_tasks-second.result c.plan_tasks-second.ensures.exact
       c.if-second-ne0.false in
       let same = ap length c.write_diff-long.ensures.exact.1 ∙ over-length text old in (
         c.numbered-2.ensures ∙ (ap (λ (n : ℕ). 2 ^ 32 * 0 + n) c.write_diff-long.ensures.exact.0 ∙ written-told (diff_paper a b) text paper (length old)

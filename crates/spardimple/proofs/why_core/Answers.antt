@@ -34,7 +34,8 @@ returns-then-read-ne0 c = record {
   exact =
       let s = c.args in
       let paper = unread-core s.sheet.now c.read_sheet-read.result c.read_sheet-read.ensures.exact s.core c.if-read-ne0.true in (
-        c.numbered.ensures ∙ refused-told (why_core s.sheet.now s.core) c.read_sheet-read.result.number c.read_sheet-read.result.carries paper (length s.out.now),
+        c.numbered.ensures ∙ refused-told (why_core s.sheet.now s.core) c.read_sheet-read.result.number c.read_sheet-read.result.carries paper
+            (length s.out.now),
         refused-left (why_core s.sheet.now s.core) c.read_sheet-read.result.number c.read_sheet-read.result.carries paper s.out.now,
       );
 }
@@ -46,9 +47,12 @@ returns c = record {
       let s = c.args in
       let old = s.out.now in
       let same : why_of c.plan_reached-reply.result.plan c.plan_reached-reply.result.carries s.core ≡ why_core s.sheet.now s.core =
-      ap (λ (x : Reply). why_reached x s.core) c.plan_reached-reply.ensures.exact ∙ sym (read-core s.sheet.now c.read_sheet-read.result c.read_sheet-read.ensures.exact s.core c.if-read-ne0.false) in (
+      ap (λ (x : Reply). why_reached x s.core) c.plan_reached-reply.ensures.exact
+      ∙ sym (read-core s.sheet.now c.read_sheet-read.result c.read_sheet-read.ensures.exact s.core c.if-read-ne0.false) in (
         c.note_number.ensures
-            ∙ (note-told (why_of c.plan_reached-reply.result.plan c.plan_reached-reply.result.carries s.core) (core-numbered c.plan_reached-reply.result.plan c.plan_reached-reply.result.carries s.core) (length old) c.why_plan-note.result c.why_plan-note.ensures.exact.0
+            ∙ (note-told (why_of c.plan_reached-reply.result.plan c.plan_reached-reply.result.carries s.core)
+            (core-numbered c.plan_reached-reply.result.plan c.plan_reached-reply.result.carries s.core) (length old) c.why_plan-note.result
+            c.why_plan-note.ensures.exact.0
             ∙ ap (λ (p : Paper). number (told_paper p (length old))) same),
         c.why_plan-note.ensures.exact.1 ∙ ap (λ (p : Paper). left p old) same,
       );

@@ -29,7 +29,11 @@ pub charged_of-requires : goal.charged_of-requires
 charged_of-requires c =
     let s = c.args in
     let t = c.sized_costs in
-    let u = c.countable_piece in record { sized_costs = subst (Tells (SizedCosts s.costs)) (not-false t.result c.if-not-sized_costs.false-raw) t.ensures; countable = subst (Tells (Countable s.piece)) (not-false u.result c.if-not-countable_piece.false-raw) u.ensures }
+    let u = c.countable_piece in
+    record {
+      sized_costs = subst (Tells (SizedCosts s.costs)) (not-false t.result c.if-not-sized_costs.false-raw) t.ensures;
+      countable = subst (Tells (Countable s.piece)) (not-false u.result c.if-not-countable_piece.false-raw) u.ensures;
+    }
 
 pub returns : goal.returns
 returns c = record {

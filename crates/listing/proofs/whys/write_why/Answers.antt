@@ -46,7 +46,14 @@ returns-then-n-buf c =
     let text = front ++ why_text s.costs (titles s.n) in
     let paper = why_paper front s.costs s.n (titles 79) in
     let is = why-written front s.costs s.n s.by_name s.tasks.list s.places.now s.records.now so.0 in
-    record { value = wrote-answers paper text old is c.put_why-k.new.buf c.put_why-k.result c.put_why-k.ensures.0 (omega (arith, c.put_why-k.ensures.1, c.if-n-buf.true)); number_bound = (omega arith, omega (arith, c.put_why-k.ensures.1, few)) }
+    record {
+      value = wrote-answers paper text old is c.put_why-k.new.buf c.put_why-k.result c.put_why-k.ensures.0 (omega (
+        arith,
+        c.put_why-k.ensures.1,
+        c.if-n-buf.true,
+      ));
+      number_bound = (omega arith, omega (arith, c.put_why-k.ensures.1, few));
+    }
 
 pub put_why-m-requires : goal.put_why-m-requires
 put_why-m-requires c =
@@ -65,7 +72,10 @@ returns-then-buf-m c =
     let text = front ++ why_text s.costs (titles s.n) in
     let paper = why_paper front s.costs s.n (titles 79) in
     let is = why-written front s.costs s.n s.by_name s.tasks.list s.places.now s.records.now so.0 in
-    record { value = count-answers paper text old is c.put_why-m.new.buf c.put_why-m.result c.put_why-m.ensures.0 c.if-buf-m.true; number_bound = (omega arith, omega (arith, c.put_why-m.ensures.1, few)) }
+    record {
+      value = count-answers paper text old is c.put_why-m.new.buf c.put_why-m.result c.put_why-m.ensures.0 c.if-buf-m.true;
+      number_bound = (omega arith, omega (arith, c.put_why-m.ensures.1, few));
+    }
 
 pub put_why-k-requires-in-Shows : goal.put_why-k-requires-in-Shows
 put_why-k-requires-in-Shows c =
@@ -95,5 +105,14 @@ returns-else-buf-m c =
     let is = why-written front s.costs s.n s.by_name s.tasks.list s.places.now s.records.now so.0 in
     let same : c.put_why-m.new.buf ++ old ≡ old = first-pass text c.put_why-m.new.buf old c.put_why-m.result c.put_why-m.ensures.0 in
     let wrote : Wrote old 0 text c.put_why-k-in-Shows.result c.put_why-k-in-Shows.new.buf = rw same at c.put_why-k-in-Shows.ensures.0 in
-    let fits : c.put_why-k-in-Shows.result ≤ length old = omega (arith, c.put_why-k-in-Shows.ensures.0.place, c.put_why-m.ensures.0.place, c.if-buf-m.false, ap length same) in
-    record { value = wrote-answers paper text old is c.put_why-k-in-Shows.new.buf c.put_why-k-in-Shows.result wrote fits; number_bound = (omega arith, omega (arith, c.put_why-k-in-Shows.ensures.1, few)) }
+    let fits : c.put_why-k-in-Shows.result ≤ length old = omega (
+      arith,
+      c.put_why-k-in-Shows.ensures.0.place,
+      c.put_why-m.ensures.0.place,
+      c.if-buf-m.false,
+      ap length same,
+    ) in
+    record {
+      value = wrote-answers paper text old is c.put_why-k-in-Shows.new.buf c.put_why-k-in-Shows.result wrote fits;
+      number_bound = (omega arith, omega (arith, c.put_why-k-in-Shows.ensures.1, few));
+    }

@@ -16,7 +16,13 @@ use Rattle.splits.proofs.charge_bounds.bound_of.Goals as goal
 pub cap_of-cap-requires : goal.cap_of-cap-requires
 cap_of-cap-requires c =
     let s = c.args in
-    let ranged : Ranged c.charged_at-q.result = rw c.charged_at-q.ensures (charged-at-each Ranged s.core.now (s.n + 1) c.requires.n_lt_run_most.2 s.n (omega arith)) in record { n_le_run_most = (omega (arith, c.requires.n_lt_run_most.0), charged-in-front Ranged s.core.now s.n c.requires.n_lt_run_most.2); ranged = ranged; b_le_stall_most = (c.requires.b_le_stall_most.0, ranged.charge-fits, c.least_live-a.ensures.1) }
+    let ranged : Ranged c.charged_at-q.result = rw c.charged_at-q.ensures (charged-at-each Ranged s.core.now (s.n + 1) c.requires.n_lt_run_most.2 s.n
+    (omega arith)) in
+    record {
+      n_le_run_most = (omega (arith, c.requires.n_lt_run_most.0), charged-in-front Ranged s.core.now s.n c.requires.n_lt_run_most.2);
+      ranged = ranged;
+      b_le_stall_most = (c.requires.b_le_stall_most.0, ranged.charge-fits, c.least_live-a.ensures.1);
+    }
 
 pub returns-then-cap-q : goal.returns-then-cap-q
 returns-then-cap-q c =
@@ -32,8 +38,13 @@ returns-then-cap-q c =
 pub guess-from-requires : goal.guess-from-requires
 guess-from-requires c =
     let s = c.args in
-    let ranged : Ranged c.charged_at-q.result = rw c.charged_at-q.ensures (charged-at-each Ranged s.core.now (s.n + 1) c.requires.n_lt_run_most.2 s.n (omega arith)) in
-    record { n_lt_run_most = (c.requires.n_lt_run_most.0, c.requires.n_lt_run_most.2); ranged = ranged; le_charge = rw c.charged_at-q.ensures c.requires.b_le_stall_most.1 }
+    let ranged : Ranged c.charged_at-q.result = rw c.charged_at-q.ensures (charged-at-each Ranged s.core.now (s.n + 1) c.requires.n_lt_run_most.2 s.n
+    (omega arith)) in
+    record {
+      n_lt_run_most = (c.requires.n_lt_run_most.0, c.requires.n_lt_run_most.2);
+      ranged = ranged;
+      le_charge = rw c.charged_at-q.ensures c.requires.b_le_stall_most.1;
+    }
 
 pub busy_cap-requires : goal.busy_cap-requires
 busy_cap-requires c =

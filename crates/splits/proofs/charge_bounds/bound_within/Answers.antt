@@ -25,7 +25,11 @@ squeeze-near-requires c =
     let ranged : Ranged q = rw c.charged_at-q.ensures (charged-at-each Ranged s.core.now (s.n + 1) c.requires.n_lt_run_most.1 s.n (omega arith)) in
     let qs = charged_in s.core.now s.n in
     let front : Each Ranged qs = charged-in-front Ranged s.core.now s.n c.requires.n_lt_run_most.1 in
-    record { n_le_run_most = (omega arith, front); ranged = ranged; b_le_stall_most = (c.requires.b_le_stall_most.0, ranged.charge-fits, omega (arith, c.requires.b_le_stall_most.1, c.requires.b_le_stall_most.2)) }
+    record {
+      n_le_run_most = (omega arith, front);
+      ranged = ranged;
+      b_le_stall_most = (c.requires.b_le_stall_most.0, ranged.charge-fits, omega (arith, c.requires.b_le_stall_most.1, c.requires.b_le_stall_most.2));
+    }
 
 pub returns-then-near-q : goal.returns-then-near-q
 returns-then-near-q c =
@@ -116,7 +120,8 @@ returns-in-Overloaded c =
     ) in
     let over = sym c.descend.ensures ∙ c.in-Overloaded.is in
     subst (λ (r : Charged). Bounds s.b qs r (Falls t)) c.charged_at-q.ensures
-    (bound-own s.b qs rs q laid (all-recurs rs c.requires.n_lt_run_most.1) c.greater-own.result c.less-left.result t (omega (arith, c.requires.a_value.0, c.greater-own.ensures.exact)) within over)
+    (bound-own s.b qs rs q laid (all-recurs rs c.requires.n_lt_run_most.1) c.greater-own.result c.less-left.result t
+    (omega (arith, c.requires.a_value.0, c.greater-own.ensures.exact)) within over)
 
 pub returns-in-Undecided : goal.returns-in-Undecided
 returns-in-Undecided c =

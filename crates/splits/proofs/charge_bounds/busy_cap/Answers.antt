@@ -14,8 +14,14 @@ use Rattle.splits.proofs.charge_bounds.busy_cap.Goals as goal
 
 pub loop-low-init : goal.loop-low-init
 loop-low-init c =
-    let s = c.args in
-    (record { same = refl; long = c.requires.n_lt_run_most.1 }, c.requires.from_lt_charge.0, lowered-start (Unsettled (charged_in s.core.now s.n) s.q) s.q.charge)
+    let s = c.args in (
+      record {
+        same = refl;
+        long = c.requires.n_lt_run_most.1;
+      },
+      c.requires.from_lt_charge.0,
+      lowered-start (Unsettled (charged_in s.core.now s.n) s.q) s.q.charge,
+    )
 
 pub overflow_add-low : goal.overflow_add-low
 overflow_add-low c = omega (arith, c.loop-low.invariant.1, c.loop-low.invariant.2.most, c.requires.ranged.charge-fits)
@@ -27,7 +33,11 @@ pub unsettled-no-requires : goal.unsettled-no-requires
 unsettled-no-requires c =
     let s = c.args in
     let loop = c.loop-low in
-    record { n_lt_run_most = (c.requires.n_lt_run_most.0, loop.invariant.0.long, rw loop.invariant.0.same c.requires.n_lt_run_most.2); ranged = c.requires.ranged; f_le_charge_most = omega (arith, loop.invariant.1, loop.invariant.2.most, c.requires.ranged.charge-fits) }
+    record {
+      n_lt_run_most = (c.requires.n_lt_run_most.0, loop.invariant.0.long, rw loop.invariant.0.same c.requires.n_lt_run_most.2);
+      ranged = c.requires.ranged;
+      f_le_charge_most = omega (arith, loop.invariant.1, loop.invariant.2.most, c.requires.ranged.charge-fits);
+    }
 
 pub loop-low-smaller : goal.loop-low-smaller
 loop-low-smaller c =

@@ -10,7 +10,11 @@ pub squeeze-requires : goal.squeeze-requires
 squeeze-requires c =
     let s = c.args in
     let far = squeezed-is s.b (charged_in s.core.now s.n) s.q 100000000 1 s.f c.squeeze-far.result c.squeeze-far.ensures in
-    record { n_le_run_most = c.requires.n_le_run_most; ranged = c.requires.ranged; b_le_stall_most = (c.requires.b_le_stall_most.0, omega (arith, far.most), omega (arith, c.requires.ranged.period-fits)) }
+    record {
+      n_le_run_most = c.requires.n_le_run_most;
+      ranged = c.requires.ranged;
+      b_le_stall_most = (c.requires.b_le_stall_most.0, omega (arith, far.most), omega (arith, c.requires.ranged.period-fits));
+    }
 
 pub returns : goal.returns
 returns c =

@@ -17,8 +17,11 @@ climb_busy-requires c =
     let s = c.args in
     let r = with_charge s.q s.f in
     let laid = c.put_charged.ensures.0
-    ∙ ap (λ (o : Charged). charged_in s.core.now s.n ++ (o ∷ [])) c.with_charge.ensures in
-    (omega (arith, c.requires.n_lt_run_most.0), rw laid (each_snoc Ranged (charged_in s.core.now s.n) r c.requires.n_lt_run_most.2 (charge-ranged s.q s.f c.requires.ranged c.requires.f_le_charge_most)))
+    ∙ ap (λ (o : Charged). charged_in s.core.now s.n ++ (o ∷ [])) c.with_charge.ensures in (
+      omega (arith, c.requires.n_lt_run_most.0),
+      rw laid (each_snoc Ranged (charged_in s.core.now s.n) r c.requires.n_lt_run_most.2
+          (charge-ranged s.q s.f c.requires.ranged c.requires.f_le_charge_most)),
+    )
 
 pub returns-in-Nothing : goal.returns-in-Nothing
 unfolding with_charge

@@ -54,7 +54,12 @@ fit_stalled-most-requires c =
 pub window_below-tight-requires : goal.window_below-tight-requires
 window_below-tight-requires c =
     let s = c.args in
-    record { sized_costs = c.requires.sized_costs; sized = c.requires.sized; ready = ready-kept s.core.now c.fit_stalled-most.new.core s.n c.requires.ready c.fit_stalled-most.ensures.1; le_x = (c.requires.le_x.0, c.requires.le_x.1, omega (arith, c.less.ensures.exact, c.requires.w_bound.1)) }
+    record {
+      sized_costs = c.requires.sized_costs;
+      sized = c.requires.sized;
+      ready = ready-kept s.core.now c.fit_stalled-most.new.core s.n c.requires.ready c.fit_stalled-most.ensures.1;
+      le_x = (c.requires.le_x.0, c.requires.le_x.1, omega (arith, c.less.ensures.exact, c.requires.w_bound.1));
+    }
 
 pub overflow_sub-q : goal.overflow_sub-q
 overflow_sub-q c =

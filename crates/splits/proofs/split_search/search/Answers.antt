@@ -28,7 +28,12 @@ pub try_split-requires : goal.try_split-requires
 try_split-requires c =
     let s = c.args in
     let loop = c.loop-k in
-    record { sized_costs = c.requires.sized_costs; sized = c.requires.sized; ready = (ready-kept s.core.now loop.core s.n c.requires.ready.0 loop.invariant.0, loop.invariant.1); le_x = (multiple-some s.grain s.task c.requires.starts.1 loop.k (omega arith), loop.invariant.2) }
+    record {
+      sized_costs = c.requires.sized_costs;
+      sized = c.requires.sized;
+      ready = (ready-kept s.core.now loop.core s.n c.requires.ready.0 loop.invariant.0, loop.invariant.1);
+      le_x = (multiple-some s.grain s.task c.requires.starts.1 loop.k (omega arith), loop.invariant.2);
+    }
 
 pub returns-in-Done : goal.returns-in-Done
 returns-in-Done c =

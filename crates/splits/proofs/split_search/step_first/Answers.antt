@@ -41,7 +41,12 @@ least_live-requires c =
 
 pub window_below-requires : goal.window_below-requires
 window_below-requires c =
-    record { sized_costs = c.requires.sized_costs; sized = c.requires.sized; ready = c.requires.ready; le_x = (c.requires.le_x.0, c.requires.le_x.1, omega (arith, c.less-top.ensures.exact, c.least_live.ensures.1)) }
+    record {
+      sized_costs = c.requires.sized_costs;
+      sized = c.requires.sized;
+      ready = c.requires.ready;
+      le_x = (c.requires.le_x.0, c.requires.le_x.1, omega (arith, c.less-top.ensures.exact, c.least_live.ensures.1));
+    }
 
 pub returns-then-due_by : goal.returns-then-due_by
 returns-then-due_by c =
@@ -66,7 +71,12 @@ returns-then-due_by c =
 
 pub lay_first-requires : goal.lay_first-requires
 lay_first-requires c =
-    record { sized_costs = c.requires.sized_costs; sized = c.requires.sized; ready = c.requires.ready; x_le_budget = (omega (arith, c.requires.le_x.1), omega (arith, c.requires.le_x.2.2, c.requires.le_x.2.3)) }
+    record {
+      sized_costs = c.requires.sized_costs;
+      sized = c.requires.sized;
+      ready = c.requires.ready;
+      x_le_budget = (omega (arith, c.requires.le_x.1), omega (arith, c.requires.le_x.2.2, c.requires.le_x.2.3));
+    }
 
 pub bound_of-requires : goal.bound_of-requires
 bound_of-requires c =

@@ -18,14 +18,24 @@ pub window_below-requires : goal.window_below-requires
 window_below-requires c =
     let s = c.args in
     let qs = charged_in s.core.now s.n in
-    record { sized_costs = c.requires.sized_costs; sized = c.requires.sized; ready = ready-kept s.core.now c.tight_first.new.core s.n c.requires.ready.0 c.tight_first.ensures.1; le_x = (c.requires.le_x.0, c.requires.le_x.1, omega (arith, c.less-top.ensures.exact, c.requires.sized.window-fits, c.requires.sized.period-fits)) }
+    record {
+      sized_costs = c.requires.sized_costs;
+      sized = c.requires.sized;
+      ready = ready-kept s.core.now c.tight_first.new.core s.n c.requires.ready.0 c.tight_first.ensures.1;
+      le_x = (c.requires.le_x.0, c.requires.le_x.1, omega (arith, c.less-top.ensures.exact, c.requires.sized.window-fits, c.requires.sized.period-fits));
+    }
 
 pub bound_last-requires : goal.bound_last-requires
 bound_last-requires c =
     let s = c.args in
     let qs = charged_in s.core.now s.n in
     let found = subst (λ (f : Found). TightIn s.costs qs s.task s.x f) c.in-At.is c.tight_first.ensures.0 in
-    record { sized_costs = c.requires.sized_costs; sized = c.requires.sized; alone_len = c.requires.ready.1; le_x = (c.requires.le_x.0, omega (arith, c.requires.le_x.1), omega (arith, found.2, found.3)) }
+    record {
+      sized_costs = c.requires.sized_costs;
+      sized = c.requires.sized;
+      alone_len = c.requires.ready.1;
+      le_x = (c.requires.le_x.0, omega (arith, c.requires.le_x.1), omega (arith, found.2, found.3));
+    }
 
 pub last_below-requires : goal.last_below-requires
 last_below-requires c =

@@ -31,7 +31,21 @@ returns-then-x-eq0 c =
 
 pub lay_first-requires : goal.lay_first-requires
 lay_first-requires c =
-    record { sized_costs = c.requires.sized_costs; sized = c.requires.sized; ready = c.requires.ready; x_le_budget = (omega (arith, c.lesser-x.ensures.exact), omega (arith, c.lesser-x.ensures.exact, c.less.ensures.exact, c.if-x-eq0.false, c.tight_end-end.ensures.1)) }
+    record {
+      sized_costs = c.requires.sized_costs;
+      sized = c.requires.sized;
+      ready = c.requires.ready;
+      x_le_budget = (
+        omega (arith, c.lesser-x.ensures.exact),
+        omega (
+          arith,
+          c.lesser-x.ensures.exact,
+          c.less.ensures.exact,
+          c.if-x-eq0.false,
+          c.tight_end-end.ensures.1,
+        ),
+      );
+    }
 
 pub overflow_add-n : goal.overflow_add-n
 overflow_add-n c =
@@ -46,7 +60,11 @@ cap_of-cap-requires c =
     let s = c.args in
     let ranged : Ranged c.charged_at-q.result =
     rw c.charged_at-q.ensures (charged-at-each Ranged c.lay_first.new.core (s.n + 1) c.lay_first.ensures.2 s.n (omega arith)) in
-    record { n_le_run_most = (omega (arith, c.requires.ready.room), charged-in-front Ranged c.lay_first.new.core s.n c.lay_first.ensures.2); ranged = ranged; b_le_stall_most = (c.stall_of.ensures.1, ranged.charge-fits, c.least_live-a.ensures.1) }
+    record {
+      n_le_run_most = (omega (arith, c.requires.ready.room), charged-in-front Ranged c.lay_first.new.core s.n c.lay_first.ensures.2);
+      ranged = ranged;
+      b_le_stall_most = (c.stall_of.ensures.1, ranged.charge-fits, c.least_live-a.ensures.1);
+    }
 
 pub overflow_sub-q : goal.overflow_sub-q
 overflow_sub-q c =

@@ -22,7 +22,8 @@ returns-then-not-ranged_piece c = record {
       let s = c.args in
       rw (
         le-leb s.b stall_most (omega (arith, c.if-b-gt-STALL_MOST.false)),
-        sym (ranged-is s.q false (subst (λ (o : Bool). Tells (Ranged s.q) o) (not-true c.ranged_piece.result c.if-not-ranged_piece.true-raw) c.ranged_piece.ensures)),
+        sym (ranged-is s.q false (subst (λ (o : Bool). Tells (Ranged s.q) o) (not-true c.ranged_piece.result c.if-not-ranged_piece.true-raw)
+            c.ranged_piece.ensures)),
       );
 }
 
@@ -33,7 +34,8 @@ returns-then-f-gt-CHARGE_MOST c = record {
       let s = c.args in
       rw (
         le-leb s.b stall_most (omega (arith, c.if-b-gt-STALL_MOST.false)),
-        sym (ranged-is s.q true (subst (λ (o : Bool). Tells (Ranged s.q) o) (not-false c.ranged_piece.result c.if-not-ranged_piece.false-raw) c.ranged_piece.ensures)),
+        sym (ranged-is s.q true (subst (λ (o : Bool). Tells (Ranged s.q) o) (not-false c.ranged_piece.result c.if-not-ranged_piece.false-raw)
+            c.ranged_piece.ensures)),
         lt-leb s.f charge_most c.if-f-gt-CHARGE_MOST.true,
       );
 }
@@ -73,7 +75,8 @@ returns-then-not-holds_core c = record {
       let s = c.args in
       rw (
         le-leb s.b stall_most (omega (arith, c.if-b-gt-STALL_MOST.false)),
-        sym (ranged-is s.q true (subst (λ (o : Bool). Tells (Ranged s.q) o) (not-false c.ranged_piece.result c.if-not-ranged_piece.false-raw) c.ranged_piece.ensures)),
+        sym (ranged-is s.q true (subst (λ (o : Bool). Tells (Ranged s.q) o) (not-false c.ranged_piece.result c.if-not-ranged_piece.false-raw)
+            c.ranged_piece.ensures)),
         le-leb s.f charge_most (omega (arith, c.if-f-gt-CHARGE_MOST.false)),
         le-leb (s.a + s.l) length_most (omega (arith, c.if-a-gt-LENGTH_MOST.false, c.if-a-l.false)),
         laid_none s.core.now s.n c.holds_core.result c.holds_core.ensures (not-true c.holds_core.result c.if-not-holds_core.true-raw),
@@ -84,7 +87,15 @@ pub squeeze-requires : goal.squeeze-requires
 squeeze-requires c =
     let s = c.args in
     let core = laid-some s.core.now s.n c.holds_core.result c.holds_core.ensures (not-false c.holds_core.result c.if-not-holds_core.false-raw) in
-    record { n_le_run_most = core; ranged = (subst (λ (o : Bool). Tells (Ranged s.q) o) (not-false c.ranged_piece.result c.if-not-ranged_piece.false-raw) c.ranged_piece.ensures); b_le_stall_most = (omega (arith, c.if-b-gt-STALL_MOST.false), omega (arith, c.if-f-gt-CHARGE_MOST.false), omega (arith, c.if-a-gt-LENGTH_MOST.false, c.if-a-l.false)) }
+    record {
+      n_le_run_most = core;
+      ranged = (subst (λ (o : Bool). Tells (Ranged s.q) o) (not-false c.ranged_piece.result c.if-not-ranged_piece.false-raw) c.ranged_piece.ensures);
+      b_le_stall_most = (
+        omega (arith, c.if-b-gt-STALL_MOST.false),
+        omega (arith, c.if-f-gt-CHARGE_MOST.false),
+        omega (arith, c.if-a-gt-LENGTH_MOST.false, c.if-a-l.false),
+      );
+    }
 
 pub returns : goal.returns
 returns c = record {
@@ -93,6 +104,7 @@ returns c = record {
       let core = laid-some s.core.now s.n c.holds_core.result c.holds_core.ensures (not-false c.holds_core.result c.if-not-holds_core.false-raw) in
       c.squeeze.ensures
       ∙ sym (most-fitting-held s.core.now s.n core s.b s.q s.a s.l s.f (omega (arith, c.if-b-gt-STALL_MOST.false))
-      (subst (λ (o : Bool). Tells (Ranged s.q) o) (not-false c.ranged_piece.result c.if-not-ranged_piece.false-raw) c.ranged_piece.ensures) (omega (arith, c.if-f-gt-CHARGE_MOST.false))
+      (subst (λ (o : Bool). Tells (Ranged s.q) o) (not-false c.ranged_piece.result c.if-not-ranged_piece.false-raw) c.ranged_piece.ensures)
+      (omega (arith, c.if-f-gt-CHARGE_MOST.false))
       (omega (arith, c.if-a-gt-LENGTH_MOST.false, c.if-a-l.false)));
 }

@@ -15,7 +15,11 @@ loop-i-init c =
 pub mark-requires : goal.mark-requires
 mark-requires c =
     let s = c.args in
-    let o = c.loop-i in record { ranged = rw c.charged_at.ensures (charged-at-each Ranged s.core.now s.n c.requires.n_le_run_most.1 o.i c.loop-i-test.true); l_le_busy_most = (c.requires.l_le_busy_most.0, o.invariant.3, λ j. omega (arith, o.invariant.2 j)) }
+    let o = c.loop-i in
+    record {
+      ranged = rw c.charged_at.ensures (charged-at-each Ranged s.core.now s.n c.requires.n_le_run_most.1 o.i c.loop-i-test.true);
+      l_le_busy_most = (c.requires.l_le_busy_most.0, o.invariant.3, λ j. omega (arith, o.invariant.2 j));
+    }
 
 pub loop-i-preserved : goal.loop-i-preserved
 loop-i-preserved c =

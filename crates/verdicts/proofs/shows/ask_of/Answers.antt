@@ -21,7 +21,8 @@ pub returns-then-not-ranged_piece : goal.returns-then-not-ranged_piece
 returns-then-not-ranged_piece c = record {
   exact =
       let s = c.args in
-      c.no_ask-then-not-ranged_piece.ensures ∙ ask-unranged s.verdict s.t s.q c.ranged_piece.result c.ranged_piece.ensures (not-true c.ranged_piece.result c.if-not-ranged_piece.true-raw) (omega (arith, c.if-t-gt-LENGTH_MOST.false));
+      c.no_ask-then-not-ranged_piece.ensures ∙ ask-unranged s.verdict s.t s.q c.ranged_piece.result c.ranged_piece.ensures
+      (not-true c.ranged_piece.result c.if-not-ranged_piece.true-raw) (omega (arith, c.if-t-gt-LENGTH_MOST.false));
 }
 
 pub due_ask-requires : goal.due_ask-requires
@@ -46,22 +47,28 @@ pub returns-in-Passes : goal.returns-in-Passes
 returns-in-Passes c = record {
   exact =
       let s = c.args in
-      let ok : Ranged s.q = subst (λ (o : Bool). Tells (Ranged s.q) o) (not-false c.ranged_piece.result c.if-not-ranged_piece.false-raw) c.ranged_piece.ensures in
-      c.due_ask.ensures ∙ (ap (λ (v : Verdict). ask v s.t s.q) (sym c.in-Passes.is) ∙ sym (ask-held s.verdict s.t s.q ok (omega (arith, c.if-t-gt-LENGTH_MOST.false))));
+      let ok : Ranged s.q = subst (λ (o : Bool). Tells (Ranged s.q) o) (not-false c.ranged_piece.result c.if-not-ranged_piece.false-raw)
+      c.ranged_piece.ensures in
+      c.due_ask.ensures ∙ (ap (λ (v : Verdict). ask v s.t s.q) (sym c.in-Passes.is)
+      ∙ sym (ask-held s.verdict s.t s.q ok (omega (arith, c.if-t-gt-LENGTH_MOST.false))));
 }
 
 pub returns-in-Overloaded : goal.returns-in-Overloaded
 returns-in-Overloaded c = record {
   exact =
       let s = c.args in
-      let ok : Ranged s.q = subst (λ (o : Bool). Tells (Ranged s.q) o) (not-false c.ranged_piece.result c.if-not-ranged_piece.false-raw) c.ranged_piece.ensures in
-      c.due_ask-in-Overloaded.ensures ∙ (ap (λ (v : Verdict). ask v s.t s.q) (sym c.in-Overloaded.is) ∙ sym (ask-held s.verdict s.t s.q ok (omega (arith, c.if-t-gt-LENGTH_MOST.false))));
+      let ok : Ranged s.q = subst (λ (o : Bool). Tells (Ranged s.q) o) (not-false c.ranged_piece.result c.if-not-ranged_piece.false-raw)
+      c.ranged_piece.ensures in
+      c.due_ask-in-Overloaded.ensures ∙ (ap (λ (v : Verdict). ask v s.t s.q) (sym c.in-Overloaded.is)
+      ∙ sym (ask-held s.verdict s.t s.q ok (omega (arith, c.if-t-gt-LENGTH_MOST.false))));
 }
 
 pub returns-in-Undecided : goal.returns-in-Undecided
 returns-in-Undecided c = record {
   exact =
       let s = c.args in
-      let ok : Ranged s.q = subst (λ (o : Bool). Tells (Ranged s.q) o) (not-false c.ranged_piece.result c.if-not-ranged_piece.false-raw) c.ranged_piece.ensures in
-      c.busy_ask.ensures ∙ (ap (λ (v : Verdict). ask v s.t s.q) (sym c.in-Undecided.is) ∙ sym (ask-held s.verdict s.t s.q ok (omega (arith, c.if-t-gt-LENGTH_MOST.false))));
+      let ok : Ranged s.q = subst (λ (o : Bool). Tells (Ranged s.q) o) (not-false c.ranged_piece.result c.if-not-ranged_piece.false-raw)
+      c.ranged_piece.ensures in
+      c.busy_ask.ensures ∙ (ap (λ (v : Verdict). ask v s.t s.q) (sym c.in-Undecided.is)
+      ∙ sym (ask-held s.verdict s.t s.q ok (omega (arith, c.if-t-gt-LENGTH_MOST.false))));
 }

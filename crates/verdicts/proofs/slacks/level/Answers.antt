@@ -7,4 +7,8 @@ use Rattle.verdicts.proofs.slacks.level.Goals as goal
 pub stretch_start-requires : goal.stretch_start-requires
 stretch_start-requires c =
     let s = c.args in
-    record { n_le_run_most = c.requires.n_le_run_most; ranged = rw c.charged_at.ensures (charged-at-each Ranged s.core.now s.n c.requires.n_le_run_most.1 0 (omega arith)); t_in_bounds = c.requires.a_le_t.1 }
+    record {
+      n_le_run_most = c.requires.n_le_run_most;
+      ranged = rw c.charged_at.ensures (charged-at-each Ranged s.core.now s.n c.requires.n_le_run_most.1 0 (omega arith));
+      t_in_bounds = c.requires.a_le_t.1;
+    }

@@ -28,7 +28,10 @@ overflow_sub-end c = omega arith
 
 pub hunt-requires : goal.hunt-requires
 hunt-requires c =
-    record { n_le_run_most = c.requires.n_le_run_most; b_le_stall_most = (c.requires.b_le_stall_most.0, c.requires.b_le_stall_most.1, c.requires.a_le_time_most.0, omega (arith, c.loop-end.invariant.0.inside)) }
+    record {
+      n_le_run_most = c.requires.n_le_run_most;
+      b_le_stall_most = (c.requires.b_le_stall_most.0, c.requires.b_le_stall_most.1, c.requires.a_le_time_most.0, omega (arith, c.loop-end.invariant.0.inside));
+    }
 
 pub returns-in-Missed : goal.returns-in-Missed
 returns-in-Missed c =
@@ -64,7 +67,11 @@ level-v-requires c =
     let t = c.in-Struck.t in
     let x = c.in-Struck.x in
     let so = struck-of g bar s.a (now.end - s.a) c.hunt.result t x c.hunt.ensures c.in-Struck.is in
-    record { n_le_run_most = c.requires.n_le_run_most; b_le_stall_most = c.requires.b_le_stall_most; a_le_t = (so.0.from, omega (arith, so.0.below, now.invariant.0.inside), so.1) }
+    record {
+      n_le_run_most = c.requires.n_le_run_most;
+      b_le_stall_most = c.requires.b_le_stall_most;
+      a_le_t = (so.0.from, omega (arith, so.0.below, now.invariant.0.inside), so.1);
+    }
 
 pub returns-then-v-x : goal.returns-then-v-x
 returns-then-v-x c =
