@@ -8,7 +8,7 @@ mod runs;
 mod sheets;
 mod states;
 
-use demand::{Kind, records_of};
+use demand::{Kind, Record};
 use lent::LENT_MOST;
 use plans::{many, pair, show_plan};
 use print::{
@@ -97,21 +97,21 @@ fn refusals(rt: &impl Print) -> io::Result<()> {
     show_verdict(rt, b"80 records", costs(0, 0, 0, 100001, 0, 0), many)
 }
 
-// Records that are lent as numbers, of which the eighth is the second one's kind.
-fn lent_numbers(rt: &impl Print) -> io::Result<()> {
-    let mut records = records_of(with(with(empty(), whole(1, 2, 4)), whole(1, 2, 4)));
-    show_records(rt, b"two whole pieces", free(), &records, 2)?;
-    records[7] = 2;
-    show_records(rt, b"the second a last piece", free(), &records, 2)?;
-    records[7] = 3;
-    show_records(rt, b"the second of another kind", free(), &records, 2)?;
-    show_records(rt, b"the first alone", free(), &records, 1)?;
+// Records that are lent, of which the second is of one kind after another.
+fn lent_records(rt: &impl Print) -> io::Result<()> {
+    let mut records = [Record::from(whole(1, 2, 4)); 2];
+    show_records(rt, b"two whole pieces", free(), &records)?;
+    records[1].kind = 2;
+    show_records(rt, b"the second a last piece", free(), &records)?;
+    records[1].kind = 3;
+    show_records(rt, b"the second of another kind", free(), &records)?;
+    let first = [records[0]];
+    show_records(rt, b"the first alone", free(), &first)?;
     show_split_beside(
         rt,
         b"beside another kind",
         free(),
         &records,
-        2,
         whole(3, 4, 4),
         1,
     )?;
@@ -119,15 +119,14 @@ fn lent_numbers(rt: &impl Print) -> io::Result<()> {
         rt,
         b"beside the first alone",
         free(),
-        &records,
-        1,
+        &first,
         whole(3, 4, 4),
         1,
     )
 }
 
-// Records that are lent as structs: K1 to K4 and K7 once more, as many as a run may have, and what is refused: 3, 2, 6.
-fn lent_structs(rt: &impl Print) -> io::Result<()> {
+// Pieces that are lent: K1 to K4 and K7 once more, as many as a run may have, and what is refused: 3, 2, 6.
+fn lent_pieces(rt: &impl Print) -> io::Result<()> {
     let mut records = [whole(1, 1, 1); LENT_MOST];
     show_lent(rt, b"K1, lent", free(), records, 0)?;
     show_lent(rt, b"K2, lent", free(), records, 1)?;
@@ -239,8 +238,8 @@ fn main(rt: HostRuntime) -> io::Result<()> {
     figures(&rt)?;
     table_four(&rt)?;
     refusals(&rt)?;
-    lent_numbers(&rt)?;
-    lent_structs(&rt)?;
+    lent_records(&rt)?;
+    lent_pieces(&rt)?;
     splits(&rt)?;
     whole_plans(&rt)?;
     states_by_hand(&rt)?;

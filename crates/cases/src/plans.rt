@@ -1,45 +1,37 @@
 // Plans: the whole of a small one, and the counts of a large one.
+ghost use Rattle.std.specs.Prelude.{◌<◌};
+ghost use Rattle.task.specs.Tasks.{cores_most};
+
 use demand::Costs;
-use plan::{Layout, PIECES_MOST, Plan, ROW_MOST, Reply, Stored, plan_tasks, tasks_on};
+use plan::{Layout, PIECES_MOST, Plan, ROW_MOST, Stored, plan_tasks, tasks_on};
 use std::io;
-use task::{Machine, Name, TASKS_MOST, Task, Tasks, Times};
+use task::{CORES_MOST, Machine, NAME_MOST, Name, Refused, TASKS_MOST, Task, Tasks, Times};
 
 // A task named by its place, of window and period d, with the migration charge given.
 pub fn alike(place: usize, worst: u64, d: u64, migrate: u64) -> Task {
-    let mut bytes = [0u8; 24];
-    bytes[0] = 116;
-    bytes[1] = 48 + (place / 10 % 10) as u8;
-    bytes[2] = 48 + (place % 10) as u8;
-    let name = Name {
-        len: 3,
-        bytes: bytes,
-    };
+    let mut bytes = [0u8; NAME_MOST];
+    bytes[0] = b't';
+    bytes[1] = b'0' + (place / 10 % 10) as u8;
+    bytes[2] = b'0' + (place % 10) as u8;
+    let name = Name { len: 3, bytes };
     let times = Times {
-        worst: worst,
+        worst,
         deadline: d,
         period: d,
         jitter: 0,
         preempt: 0,
-        migrate: migrate,
+        migrate,
     };
-    Task {
-        name: name,
-        times: times,
-    }
+    Task { name, times }
 }
 
 // So many tasks alike, up to 64.
 pub fn many(count: usize, worst: u64, d: u64, migrate: u64) -> Tasks {
     let mut list = [alike(0, worst, d, migrate); TASKS_MOST];
-    let mut i: usize = 0;
-    while i < TASKS_MOST {
-        list[i] = alike(i, worst, d, migrate);
-        i += 1;
+    for (place, task) in list.iter_mut().enumerate() {
+        *task = alike(place, worst, d, migrate);
     }
-    Tasks {
-        count: count,
-        list: list,
-    }
+    Tasks { count, list }
 }
 
 // Two tasks.
@@ -64,24 +56,17 @@ fn show_piece(rt: &impl Print, core: usize, piece: Stored) -> io::Result<()> {
     print!(rt; "\n")
 }
 
-// A core's row, in placement order.
-fn show_row(rt: &impl Print, layout: Layout, core: usize) -> io::Result<()> {
-    if 16 <= core {
-        return Ok(());
-    }
-    let len = layout.lens[core];
-    let mut i: usize = 0;
-    while i < len {
-        if ROW_MOST <= i {
-            return Ok(());
-        }
-        let number = layout.rows[core * ROW_MOST + i];
+// A core's row, in placement order, as far as it names pieces.
+fn show_row(rt: &impl Print, layout: Layout, core: usize) -> io::Result<()>
+    requires { core < cores_most }
+{
+    let len = layout.lens[core].min(ROW_MOST);
+    for place in 0..len {
+        let number = layout.rows[core * ROW_MOST + place];
         if PIECES_MOST <= number {
             return Ok(());
         }
-        let piece = layout.pieces[number];
-        show_piece(rt, core, piece)?;
-        i += 1;
+        show_piece(rt, core, layout.pieces[number])?;
     }
     Ok(())
 }
@@ -93,38 +78,23 @@ pub fn show_counts(rt: &impl Print, plan: Plan) -> io::Result<()> {
     print!(rt; "\tplan")?;
     field(rt, tasks.count as u64)?;
     field(rt, layout.count as u64)?;
-    let mut core: usize = 0;
-    while core < plan.machine.cores {
-        if 16 <= core {
-            return Ok(());
-        }
+    for core in 0..plan.machine.cores.min(CORES_MOST) {
         field(rt, tasks_on(layout, core))?;
-        core += 1;
     }
     print!(rt; "\n")
 }
 
-fn planned(
-    rt: &impl Print,
-    case: &[u8],
-    cores: usize,
-    costs: Costs,
-    tasks: Tasks,
-) -> io::Result<Reply> {
-    rt.write_all(case)?;
-    let machine = Machine {
-        cores: cores,
-        grain: 1,
-    };
-    Ok(plan_tasks(machine, costs, tasks))
+// A refusal's number and what it carries.
+pub fn show_refusal(rt: &impl Print, refused: Refused) -> io::Result<()> {
+    print!(rt; "\trefusal")?;
+    field(rt, u64::from(refused.fault))?;
+    field(rt, refused.carries)
 }
 
 // All rows of a plan.
 pub fn show_rows(rt: &impl Print, layout: Layout) -> io::Result<()> {
-    let mut core: usize = 0;
-    while core < 16 {
+    for core in 0..CORES_MOST {
         show_row(rt, layout, core)?;
-        core += 1;
     }
     Ok(())
 }
@@ -138,18 +108,18 @@ pub fn show_plan(
     tasks: Tasks,
     whole: bool,
 ) -> io::Result<()> {
-    let reply = planned(rt, case, cores, costs, tasks)?;
-    if reply.number != 0 {
-        print!(rt; "\trefusal")?;
-        field(rt, reply.number)?;
-        field(rt, reply.carries as u64)?;
-        return print!(rt; "\n");
+    rt.write_all(case)?;
+    match plan_tasks(Machine { cores, grain: 1 }, costs, tasks) {
+        Ok(plan) => {
+            show_counts(rt, plan)?;
+            if whole {
+                show_rows(rt, plan.layout)?;
+            }
+            Ok(())
+        }
+        Err(refused) => {
+            show_refusal(rt, refused)?;
+            print!(rt; "\n")
+        }
     }
-    let plan = reply.plan;
-    show_counts(rt, plan)?;
-    if !whole {
-        return Ok(());
-    }
-    let layout = plan.layout;
-    show_rows(rt, layout)
 }

@@ -1,11 +1,11 @@
 // One line a case: its name, a tab, and the answer.
 ghost use Rattle.std.specs.Prelude.{◌≤◌};
+ghost use Rattle.demand.specs.Sizes.{run_most};
 
 use crate::lent::{LENT_MOST, judge_first};
-use demand::{
-    Answer, Costs, Figure, Found, Piece, RUN_NUMBERS, Refusal, Run, Split, Splitting, Verdict,
-};
+use demand::{Costs, Piece, RUN_MOST, Record, Refusal, Run, Verdict, records_of};
 use std::io;
+use task::Refused;
 
 pub fn name(rt: &impl Print, text: &[u8]) -> io::Result<()> {
     rt.write_all(text)?;
@@ -23,11 +23,8 @@ pub fn numbers(rt: &impl Print, refusal: u64, carries: u64) -> io::Result<()> {
 }
 
 fn refusal(rt: &impl Print, why: Refusal) -> io::Result<()> {
-    match why {
-        Refusal::TooMany => numbers(rt, 6, 0),
-        Refusal::BadCosts => numbers(rt, 2, 0),
-        Refusal::BadRecord(place) => numbers(rt, 3, place),
-    }
+    let refused = Refused::from(why);
+    numbers(rt, u64::from(refused.fault), refused.carries)
 }
 
 fn verdict(rt: &impl Print, v: Verdict) -> io::Result<()> {
@@ -41,20 +38,18 @@ fn verdict(rt: &impl Print, v: Verdict) -> io::Result<()> {
     }
 }
 
-fn figure(rt: &impl Print, f: Figure) -> io::Result<()> {
+fn figure(rt: &impl Print, f: Result<Option<u64>, Refusal>) -> io::Result<()> {
     match f {
-        Figure::Barred(why) => refusal(rt, why),
-        Figure::Of(found) => match found {
-            Found::At(n) => number(rt, n),
-            Found::Nothing => print!(rt; "none\n"),
-        },
+        Ok(Some(n)) => number(rt, n),
+        Ok(None) => print!(rt; "none\n"),
+        Err(why) => refusal(rt, why),
     }
 }
 
-fn answer(rt: &impl Print, a: Answer) -> io::Result<()> {
+fn answer(rt: &impl Print, a: Result<Verdict, Refusal>) -> io::Result<()> {
     match a {
-        Answer::Judged(v) => verdict(rt, v),
-        Answer::Refused(why) => refusal(rt, why),
+        Ok(v) => verdict(rt, v),
+        Err(why) => refusal(rt, why),
     }
 }
 
@@ -63,19 +58,18 @@ pub fn show_verdict(rt: &impl Print, case: &[u8], costs: Costs, run: Run) -> io:
     answer(rt, verdicts::judge(costs, run))
 }
 
-// The same of the first n records that are lent as numbers.
+// The same of records that are lent.
 pub fn show_records(
     rt: &impl Print,
     case: &[u8],
     costs: Costs,
-    records: &[u64; RUN_NUMBERS],
-    n: usize,
+    records: &[Record],
 ) -> io::Result<()> {
     name(rt, case)?;
-    answer(rt, verdicts::judge_records(costs, records, n))
+    answer(rt, verdicts::judge_records(costs, records))
 }
 
-// The same of the first n records that are lent as structs.
+// The same of the first n of these pieces, lent.
 pub fn show_lent(
     rt: &impl Print,
     case: &[u8],
@@ -89,28 +83,32 @@ pub fn show_lent(
     answer(rt, judge_first(costs, records, n))
 }
 
+// How many of a run's pieces there are.
+fn taken(run: Run) -> usize
+    ensures { result ≤ run_most }
+{
+    run.count.min(RUN_MOST)
+}
+
 pub fn show_busy(rt: &impl Print, case: &[u8], costs: Costs, run: Run) -> io::Result<()> {
     name(rt, case)?;
     print!(rt; "busy length")?;
-    let records = demand::records_of(run);
-    let n = run.count;
-    figure(rt, verdicts::busy_length(costs, &records, n))
+    let records = records_of(run);
+    figure(rt, verdicts::busy_length(costs, &records[..taken(run)]))
 }
 
 pub fn show_demand(rt: &impl Print, case: &[u8], costs: Costs, run: Run, t: u64) -> io::Result<()> {
     name(rt, case)?;
     print!(rt; "demand at {t}")?;
-    let records = demand::records_of(run);
-    let n = run.count;
-    figure(rt, verdicts::demand_of(costs, &records, n, t))
+    let records = records_of(run);
+    figure(rt, verdicts::demand_of(costs, &records[..taken(run)], t))
 }
 
 pub fn show_tight(rt: &impl Print, case: &[u8], costs: Costs, run: Run) -> io::Result<()> {
     name(rt, case)?;
     print!(rt; "tight window")?;
-    let records = demand::records_of(run);
-    let n = run.count;
-    figure(rt, verdicts::tight_window(costs, &records, n))
+    let records = records_of(run);
+    figure(rt, verdicts::tight_window(costs, &records[..taken(run)]))
 }
 
 pub fn show_split(
@@ -121,34 +119,30 @@ pub fn show_split(
     task: Piece,
     grain: u64,
 ) -> io::Result<()> {
-    let records = demand::records_of(run);
-    let n = run.count;
-    show_split_beside(rt, case, costs, &records, n, task, grain)
+    let records = records_of(run);
+    show_split_beside(rt, case, costs, &records[..taken(run)], task, grain)
 }
 
-// The first piece's budget and its window, beside the first n records that are lent as numbers.
+// The first piece's budget and its window, beside the records that are lent.
 pub fn show_split_beside(
     rt: &impl Print,
     case: &[u8],
     costs: Costs,
-    records: &[u64; RUN_NUMBERS],
-    n: usize,
+    records: &[Record],
     task: Piece,
     grain: u64,
 ) -> io::Result<()> {
     name(rt, case)?;
     print!(rt; "split")?;
-    match splits::split_records(costs, records, n, task, grain) {
-        Splitting::Denied(why) => {
+    match splits::split_records(costs, records, task, grain) {
+        Ok(Some(cut)) => {
+            print!(rt; "\t{}", cut.budget)?;
+            number(rt, cut.window)
+        }
+        Ok(None) => print!(rt; "\tnone\n"),
+        Err(why) => {
             print!(rt; "\t")?;
             refusal(rt, why)
         }
-        Splitting::Best(best) => match best {
-            Split::Cut(x, w) => {
-                print!(rt; "\t{x}")?;
-                number(rt, w)
-            }
-            Split::Nowhere => print!(rt; "\tnone\n"),
-        },
     }
 }

@@ -3,11 +3,11 @@ use demand::{Costs, Kind, Piece, RUN_MOST, Run};
 
 pub fn piece(kind: Kind, budget: u64, window: u64, period: u64, jitter: u64) -> Piece {
     Piece {
-        kind: kind,
-        budget: budget,
-        window: window,
-        period: period,
-        jitter: jitter,
+        kind,
+        budget,
+        window,
+        period,
+        jitter,
         preempt: 0,
         migrate: 0,
     }
@@ -20,12 +20,12 @@ pub fn whole(budget: u64, window: u64, period: u64) -> Piece {
 // RelO, SchedO, TsetO, IpB, BetO, MigrO; the rest are 0.
 pub fn costs(relo: u64, schedo: u64, tseto: u64, ipb: u64, beto: u64, migro: u64) -> Costs {
     Costs {
-        relo: relo,
-        schedo: schedo,
-        tseto: tseto,
-        ipb: ipb,
-        beto: beto,
-        migro: migro,
+        relo,
+        schedo,
+        tseto,
+        ipb,
+        beto,
+        migro,
         ipio: 0,
         ipij: 0,
         precision: 0,

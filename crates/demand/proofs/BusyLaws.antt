@@ -8,6 +8,7 @@
 --   busy-length-is, -within       what holds the busy sum least is the busy length, within the limit
 --   busy-found, -nothing          how a climb to it ends
 --   tight-of-last                 the tight window of the last of the pieces
+use Rattle.std.specs.Prelude.{None, Option, Some}
 use mathlib.Core.Path.{◌≡◌, refl, ap, subst}
 use mathlib.Core.Bool.{Bool, true, false}
 use mathlib.Core.List.{List, [], ◌∷◌, ◌++◌}
@@ -17,8 +18,6 @@ use native.Mathlib.Omega.{arith}
 use borrow.Author.Tests.{leb-true, leb-false}
 use lib.Dec.{leb}
 use Rattle.demand.specs.declared.Charged.{Charged}
-use Rattle.demand.specs.declared.Found.{Found}
-use Rattle.demand.specs.declared.Found.TheVariants.{At, Nothing}
 use Rattle.demand.specs.Sizes.{busy_most}
 use Rattle.demand.specs.Busy.{Least, Finds, Clear, climbing, least_holding, busy_load, busy_sum, busy_length, tight_window}
 use Rattle.demand.specs.Answer.{tight_of_last}
@@ -34,11 +33,11 @@ least-unique {P} {m} {n} p q = omega (arith, least-le p n q.here, least-le q m p
 pub clear-one : (f : ℕ → ℕ) → Clear f 1
 clear-one f k h p = omega arith
 
-pub finds-unique : (f : ℕ → ℕ) (top : ℕ) (r s : Found) → Finds f top r → Finds f top s → r ≡ s
-finds-unique f top (At m) (At n) p q = ap At (least-unique p.0 q.0)
-finds-unique f top (At m) Nothing p q = absurd (q m p.1 p.0.here)
-finds-unique f top Nothing (At n) p q = absurd (p n q.1 q.0.here)
-finds-unique f top Nothing Nothing p q = refl
+pub finds-unique : (f : ℕ → ℕ) (top : ℕ) (r s : Option ℕ) → Finds f top r → Finds f top s → r ≡ s
+finds-unique f top (Some m) (Some n) p q = ap Some (least-unique p.0 q.0)
+finds-unique f top (Some m) None p q = absurd (q m p.1 p.0.here)
+finds-unique f top None (Some n) p q = absurd (p n q.1 q.0.here)
+finds-unique f top None None p q = refl
 
 module _ (f : ℕ → ℕ) (mono : (m n : ℕ) → m ≤ n → f m ≤ f n) where
   pub clear_step : (n : ℕ) → Clear f n → n < f n → Clear f (f n)
@@ -50,12 +49,12 @@ module _ (f : ℕ → ℕ) (mono : (m n : ℕ) → m ≤ n → f m ≤ f n) wher
       outer (leb n top) refl (λ up. climbing-finds top steps (f n) (omega arith) (clear_step n clear up) (omega arith))
     where
       inner : (b : Bool) → leb (f n) n ≡ b → n ≤ top → (n < f n → Finds f top (climbing f top steps (f n)))
-          → Finds f top (elim b [ true ↦ At n | false ↦ climbing f top steps (f n) ])
+          → Finds f top (elim b [ true ↦ Some n | false ↦ climbing f top steps (f n) ])
       inner true e h more = (record { here = record { some = some; fits = leb-true (f n) n e }; none_below = clear }, h)
       inner false e h more = more (leb-false (f n) n e)
 
       outer : (b : Bool) → leb n top ≡ b → (n < f n → Finds f top (climbing f top steps (f n)))
-          → Finds f top (elim b [ true ↦ (elim (leb (f n) n) [ true ↦ At n | false ↦ climbing f top steps (f n) ]) | false ↦ Nothing ])
+          → Finds f top (elim b [ true ↦ (elim (leb (f n) n) [ true ↦ Some n | false ↦ climbing f top steps (f n) ]) | false ↦ None ])
       outer true e more = inner (leb (f n) n) refl (leb-true n top e) more
       outer false e more = λ k h p. clear k (omega (arith, leb-false n top e)) p
 
@@ -63,11 +62,11 @@ module _ (f : ℕ → ℕ) (mono : (m n : ℕ) → m ≤ n → f m ≤ f n) wher
   unfolding least_holding
   least-holding-finds top = climbing-finds top (suc top) 1 (omega arith) (clear-one f) (omega arith)
 
-  pub least-holding-is : (top : ℕ) (r : Found) → Finds f top r → r ≡ least_holding f top
+  pub least-holding-is : (top : ℕ) (r : Option ℕ) → Finds f top r → r ≡ least_holding f top
   least-holding-is top r found = finds-unique f top r (least_holding f top) found (least-holding-finds top)
 
-  pub found_within : (top n : ℕ) → least_holding f top ≡ At n → n ≤ top
-  found_within top n e = (subst (λ (r : Found). Finds f top r) e (least-holding-finds top)).1
+  pub found_within : (top n : ℕ) → least_holding f top ≡ Some n → n ≤ top
+  found_within top n e = (subst (λ (r : Option ℕ). Finds f top r) e (least-holding-finds top)).1
 
 pub busy-sum-mono : (qs : List Charged) (m n : ℕ) → m ≤ n → busy_sum qs m ≤ busy_sum qs n
 unfolding busy_sum
@@ -77,21 +76,21 @@ pub busy-length-finds : (qs : List Charged) → Finds (busy_sum qs) busy_most (b
 unfolding busy_length
 busy-length-finds qs = least-holding-finds (busy_sum qs) (busy-sum-mono qs) busy_most
 
-pub busy-length-is : (qs : List Charged) (r : Found) → Finds (busy_sum qs) busy_most r → r ≡ busy_length qs
+pub busy-length-is : (qs : List Charged) (r : Option ℕ) → Finds (busy_sum qs) busy_most r → r ≡ busy_length qs
 busy-length-is qs r found = finds-unique (busy_sum qs) busy_most r (busy_length qs) found (busy-length-finds qs)
 
-pub busy-found : (qs : List Charged) (l : ℕ) → 1 ≤ l → l ≤ busy_most → busy_sum qs l ≤ l → Clear (busy_sum qs) l → At l ≡ busy_length qs
+pub busy-found : (qs : List Charged) (l : ℕ) → 1 ≤ l → l ≤ busy_most → busy_sum qs l ≤ l → Clear (busy_sum qs) l → Some l ≡ busy_length qs
 busy-found qs l some near fits clear =
-    busy-length-is qs (At l) (record { here = record { some = some; fits = fits }; none_below = clear }, near)
+    busy-length-is qs (Some l) (record { here = record { some = some; fits = fits }; none_below = clear }, near)
 
-pub busy-nothing : (qs : List Charged) (l : ℕ) → busy_most < l → Clear (busy_sum qs) l → Nothing ≡ busy_length qs
-busy-nothing qs l past clear = busy-length-is qs Nothing (λ k h p. clear k (omega arith) p)
+pub busy-nothing : (qs : List Charged) (l : ℕ) → busy_most < l → Clear (busy_sum qs) l → None ≡ busy_length qs
+busy-nothing qs l past clear = busy-length-is qs None (λ k h p. clear k (omega arith) p)
 
-pub busy-length-within : (qs : List Charged) (l : ℕ) → busy_length qs ≡ At l → l ≤ busy_most
-busy-length-within qs l e = (subst (λ (r : Found). Finds (busy_sum qs) busy_most r) e (busy-length-finds qs)).1
+pub busy-length-within : (qs : List Charged) (l : ℕ) → busy_length qs ≡ Some l → l ≤ busy_most
+busy-length-within qs l e = (subst (λ (r : Option ℕ). Finds (busy_sum qs) busy_most r) e (busy-length-finds qs)).1
 
-pub busy-length-some : (qs : List Charged) (l : ℕ) → busy_length qs ≡ At l → 1 ≤ l
-busy-length-some qs l e = (subst (λ (r : Found). Finds (busy_sum qs) busy_most r) e (busy-length-finds qs)).0.here.some
+pub busy-length-some : (qs : List Charged) (l : ℕ) → busy_length qs ≡ Some l → 1 ≤ l
+busy-length-some qs l e = (subst (λ (r : Option ℕ). Finds (busy_sum qs) busy_most r) e (busy-length-finds qs)).0.here.some
 
 -- ---- the tight window
 

@@ -10,6 +10,7 @@
 --   last-undecided            a last piece with no busy length: no greater one has one
 --   none-one, none_first, none-next, none_end    no candidate above is allowed: at one that does not fit, at the start, after a step, at the end
 --   splits_of                 the choice over charged pieces is the split of the pieces
+use Rattle.std.specs.Prelude.{None, Option, Some}
 use mathlib.Core.Path.{◌≡◌, refl, sym, ap, ◌∙◌, subst, fun_ext}
 use mathlib.Core.List.{List, [], ◌∷◌, ◌++◌}
 use mathlib.Core.Logic.{⊎_elim}
@@ -20,12 +21,8 @@ use native.Mathlib.Omega.{arith}
 use Rattle.demand.specs.declared.Piece.{Piece}
 use Rattle.demand.specs.declared.Costs.{Costs}
 use Rattle.demand.specs.declared.Charged.{Charged}
-use Rattle.demand.specs.declared.Found.{Found}
-use Rattle.demand.specs.declared.Found.TheVariants.{At, Nothing}
 use Rattle.demand.specs.declared.Verdict.{Verdict}
 use Rattle.demand.specs.declared.Verdict.TheVariants.{Passes, Undecided}
-use Rattle.demand.specs.declared.Split.{Split}
-use Rattle.demand.specs.declared.Split.TheVariants.{Cut, Nowhere}
 use Rattle.demand.specs.Sizes.{SizedCosts, Sized, Each}
 use Rattle.demand.specs.Ways.Ranges.{Countable, Ranged}
 use Rattle.demand.specs.Charge.{charge, charged, ipi_cost, core_of, stall}
@@ -40,6 +37,7 @@ use Rattle.demand.proofs.DemandLaws.{Recurs, interrupts-mono, interrupts-all-mon
 use Rattle.demand.proofs.ChargeLaws.{charged-ranged, core-snoc, late-jitter-le}
 use Rattle.demand.proofs.BusyLaws.{least-unique, least-holding-finds, tight-of-last}
 use Rattle.demand.proofs.VerdictLaws.{verdict-means}
+use Rattle.demand.specs.declared.Cut.{Cut}
 
 -- ---- the two pieces
 
@@ -140,9 +138,9 @@ unfolding tight_window charged first_piece piece_of
 window-parts c qs p x w top = ap (λ (f : ℕ → ℕ). later p.jitter (least_holding f (top - p.jitter))) (sum_same c qs p x w)
 
 module _ (c : Costs) (qs : List Charged) (p : Piece) (x : ℕ) where
-  found_in : (f : Found) → Finds (tight_beside c qs p x) (p.window - 1 - p.jitter) f → TightIn c qs p x (later p.jitter f)
-  found_in (At t) found = (t, found.0, omega (arith, found.0.here.some, found.1), refl)
-  found_in Nothing none = λ t tight room. none t (omega arith) tight.here
+  found_in : (f : Option ℕ) → Finds (tight_beside c qs p x) (p.window - 1 - p.jitter) f → TightIn c qs p x (later p.jitter f)
+  found_in (Some t) found = (t, found.0, omega (arith, found.0.here.some, found.1), refl)
+  found_in None none = λ t tight room. none t (omega arith) tight.here
 
   pub window-in : (w : ℕ) → TightIn c qs p x (tight_window (stall c) (with_first c qs p x w) (charged c (first_piece p x w)) (p.window - 1))
   window-in w =
@@ -156,7 +154,7 @@ last-window b c qs p x w = tight-of-last b (qs ++ (charged c (first_piece p x w)
 
 -- as the code looks for it: behind the core, with the widest window that leaves the last piece one
 pub tight-in : (c : Costs) (qs : List Charged) (p : Piece) (x : ℕ) (rs : List Charged)
-    → rs ≡ with_first c qs p x (p.window - 1) → (r : Found) → r ≡ tight_of_last (stall c) rs rs → TightIn c qs p x r
+    → rs ≡ with_first c qs p x (p.window - 1) → (r : Option ℕ) → r ≡ tight_of_last (stall c) rs rs → TightIn c qs p x r
 tight-in c qs p x rs laid r found =
     rw (found, laid, last-window (stall c) c qs p x (p.window - 1)) (window-in c qs p x (p.window - 1))
 
@@ -166,7 +164,7 @@ tight-same c qs p x m n = least-unique m n
 -- ---- why a candidate does not fit
 
 module _ (c : Costs) (qs : List Charged) (p : Piece) (x : ℕ) where
-  pub untight : TightIn c qs p x Nothing → (u : ℕ) → Fits c qs p x u → ⊥
+  pub untight : TightIn c qs p x None → (u : ℕ) → Fits c qs p x u → ⊥
   untight none u fits = none u fits.tight fits.room
 
   pub fails-here : (t w : ℕ) → Tight c qs p x t → w ≡ p.jitter + t → (v : Verdict) → v ≡ verdict (stall c) (with_first c qs p x w)
@@ -293,14 +291,14 @@ module _ (c : Costs) (ps : List Piece) (p : Piece) where
     there = sym (last-verdict x (p.jitter + t)) ∙ allowed.last-passes;
   }
 
-  pub splits_of : (g : ℕ) (s : Split) → Chosen c g (core_of c ps) p s → Splits c g ps p s
-  splits_of g (Cut x w) chosen = (
+  pub splits_of : (g : ℕ) (s : Option Cut) → Chosen c g (core_of c ps) p s → Splits c g ps p s
+  splits_of g (Some s) chosen = (
     chosen.0,
     record {
       candidate = chosen.1;
-      allowed = fits-allowed x chosen.0 chosen.2;
+      allowed = fits-allowed s.budget chosen.0 chosen.2;
       none_above = λ y u high k allowed. chosen.3 y u high k (allowed-fits y u allowed);
     },
     chosen.4,
   )
-  splits_of g Nowhere none = λ x t k allowed. none x t k.some k (allowed-fits x t allowed)
+  splits_of g None none = λ x t k allowed. none x t k.some k (allowed-fits x t allowed)

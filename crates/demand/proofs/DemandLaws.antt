@@ -18,7 +18,7 @@ use native.Mathlib.Decide.{dec_lt}
 use native.Mathlib.Omega.{arith}
 use borrow.Author.Tests.{lt-ltb, le-ltb}
 use Rattle.demand.specs.declared.Charged.{Charged}
-use Rattle.demand.specs.Sizes.{Each, Some}
+use Rattle.demand.specs.Sizes.{Each, SomeOf}
 use Rattle.demand.specs.Demand.{ceil, total, jobs_due, interrupts, largest_window, blocking, load, demand, Live, earliest, least_live}
 use Rattle.demand.specs.Busy.{Least, busy_load, busy_sum}
 use Rattle.demand.proofs.Division.{div_mono, div-add-ceil, ceil-mono, ceil-add, ceil-one-more}
@@ -146,7 +146,7 @@ module _ (qs : List Charged) where
 
 -- ---- live lengths
 
-live-before : (qs : List Charged) {t u : ℕ} → t ≤ u → Some (λ q. 1 ≤ jobs_due q t) qs → Some (λ q. 1 ≤ jobs_due q u) qs
+live-before : (qs : List Charged) {t u : ℕ} → t ≤ u → SomeOf (λ q. 1 ≤ jobs_due q t) qs → SomeOf (λ q. 1 ≤ jobs_due q u) qs
 live-before [] h live = live
 live-before (q ∷ qs) {t} {u} h live =
     ⊎_elim (λ here. ◌⊎◌.inl (omega (arith, jobs-due-mono q h))) (λ there. ◌⊎◌.inr (live-before qs h there)) live
@@ -159,13 +159,13 @@ due-from : (q : Charged) (t : ℕ) → q.window - q.jitter ≤ t → 1 ≤ jobs_
 due-from q t late = omega (arith, jobs-due-some q t (omega arith))
 
 -- before the earliest no piece has a job due
-none-live : (w : ℕ) (qs : List Charged) (t : ℕ) → t < earliest w qs → Some (λ q. 1 ≤ jobs_due q t) qs → ⊥
+none-live : (w : ℕ) (qs : List Charged) (t : ℕ) → t < earliest w qs → SomeOf (λ q. 1 ≤ jobs_due q t) qs → ⊥
 none-live w [] t early live = live
 none-live w (q ∷ qs) t early live =
     ⊎_elim (λ here. omega (arith, jobs-due-none q t (omega arith))) (λ there. none-live w qs t (omega arith) there) live
 
 -- from it on one has, or it is w
-some-live : (w : ℕ) (qs : List Charged) (t : ℕ) → earliest w qs ≤ t → w ≤ t ⊎ Some (λ q. 1 ≤ jobs_due q t) qs
+some-live : (w : ℕ) (qs : List Charged) (t : ℕ) → earliest w qs ≤ t → w ≤ t ⊎ SomeOf (λ q. 1 ≤ jobs_due q t) qs
 some-live w [] t late = ◌⊎◌.inl late
 some-live w (q ∷ qs) t late = elim (dec_lt t (q.window - q.jitter)) [
   | yes early ↦ ⊎_elim (λ past. ◌⊎◌.inl past) (λ there. ◌⊎◌.inr (◌⊎◌.inr there)) (some-live w qs t (omega arith))

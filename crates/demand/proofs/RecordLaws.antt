@@ -1,32 +1,36 @@
 -- Laws of a run of records that lies in an array.
 -- Assumes nothing.
 --
---   records-length, records-at, records-read, records-take    79 of them, each by its place, and the first ones
+--   records-length, records-at, records-take    79 of them, each by its place, and the first ones
 --   record-named, record-other    a record by its kind's number
 --   kind-outside          a record of another kind is outside the sizes
 --   first-same            the first n records, by the first 7 · n numbers
 --   record-back           the seven numbers of a record spell it
---   put-length            a record written leaves the array as long as it was
---   records-put           it stands there, behind those before it
---   put-all-next, lent-records    records written one by one are those that are read
-use mathlib.Core.Path.{◌≡◌, sym, ap, ◌∙◌}
-use mathlib.Core.Bool.{false}
-use mathlib.Core.List.{List, [], ◌∷◌, ◌++◌, append-nil, append_assoc}
-use Prim.Native.Nat.{ℕ, suc, ◌+◌, ◌*◌, ◌≤◌, ◌<◌}
+--   in_named, in_other    the piece of a record, by its kind's number
+--   piece-back, pieces-back    a piece is that of its record
+--   pieces-length, pieces-all    as many pieces as records
+--   place-good, place-bad  the search for the first bad record, one record on
+use mathlib.Core.Path.{◌≡◌, refl, sym, ap, ◌∙◌}
+use mathlib.Core.Bool.{true, false}
+use mathlib.Core.List.{List, [], ◌∷◌, ◌++◌, map}
+use Prim.Native.Nat.{ℕ, ◌+◌, ◌*◌, ◌≤◌, ◌<◌}
 use native.Mathlib.Nat.{add-zero}
-use native.Mathlib.Numerals.{add-one}
 use native.Mathlib.Omega.{arith}
 use borrow.Author.Tests.{le-leb, lt-leb}
-use lib.ListN.{length, take, drop, get_or, replicate, length-replicate, drop_of_length-le}
-use lib.Seq.{sets, length-sets, take_all, drop-cons}
+use lib.ListN.{length, take, drop, get_or, get_or-map, length-map, set}
+use Rattle.std.proofs.lemmas.List.{take_more, take_more_set}
+use lib.Seq.{take_all}
 use Rattle.demand.specs.declared.Kind.{Kind}
 use Rattle.demand.specs.declared.Piece.{Piece}
 use Rattle.demand.specs.Kinds.{kind_number, kind_most, kind_of}
 use Rattle.demand.specs.Lists.{firsts}
-use Rattle.demand.specs.Records.{outside, record_at, record_within, records_of, numbers_of, put_record, put_all, lent_of}
+use Rattle.demand.specs.declared.Record.{Record}
+use Rattle.demand.specs.Records.{outside, piece_in, pieces_in, record_for, record_spelt, record_at, records_of, numbers_of}
 use Rattle.demand.specs.Sizes.{run_most, sized}
+use Rattle.demand.specs.Answer.{first_bad}
+use Rattle.demand.proofs.SizeLaws.{first-bad-good, first-bad-here}
 use Rattle.demand.proofs.KindLaws.{kind-back, kind-narrow}
-use Rattle.demand.proofs.ArrayLaws.{firsts-length, firsts_at, firsts-take, firsts_same, sets-before, sets-there}
+use Rattle.demand.proofs.ArrayLaws.{firsts-length, firsts_at, firsts-take, firsts_same}
 
 -- ---- all places
 
@@ -38,23 +42,47 @@ pub records-at : (a : List ℕ) (i : ℕ) (d : Piece) → i < run_most → get_o
 unfolding records_of
 records-at a i d h = firsts_at (record_at a) run_most i d h
 
--- what was read at a place
-pub records-read : (a : List ℕ) (i : ℕ) (p d : Piece) → i < run_most → p ≡ record_at a i → get_or (records_of a) i d ≡ p
-records-read a i p d h read = records-at a i d h ∙ sym read
-
 pub records-take : (a : List ℕ) (i : ℕ) → i ≤ run_most → take i (records_of a) ≡ firsts (record_at a) i
 unfolding records_of
 records-take a i h = firsts-take (record_at a) run_most i h
 
+-- ---- records that are lent
+
+pub in_named : (r : Record) → r.kind ≤ kind_most
+    → record { kind = kind_of r.kind; budget = r.budget; window = r.window; period = r.period; jitter = r.jitter; preempt = r.preempt; migrate = r.migrate } ≡ piece_in r
+unfolding piece_in
+in_named r named = simp (le-leb r.kind kind_most named)
+
+pub in_other : (r : Record) → kind_most < r.kind → piece_in r ≡ outside
+unfolding piece_in
+in_other r other = simp (lt-leb r.kind kind_most other)
+
+pub piece-back : (p : Piece) → piece_in (record_for p) ≡ p
+unfolding record_for
+piece-back p =
+    sym (in_named (record_for p) (kind-narrow p.kind))
+    ∙ λ j. record {
+      kind = kind-back p.kind j;
+      budget = p.budget;
+      window = p.window;
+      period = p.period;
+      jitter = p.jitter;
+      preempt = p.preempt;
+      migrate = p.migrate;
+    }
+
+pub pieces-back : (ps : List Piece) → pieces_in (map record_for ps) ≡ ps
+pieces-back [] = refl
+pieces-back (p ∷ ps) = cc (piece-back p, pieces-back ps)
+
+pub pieces-length : (rs : List Record) → length (pieces_in rs) ≡ length rs
+pieces-length rs = length-map rs piece_in
+
+-- all of them
+pub pieces-all : (rs : List Record) → take (length rs) (pieces_in rs) ≡ pieces_in rs
+pieces-all rs = take_all (length rs) (pieces_in rs) (omega (arith, pieces-length rs))
+
 -- ---- a record
-
-pub record-past : (a : List ℕ) (i : ℕ) → run_most ≤ i → record_within a i ≡ outside
-unfolding record_within
-record-past a i h = simp (le-leb run_most i h)
-
-pub record-within : (a : List ℕ) (i : ℕ) → i < run_most → record_within a i ≡ record_at a i
-unfolding record_within
-record-within a i h = simp (lt-leb run_most i h)
 
 -- seven reads make a record, where the first is a kind's number
 pub record-named : (a : List ℕ) (i : ℕ) (k : Kind) → get_or a (7 * i) 0 ≤ kind_most → k ≡ kind_of (get_or a (7 * i) 0)
@@ -68,11 +96,11 @@ pub record-named : (a : List ℕ) (i : ℕ) (k : Kind) → get_or a (7 * i) 0 �
       migrate = get_or a (7 * i + 6) 0;
     } ≡ record_at a i
 unfolding record_at
-record-named a i k named e = simp (le-leb (get_or a (7 * i) 0) kind_most named, e)
+record-named a i k named e = rw e (in_named (record_spelt a i) named)
 
 pub record-other : (a : List ℕ) (i : ℕ) → kind_most < get_or a (7 * i) 0 → record_at a i ≡ outside
 unfolding record_at
-record-other a i other = simp (lt-leb (get_or a (7 * i) 0) kind_most other)
+record-other a i other = in_other (record_spelt a i) other
 
 pub kind-outside : (a : List ℕ) (i : ℕ) → kind_most < get_or a (7 * i) 0 → sized (record_at a i) ≡ false
 unfolding sized
@@ -111,52 +139,24 @@ record-back a i p at =
       migrate = at 6 (omega arith) j;
     }
 
-record-there : (a : List ℕ) (i : ℕ) (p : Piece) → 7 * i + 7 ≤ length a → record_at (sets a (7 * i) (numbers_of p)) i ≡ p
-record-there a i p room = record-back (sets a (7 * i) (numbers_of p)) i p (sets-there a (7 * i) (numbers_of p) room)
+-- records written one by one
+pub record-next : (rs : List Record) (ps : List Piece) (i : ℕ) (r : Record) (d : Piece) → length rs ≡ length ps → i < length ps
+    → take i rs ≡ take i (map record_for ps) → r ≡ record_for (get_or ps i d) → take (i + 1) (set rs i r) ≡ take (i + 1) (map record_for ps)
+record-next rs ps i r d long here before is =
+    let last : get_or (map record_for ps) i (record_for d) ≡ r = get_or-map record_for ps i d ∙ sym is in
+    take_more_set rs i r (omega (arith, long))
+    ∙ (ap (λ (l : List Record). l ++ (r ∷ [])) before
+    ∙ (ap (λ (q : Record). take i (map record_for ps) ++ (q ∷ [])) (sym last)
+    ∙ sym (take_more (map record_for ps) i (record_for d) (omega (arith, length-map ps record_for, here)))))
 
-pub put-here : (a : List ℕ) (i : ℕ) (p : Piece) → i < run_most → put_record a i p ≡ sets a (7 * i) (numbers_of p)
-unfolding put_record
-put-here a i p h = simp (lt-leb run_most i h)
+-- the search for the first bad record, one record on
+module _ (rs : List Record) (i : ℕ) (here : i < length rs) where
+  at-place : (d : Record) → get_or (pieces_in rs) i (piece_in d) ≡ piece_in (get_or rs i d)
+  at-place d = get_or-map piece_in rs i d
 
-pub put-past : (a : List ℕ) (i : ℕ) (p : Piece) → run_most ≤ i → put_record a i p ≡ a
-unfolding put_record
-put-past a i p h = simp (le-leb run_most i h)
+  pub place-good : (p : Piece) (d : Record) → p ≡ piece_in (get_or rs i d) → sized p ≡ true
+      → first_bad (i + 1) (drop i (pieces_in rs)) ≡ first_bad (i + 1 + 1) (drop (i + 1) (pieces_in rs))
+  place-good p d is e = first-bad-good (pieces_in rs) i (piece_in d) (omega (arith, pieces-length rs)) (ap sized (at-place d ∙ sym is) ∙ e)
 
-pub put-length : (a : List ℕ) (i : ℕ) (p : Piece) → i < run_most → length (put_record a i p) ≡ length a
-put-length a i p h = ap (λ (l : List ℕ). length l) (put-here a i p h) ∙ length-sets a (7 * i) (numbers_of p)
-
-pub records-put : (a : List ℕ) (i : ℕ) (p : Piece) → i < run_most → length a ≡ 7 * run_most
-    → take (i + 1) (records_of (put_record a i p)) ≡ take i (records_of a) ++ (p ∷ [])
-records-put a i p h long =
-    let b = sets a (7 * i) (numbers_of p) in
-    let room : 7 * i + 7 ≤ length a = omega arith in
-    let before : firsts (record_at b) i ≡ firsts (record_at a) i = first-same b a i (sets-before a (7 * i) (numbers_of p) room) in
-    let taken : take (i + 1) (records_of b) ≡ firsts (record_at b) (suc i) = rw add-one (records-take b (suc i) h) in
-    let ends : firsts (record_at b) (suc i) ≡ firsts (record_at a) i ++ (p ∷ []) = cc (before, record-there a i p room) in
-    rw (put-here a i p h) (taken ∙ (ends ∙ ap (λ (l : List Piece). l ++ (p ∷ [])) (sym (records-take a i (omega arith)))))
-
--- ---- records written one by one
-
--- one turn: the record at place i, and then those behind it
-pub put-all-next : (a : List ℕ) (ps : List Piece) (i : ℕ) (d : Piece) → i < length ps
-    → put_all a i (drop i ps) ≡ put_all (put_record a i (get_or ps i d)) (i + 1) (drop (i + 1) ps)
-put-all-next a ps i d h = rw (drop-cons ps i d h) (ap (λ (n : ℕ). put_all (put_record a i (get_or ps i d)) (i + 1) (drop n ps)) (sym (add-one i)))
-
-pub put-all-end : (a : List ℕ) (ps : List Piece) (n : ℕ) → length ps ≤ n → put_all a n (drop n ps) ≡ a
-put-all-end a ps n h = rw (drop_of_length-le ps {i = n} h)
-
-put-all-read : (a : List ℕ) (i : ℕ) (ps : List Piece) → i + length ps ≤ run_most → length a ≡ 7 * run_most
-    → take (i + length ps) (records_of (put_all a i ps)) ≡ take i (records_of a) ++ ps
-put-all-read a i [] few long = rw (add-zero, append-nil)
-put-all-read a i (p ∷ ps) few long =
-    let e : i + length (p ∷ ps) ≡ i + 1 + length ps = omega arith in
-    let more = put-all-read (put_record a i p) (i + 1) ps (omega arith) (put-length a i p (omega arith) ∙ long) in
-    ap (λ (n : ℕ). take n (records_of (put_all (put_record a i p) (i + 1) ps))) e
-    ∙ (more ∙ (ap (λ (l : List Piece). l ++ ps) (records-put a i p (omega arith) long) ∙ append_assoc (take i (records_of a)) (p ∷ []) ps))
-
-pub lent-records : (ps : List Piece) → length ps ≡ run_most → records_of (lent_of ps) ≡ ps
-unfolding lent_of
-lent-records ps all =
-    let a : List ℕ = replicate (7 * run_most) 0 in
-    let read = put-all-read a 0 ps (omega arith) (length-replicate {A = ℕ} (7 * run_most) 0) in
-    sym (take_all (0 + length ps) (records_of (put_all a 0 ps)) (omega (arith, records-length (put_all a 0 ps)))) ∙ read
+  pub place-bad : (p : Piece) (d : Record) → p ≡ piece_in (get_or rs i d) → sized p ≡ false → first_bad (i + 1) (drop i (pieces_in rs)) ≡ i + 1
+  place-bad p d is e = first-bad-here (pieces_in rs) i (piece_in d) (omega (arith, pieces-length rs)) (ap sized (at-place d ∙ sym is) ∙ e)

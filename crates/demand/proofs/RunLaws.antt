@@ -10,7 +10,7 @@
 --   other-kind      so is a record of another kind, in numbers that are lent
 --   behind-fine, behind-bad, behind-refused, check-task      the same of a run with a task's record behind it
 --   split-fine, split-bad
---   bad-good, bad-here, bad-end      the search for the first bad record, one record on
+use Rattle.std.specs.Prelude.{Err, Ok, Option, Result, ⊤}
 use mathlib.Core.Path.{◌≡◌, refl, sym, ap, subst, ◌∙◌}
 use mathlib.Core.Bool.{Bool, true, false, cond}
 use mathlib.Core.List.{List, [], ◌∷◌, ◌++◌, map}
@@ -19,58 +19,40 @@ use native.Mathlib.Nat.{add_comm}
 use native.Mathlib.Omega.{arith}
 use borrow.Author.Tests.{le-leb, lt-leb, leb-true}
 use lib.Dec.{leb}
-use lib.ListN.{length, take, drop, get_or, length-map, drop_of_length-le}
+use lib.ListN.{length, take, get_or, length-map}
 use lib.Seq.{get_or-take, length-take-le, take-append-add, take-take}
 use Rattle.demand.specs.declared.Piece.{Piece}
 use Rattle.demand.specs.declared.Costs.{Costs}
 use Rattle.demand.specs.declared.Refusal.{Refusal}
 use Rattle.demand.specs.declared.Refusal.TheVariants.{TooMany, BadCosts, BadRecord}
-use Rattle.demand.specs.declared.Check.{Check}
-use Rattle.demand.specs.declared.Check.TheVariants.{Fine, Bad}
 use Rattle.demand.specs.Kinds.{kind_most}
 use Rattle.demand.specs.Records.{outside, records_of}
 use Rattle.demand.specs.Sizes.{run_most, Sized, SizedCosts, Each, sized, sized_costs}
 use Rattle.demand.specs.Ways.Ranges.{Countable, Ranged}
-use Rattle.demand.specs.declared.Answer.TheVariants.{Judged, Refused}
 use Rattle.demand.specs.declared.Charged.{Charged}
-use Rattle.demand.specs.declared.Found.{Found}
-use Rattle.demand.specs.declared.Figure.TheVariants.{Of, Barred}
-use Rattle.demand.specs.declared.Split.{Split}
-use Rattle.demand.specs.declared.Splitting.TheVariants.{Best, Denied}
 use Rattle.demand.specs.Charge.{core_of}
 use Rattle.demand.specs.Verdict.{verdict_of}
-use Rattle.demand.specs.declared.Showing.TheVariants.{Shows, Unshown}
 use Rattle.demand.specs.Why.{shown_of}
 use Rattle.demand.specs.Answer.{Taken, first_bad, bad_record, check_run, answer_of, showing_of, figured, splitted}
 use Rattle.demand.proofs.RecordLaws.{records-length, records-at, kind-outside}
 use Rattle.demand.proofs.Sums.{each-front, each_last}
 use Rattle.demand.proofs.ChargeLaws.{all-countable, core-ranged}
-use Rattle.demand.proofs.SizeLaws.{first-bad-good, first-bad-here, first-bad-none, first-bad-there, first-bad-behind}
+use Rattle.demand.proofs.SizeLaws.{first-bad-none, first-bad-there, first-bad-behind}
 use Rattle.demand.proofs.SizeLaws.{first-bad-front, sized-exact, costs-exact}
+use Rattle.demand.specs.declared.Cut.{Cut}
 
 -- the length of an array of structs that is a field of a struct, for `search`
 pub length-mapped : (X Y : Type 0) (f : X → Y) (l : List X) (n : ℕ) → length (map f l) ≡ n → length l ≡ n
 length-mapped X Y f l n e = sym (length-map l f) ∙ e
 
-module _ (n : ℕ) (ps : List Piece) (room : n ≤ length ps) where
-  pub bad-good : (i : ℕ) (d : Piece) → i < n → sized (get_or ps i d) ≡ true
-      → first_bad (i + 1) (drop i (take n ps)) ≡ first_bad (i + 1 + 1) (drop (i + 1) (take n ps))
-  bad-good i d h e = first-bad-good (take n ps) i d (omega (arith, length-take-le n ps room)) (rw (get_or-take n ps i d h) e)
-
-  pub bad-here : (i : ℕ) (d : Piece) → i < n → sized (get_or ps i d) ≡ false → first_bad (i + 1) (drop i (take n ps)) ≡ i + 1
-  bad-here i d h e = first-bad-here (take n ps) i d (omega (arith, length-take-le n ps room)) (rw (get_or-take n ps i d h) e)
-
-  pub bad-end : (k : ℕ) → first_bad k (drop n (take n ps)) ≡ 0
-  bad-end k = rw (drop_of_length-le (take n ps) {i = n} (omega (arith, length-take-le n ps room)))
-
 -- ---- the refusals
 
 module _ (c : Costs) (n : ℕ) (ps : List Piece) where
-  pub check-many : run_most < n → check_run c n ps ≡ Bad TooMany
+  pub check-many : run_most < n → check_run c n ps ≡ Err TooMany
   unfolding check_run
   check-many h = simp (lt-leb n run_most h)
 
-  pub check-costs : n ≤ run_most → sized_costs c ≡ false → check_run c n ps ≡ Bad BadCosts
+  pub check-costs : n ≤ run_most → sized_costs c ≡ false → check_run c n ps ≡ Err BadCosts
   unfolding check_run
   check-costs h bad = simp (le-leb n run_most h, bad)
 
@@ -78,26 +60,26 @@ module _ (c : Costs) (n : ℕ) (ps : List Piece) where
   unfolding check_run
   check-records h good = simp (le-leb n run_most h, good)
 
-pub bad-record-some : (k : ℕ) → (k ≡ 0 → ⊥) → bad_record k ≡ Bad (BadRecord k)
+pub bad-record-some : (k : ℕ) → (k ≡ 0 → ⊥) → bad_record k ≡ Err (BadRecord k)
 bad-record-some zero h = absurd (h refl)
 bad-record-some (suc k) h = refl
 
 pub taken-countable : (c : Costs) (n : ℕ) (ps : List Piece) → Taken c n ps → Each Countable (take n ps)
 taken-countable c n ps ok = all-countable (take n ps) ok.each
 
-bad-record-fine : (k : ℕ) → bad_record k ≡ Fine → k ≡ 0
+bad-record-fine : (k : ℕ) → bad_record k ≡ Ok tt → k ≡ 0
 bad-record-fine zero e = refl
 bad-record-fine (suc k) e = let z : ◌≡◌ {A = ℕ} 0 1 = cc in absurd (omega arith)
 
-pub check-taken : (c : Costs) (n : ℕ) (ps : List Piece) → check_run c n ps ≡ Fine → Taken c n ps
+pub check-taken : (c : Costs) (n : ℕ) (ps : List Piece) → check_run c n ps ≡ Ok tt → Taken c n ps
 unfolding check_run
 check-taken c n ps e = few (leb n run_most) refl e
   where
-    all : (b : Bool) → sized_costs c ≡ b → n ≤ run_most → cond b (bad_record (first_bad 1 (take n ps))) (Bad BadCosts) ≡ Fine → Taken c n ps
+    all : (b : Bool) → sized_costs c ≡ b → n ≤ run_most → cond b (bad_record (first_bad 1 (take n ps))) (Err BadCosts) ≡ Ok tt → Taken c n ps
     all true good h f = record { few = h; costs = (costs-exact c).0 good; each = first-bad-none 0 (take n ps) (bad-record-fine (first_bad 1 (take n ps)) f) }
     all false bad h f = let z : ◌≡◌ {A = ℕ} 0 1 = cc in absurd (omega arith)
 
-    few : (b : Bool) → leb n run_most ≡ b → cond b (cond (sized_costs c) (bad_record (first_bad 1 (take n ps))) (Bad BadCosts)) (Bad TooMany) ≡ Fine → Taken c n ps
+    few : (b : Bool) → leb n run_most ≡ b → cond b (cond (sized_costs c) (bad_record (first_bad 1 (take n ps))) (Err BadCosts)) (Err TooMany) ≡ Ok tt → Taken c n ps
     few true h f = all (sized_costs c) refl (leb-true n run_most h) f
     few false h f = let z : ◌≡◌ {A = ℕ} 0 1 = cc in absurd (omega arith)
 
@@ -105,8 +87,8 @@ check-taken c n ps e = few (leb n run_most) refl e
 
 -- those before it are taken
 module _ (c : Costs) (n i : ℕ) (few : n ≤ run_most) (here : i < n) where
-  pub check-place : (ps : List Piece) (d : Piece) → n ≤ length ps → check_run c i ps ≡ Fine → sized (get_or ps i d) ≡ false
-      → check_run c n ps ≡ Bad (BadRecord (i + 1))
+  pub check-place : (ps : List Piece) (d : Piece) → n ≤ length ps → check_run c i ps ≡ Ok tt → sized (get_or ps i d) ≡ false
+      → check_run c n ps ≡ Err (BadRecord (i + 1))
   check-place ps d room fine bad =
       let ok = check-taken c i ps fine in
       let good : sized_costs c ≡ true = (costs-exact c).1 ok.costs in
@@ -115,7 +97,7 @@ module _ (c : Costs) (n i : ℕ) (few : n ≤ run_most) (here : i < n) where
       first-bad-there 1 i (take n ps) d (omega (arith, length-take-le n ps room)) before (rw (get_or-take n ps i d here) bad) ∙ add_comm 1 i in
       check-records c n ps few good ∙ (ap bad_record there ∙ bad-record-some (i + 1) (λ none. omega arith))
 
-  pub other-kind : (a : List ℕ) → check_run c i (records_of a) ≡ Fine → kind_most < get_or a (7 * i) 0 → check_run c n (records_of a) ≡ Bad (BadRecord (i + 1))
+  pub other-kind : (a : List ℕ) → check_run c i (records_of a) ≡ Ok tt → kind_most < get_or a (7 * i) 0 → check_run c n (records_of a) ≡ Err (BadRecord (i + 1))
   other-kind a fine other =
       check-place (records_of a) outside (omega (arith, records-length a)) fine (rw (records-at a i outside (omega arith)) (kind-outside a i other))
 
@@ -131,26 +113,26 @@ module _ (c : Costs) (n : ℕ) (ps : List Piece) (p : Piece) (few : n < run_most
   check-behind : sized_costs c ≡ true → check_run c (n + 1) (take n ps ++ (p ∷ [])) ≡ bad_record (first_bad 1 (take n ps ++ (p ∷ [])))
   check-behind good = check-records c (n + 1) (take n ps ++ (p ∷ [])) (omega arith) good ∙ rw (take_more n ps p room)
 
-  behind-last : check_run c n ps ≡ Fine → check_run c (n + 1) (take n ps ++ (p ∷ [])) ≡ bad_record (cond (sized p) 0 (n + 1))
+  behind-last : check_run c n ps ≡ Ok tt → check_run c (n + 1) (take n ps ++ (p ∷ [])) ≡ bad_record (cond (sized p) 0 (n + 1))
   behind-last fine =
       let ok = check-taken c n ps fine in
       let long : 1 + length (take n ps) ≡ n + 1 = omega (arith, length-take-le n ps room) in
       check-behind ((costs-exact c).1 ok.costs) ∙ rw (first-bad-behind 1 (take n ps) p ok.each, long)
 
-  pub behind-fine : check_run c n ps ≡ Fine → sized p ≡ true → check_run c (n + 1) (take n ps ++ (p ∷ [])) ≡ Fine
+  pub behind-fine : check_run c n ps ≡ Ok tt → sized p ≡ true → check_run c (n + 1) (take n ps ++ (p ∷ [])) ≡ Ok tt
   behind-fine fine good = behind-last fine ∙ rw good
 
-  pub behind-bad : check_run c n ps ≡ Fine → sized p ≡ false → check_run c (n + 1) (take n ps ++ (p ∷ [])) ≡ Bad (BadRecord (n + 1))
+  pub behind-bad : check_run c n ps ≡ Ok tt → sized p ≡ false → check_run c (n + 1) (take n ps ++ (p ∷ [])) ≡ Err (BadRecord (n + 1))
   behind-bad fine bad = behind-last fine ∙ (rw bad (bad-record-some (n + 1) (λ none. omega arith)))
 
-  pub behind-refused : (r : Refusal) → check_run c n ps ≡ Bad r → check_run c (n + 1) (take n ps ++ (p ∷ [])) ≡ Bad r
+  pub behind-refused : (r : Refusal) → check_run c n ps ≡ Err r → check_run c (n + 1) (take n ps ++ (p ∷ [])) ≡ Err r
   behind-refused r e = look (sized_costs c) refl
     where
-      place : (k : ℕ) → first_bad 1 (take n ps) ≡ k → bad_record k ≡ Bad r → sized_costs c ≡ true → check_run c (n + 1) (take n ps ++ (p ∷ [])) ≡ Bad r
+      place : (k : ℕ) → first_bad 1 (take n ps) ≡ k → bad_record k ≡ Err r → sized_costs c ≡ true → check_run c (n + 1) (take n ps ++ (p ∷ [])) ≡ Err r
       place zero none bad good = let z : ◌≡◌ {A = ℕ} 0 1 = cc in absurd (omega arith)
       place (suc j) there bad good = check-behind good ∙ (ap bad_record (first-bad-front 0 j (take n ps) (p ∷ []) there) ∙ bad)
 
-      look : (b : Bool) → sized_costs c ≡ b → check_run c (n + 1) (take n ps ++ (p ∷ [])) ≡ Bad r
+      look : (b : Bool) → sized_costs c ≡ b → check_run c (n + 1) (take n ps ++ (p ∷ [])) ≡ Err r
       look true good = place (first_bad 1 (take n ps)) refl (sym (check-records c n ps (omega arith) good) ∙ e) good
       look false bad = check-costs c (n + 1) (take n ps ++ (p ∷ [])) (omega arith) bad ∙ (sym (check-costs c n ps (omega arith) bad) ∙ e)
 
@@ -161,7 +143,7 @@ pub record Fit (c : Costs) (n : ℕ) (ps : List Piece) (p : Piece) : Type 0 wher
   pub each : Each Sized (take n ps)
   pub own : Sized p
 
-pub check-task : (c : Costs) (n : ℕ) (ps : List Piece) (p : Piece) → length ps ≡ run_most → check_run c (n + 1) (take n ps ++ (p ∷ [])) ≡ Fine → Fit c n ps p
+pub check-task : (c : Costs) (n : ℕ) (ps : List Piece) (p : Piece) → length ps ≡ run_most → check_run c (n + 1) (take n ps ++ (p ∷ [])) ≡ Ok tt → Fit c n ps p
 check-task c n ps p long fine =
     let ok = check-taken c (n + 1) (take n ps ++ (p ∷ [])) fine in
     let all : Each Sized (take n ps ++ (p ∷ [])) = rw (take_more n ps p (omega (arith, ok.few))) at ok.each in
@@ -173,32 +155,32 @@ check-task c n ps p long fine =
 pub laid-ranged : (c : Costs) (n : ℕ) (ps : List Piece) → Taken c n ps → (qs : List Charged) → qs ≡ core_of c (take n ps) → Each Ranged qs
 laid-ranged c n ps ok qs laid = rw laid (core-ranged c ok.costs (take n ps) (taken-countable c n ps ok))
 
-pub figure-fine : (k : Check) (f : Found) → k ≡ Fine → Of f ≡ figured k f
+pub figure-fine : (k : Result ⊤ Refusal) (f : Option ℕ) → k ≡ Ok tt → Ok f ≡ figured k f
 figure-fine k f e = rw e
 
-pub figure-bad : (k : Check) (f : Found) (r : Refusal) → k ≡ Bad r → Barred r ≡ figured k f
+pub figure-bad : (k : Result ⊤ Refusal) (f : Option ℕ) (r : Refusal) → k ≡ Err r → Err r ≡ figured k f
 figure-bad k f r e = rw e
 
-pub answer-fine : (c : Costs) (n : ℕ) (ps : List Piece) → check_run c n ps ≡ Fine → answer_of c n ps ≡ Judged (verdict_of c (take n ps))
+pub answer-fine : (c : Costs) (n : ℕ) (ps : List Piece) → check_run c n ps ≡ Ok tt → answer_of c n ps ≡ Ok (verdict_of c (take n ps))
 unfolding answer_of
 answer-fine c n ps e = rw e
 
-pub answer-bad : (c : Costs) (n : ℕ) (ps : List Piece) (r : Refusal) → check_run c n ps ≡ Bad r → answer_of c n ps ≡ Refused r
+pub answer-bad : (c : Costs) (n : ℕ) (ps : List Piece) (r : Refusal) → check_run c n ps ≡ Err r → answer_of c n ps ≡ Err r
 unfolding answer_of
 answer-bad c n ps r e = rw e
 
-pub showing-fine : (c : Costs) (n : ℕ) (ps : List Piece) → check_run c n ps ≡ Fine → showing_of c n ps ≡ Shows (shown_of c (take n ps))
+pub showing-fine : (c : Costs) (n : ℕ) (ps : List Piece) → check_run c n ps ≡ Ok tt → showing_of c n ps ≡ Ok (shown_of c (take n ps))
 unfolding showing_of
 showing-fine c n ps e = rw e
 
-pub showing-bad : (c : Costs) (n : ℕ) (ps : List Piece) (r : Refusal) → check_run c n ps ≡ Bad r → showing_of c n ps ≡ Unshown r
+pub showing-bad : (c : Costs) (n : ℕ) (ps : List Piece) (r : Refusal) → check_run c n ps ≡ Err r → showing_of c n ps ≡ Err r
 unfolding showing_of
 showing-bad c n ps r e = rw e
 
-pub split-fine : (k : Check) (s : Split) → k ≡ Fine → Best s ≡ splitted k s
+pub split-fine : (k : Result ⊤ Refusal) (s : Option Cut) → k ≡ Ok tt → Ok s ≡ splitted k s
 split-fine k s e = rw e
 
-pub split-bad : (k : Check) (s : Split) (r : Refusal) → k ≡ Bad r → Denied r ≡ splitted k s
+pub split-bad : (k : Result ⊤ Refusal) (s : Option Cut) (r : Refusal) → k ≡ Err r → Err r ≡ splitted k s
 split-bad k s r e = rw e
 
 -- ---- a run within the sizes is taken
@@ -207,8 +189,8 @@ first-bad-all : (k : ℕ) (ps : List Piece) → Each Sized ps → first_bad k ps
 first-bad-all k [] ok = refl
 first-bad-all k (p ∷ ps) ok = rw ((sized-exact p).1 ok.0) (first-bad-all (k + 1) ps ok.1)
 
-pub taken-check : (c : Costs) (n : ℕ) (ps : List Piece) → Taken c n ps → check_run c n ps ≡ Fine
+pub taken-check : (c : Costs) (n : ℕ) (ps : List Piece) → Taken c n ps → check_run c n ps ≡ Ok tt
 taken-check c n ps ok = check-records c n ps ok.few ((costs-exact c).1 ok.costs) ∙ ap bad_record (first-bad-all 1 (take n ps) ok.each)
 
-pub taken-answer : (c : Costs) (n : ℕ) (ps : List Piece) → Taken c n ps → answer_of c n ps ≡ Judged (verdict_of c (take n ps))
+pub taken-answer : (c : Costs) (n : ℕ) (ps : List Piece) → Taken c n ps → answer_of c n ps ≡ Ok (verdict_of c (take n ps))
 taken-answer c n ps ok = answer-fine c n ps (taken-check c n ps ok)

@@ -8,6 +8,7 @@
 --   split_parts           an allowed split leaves two pieces within the sizes, and both verdicts pass
 --   tight-is-budget       with costs, J and P zero the tight window is x itself, which is C=D
 --   tight-first-budget    the same of the executable definition
+use Rattle.std.specs.Prelude.{None, Option, Some}
 use mathlib.Core.Path.{◌≡◌, refl, sym, ap, ◌∙◌, subst}
 use mathlib.Core.Bool.{Bool, true, false, cond}
 use mathlib.Core.List.{List, [], ◌∷◌, ◌++◌}
@@ -19,19 +20,15 @@ use native.Mathlib.Omega.{arith}
 use Rattle.demand.specs.declared.Piece.{Piece}
 use Rattle.demand.specs.declared.Costs.{Costs}
 use Rattle.demand.specs.declared.Charged.{Charged}
-use Rattle.demand.specs.declared.Found.{Found}
-use Rattle.demand.specs.declared.Found.TheVariants.{At, Nothing}
 use Rattle.demand.specs.declared.Verdict.{Verdict}
 use Rattle.demand.specs.declared.Verdict.TheVariants.{Passes, Overloaded, Undecided}
-use Rattle.demand.specs.declared.Split.{Split}
-use Rattle.demand.specs.declared.Split.TheVariants.{Cut, Nowhere}
 use Rattle.demand.specs.Sizes.{SizedCosts, Sized, Each, Tells}
 use Rattle.demand.specs.Kinds.{arrives}
 use Rattle.demand.specs.Charge.{charge, charged, ipi_cost, core_of, stall}
 use Rattle.demand.specs.Demand.{ceil, total, interrupts, jobs_due, load, demand, Live}
 use Rattle.demand.specs.Busy.{Least, Holds, tight_sum}
 use Rattle.demand.specs.Verdict.{Means, verdict, verdict_of}
-use Rattle.demand.specs.Split.{piece_of, first_piece, last_piece, tight_on, Splits, passes, tight_first, both_pass, splitting, greatest_split}
+use Rattle.demand.specs.Split.{cut_at, piece_of, first_piece, last_piece, tight_on, Splits, passes, tight_first, both_pass, splitting, greatest_split}
 use Rattle.demand.specs.Ways.ChargedSplit.{last_alone, Tight, Fits, NoneAbove, Chosen, TightIn}
 use Rattle.demand.proofs.DemandLaws.{Recurs, jobs-due-some, demand-above}
 use Rattle.demand.proofs.ChargeLaws.{when-le, late-jitter-le}
@@ -41,6 +38,7 @@ use Rattle.demand.proofs.VerdictLaws.{verdict-means, passes-forever}
 use Rattle.demand.proofs.ChargedSplitLaws.{window-in, untight, none-one, none_first, none-next, next-less, first_below}
 use Rattle.demand.proofs.ChargedSplitLaws.{multiple-some, with-core, sum-core, first-verdict, last-verdict, allowed-fits}
 use Rattle.demand.proofs.ChargedSplitLaws.{splits_of, last-charge, tight-parts, last-recurs}
+use Rattle.demand.specs.declared.Cut.{Cut}
 
 -- ---- the executable definition satisfies the meaning
 
@@ -81,7 +79,7 @@ module _ (c : Costs) (g : ℕ) (ps : List Piece) (p : Piece) (pos : 1 ≤ g) whe
       both : (t w : ℕ) → Tight c (core_of c ps) p (suc k * g) t → p.jitter + t + 1 ≤ p.window → w ≡ p.jitter + t → (b : Bool)
           → Tells ((verdict_of c (ps ++ (first_piece p (suc k * g) w ∷ [])) ≡ Passes) × (verdict_of c (last_piece c p (suc k * g) w ∷ []) ≡ Passes)) b
           → (((u : ℕ) → Fits c (core_of c ps) p (suc k * g) u → ⊥) → Chosen c g (core_of c ps) p (splitting c g ps p k))
-          → Chosen c g (core_of c ps) p (elim b [ true ↦ Cut (suc k * g) w | false ↦ splitting c g ps p k ])
+          → Chosen c g (core_of c ps) p (elim b [ true ↦ cut_at (suc k * g) w | false ↦ splitting c g ps p k ])
       both t w tight room at true pass more = (
         t,
         record { times = suc k; multiple = refl; some = multiple-some g p pos (suc k) (omega arith); less = less (omega arith) },
@@ -98,15 +96,15 @@ module _ (c : Costs) (g : ℕ) (ps : List Piece) (p : Piece) (pos : 1 ≤ g) whe
           let e : w ≡ p.jitter + u = omega (arith, least-unique tight fits.tight) in
           fail (first-verdict c ps p (suc k * g) w ∙ rw e fits.here, last-verdict c ps p (suc k * g) w ∙ rw e fits.there))
 
-      look : (f : Found) → TightIn c (core_of c ps) p (suc k * g) f
+      look : (f : Option ℕ) → TightIn c (core_of c ps) p (suc k * g) f
           → (((u : ℕ) → Fits c (core_of c ps) p (suc k * g) u → ⊥) → Chosen c g (core_of c ps) p (splitting c g ps p k))
           → Chosen c g (core_of c ps) p (elim f [
-            | At w ↦
-                elim (both_pass c ps p (suc k * g) w) [ true ↦ Cut (suc k * g) w | false ↦ splitting c g ps p k ]
-            | Nothing ↦ splitting c g ps p k
+            | Some w ↦
+                elim (both_pass c ps p (suc k * g) w) [ true ↦ cut_at (suc k * g) w | false ↦ splitting c g ps p k ]
+            | None ↦ splitting c g ps p k
           ])
-      look (At w) found more = both found.0 w found.1 found.2 found.3 (both_pass c ps p (suc k * g) w) (both-tells c ps p (suc k * g) w) more
-      look Nothing none more = more (untight c (core_of c ps) p (suc k * g) none)
+      look (Some w) found more = both found.0 w found.1 found.2 found.3 (both_pass c ps p (suc k * g) w) (both-tells c ps p (suc k * g) w) more
+      look None none more = more (untight c (core_of c ps) p (suc k * g) none)
 
   some-means : Splits c g ps p (greatest_split c g ps p)
   unfolding greatest_split
@@ -115,7 +113,7 @@ module _ (c : Costs) (g : ℕ) (ps : List Piece) (p : Piece) (pos : 1 ≤ g) whe
       (chosen ((p.budget - 1) / g) (first_below g p pos) (none_first g p pos c (core_of c ps)))
 
 -- a grain of 0 has no multiples that count
-pub split-none : (c : Costs) (ps : List Piece) (p : Piece) → greatest_split c 0 ps p ≡ Nowhere
+pub split-none : (c : Costs) (ps : List Piece) (p : Piece) → greatest_split c 0 ps p ≡ None
 unfolding greatest_split
 split-none c ps p = rw (div-zero (p.budget - 1))
 
@@ -128,7 +126,7 @@ split-means c (suc g) ps p = some-means c (suc g) ps p (omega arith)
 
 -- ---- the meaning has one answer
 
-same-cut : (c : Costs) (g : ℕ) (ps : List Piece) (p : Piece) (x w y v : ℕ) → Splits c g ps p (Cut x w) → Splits c g ps p (Cut y v) → Cut x w ≡ Cut y v
+same-cut : (c : Costs) (g : ℕ) (ps : List Piece) (p : Piece) (x w y v : ℕ) → Splits c g ps p (cut_at x w) → Splits c g ps p (cut_at y v) → cut_at x w ≡ cut_at y v
 same-cut c g ps p x w y v a b = elim (dec_lt x y) [
   | yes h ↦ absurd (a.1.none_above y b.0 h b.1.candidate b.1.allowed)
   | no h ↦ elim (dec_lt y x) [
@@ -141,13 +139,13 @@ same-cut c g ps p x w y v a b = elim (dec_lt x y) [
   ]
 ]
 
-pub split-unique : (c : Costs) (g : ℕ) (ps : List Piece) (p : Piece) (r s : Split) → Splits c g ps p r → Splits c g ps p s → r ≡ s
-split-unique c g ps p (Cut x w) (Cut y v) a b = same-cut c g ps p x w y v a b
-split-unique c g ps p (Cut x w) Nowhere a b = absurd (b x a.0 a.1.candidate a.1.allowed)
-split-unique c g ps p Nowhere (Cut y v) a b = absurd (a y b.0 b.1.candidate b.1.allowed)
-split-unique c g ps p Nowhere Nowhere a b = refl
+pub split-unique : (c : Costs) (g : ℕ) (ps : List Piece) (p : Piece) (r s : Option Cut) → Splits c g ps p r → Splits c g ps p s → r ≡ s
+split-unique c g ps p (Some s) (Some r) a b = same-cut c g ps p s.budget s.window r.budget r.window a b
+split-unique c g ps p (Some s) None a b = absurd (b s.budget a.0 a.1.candidate a.1.allowed)
+split-unique c g ps p None (Some s) a b = absurd (a s.budget b.0 b.1.candidate b.1.allowed)
+split-unique c g ps p None None a b = refl
 
-pub split-exact : (c : Costs) (g : ℕ) (ps : List Piece) (p : Piece) (s : Split) → (greatest_split c g ps p ≡ s) ↔ Splits c g ps p s
+pub split-exact : (c : Costs) (g : ℕ) (ps : List Piece) (p : Piece) (s : Option Cut) → (greatest_split c g ps p ≡ s) ↔ Splits c g ps p s
 split-exact c g ps p s = (
   (λ e. subst (Splits c g ps p) e (split-means c g ps p)),
   λ h. split-unique c g ps p (greatest_split c g ps p) s (split-means c g ps p) h,
@@ -217,7 +215,7 @@ last-size c p x w costs ok less fits = record {
   migrate-fits = ok.migrate-fits;
 }
 
-cut_parts : (c : Costs) (g : ℕ) (ps : List Piece) (p : Piece) → SizedCosts c → Sized p → (x w : ℕ) → Splits c g ps p (Cut x w) → Parts c ps p x w
+cut_parts : (c : Costs) (g : ℕ) (ps : List Piece) (p : Piece) → SizedCosts c → Sized p → (x w : ℕ) → Splits c g ps p (cut_at x w) → Parts c ps p x w
 cut_parts c g ps p costs ok x w splits =
     let t = splits.0 in
     let k = splits.1.candidate in
@@ -233,8 +231,8 @@ cut_parts c g ps p costs ok x w splits =
       last-passes = last-verdict c ps p x w ∙ there;
     }
 
-pub split_parts : (c : Costs) (g : ℕ) (ps : List Piece) (p : Piece) → SizedCosts c → Sized p → (x w : ℕ) → greatest_split c g ps p ≡ Cut x w → Parts c ps p x w
-split_parts c g ps p costs ok x w e = cut_parts c g ps p costs ok x w ((split-exact c g ps p (Cut x w)).0 e)
+pub split_parts : (c : Costs) (g : ℕ) (ps : List Piece) (p : Piece) → SizedCosts c → Sized p → (x w : ℕ) → greatest_split c g ps p ≡ cut_at x w → Parts c ps p x w
+split_parts c g ps p costs ok x w e = cut_parts c g ps p costs ok x w ((split-exact c g ps p (cut_at x w)).0 e)
 
 -- ---- C=D
 
@@ -274,11 +272,11 @@ tight-is-budget c ps p free x some = record {
   none_below = λ k below holds. omega (arith, holds.fits, free-sum c ps p free x k);
 }
 
-pub tight-first-budget : (c : Costs) (ps : List Piece) (p : Piece) → Free c p → (x : ℕ) → 1 ≤ x → x + 1 ≤ p.window → tight_first c ps p x ≡ At x
+pub tight-first-budget : (c : Costs) (ps : List Piece) (p : Piece) → Free c p → (x : ℕ) → 1 ≤ x → x + 1 ≤ p.window → tight_first c ps p x ≡ Some x
 tight-first-budget c ps p free x some room =
     look (tight_first c ps p x) (first-in c ps p x)
     (subst (λ (f : ℕ → ℕ). Least (Holds f) x) (sum-core c ps p x) (tight-is-budget c ps p free x some))
   where
-    look : (f : Found) → TightIn c (core_of c ps) p x f → Tight c (core_of c ps) p x x → f ≡ At x
-    look (At w) found tight = ap At (omega (arith, found.3, free.jitter-none, least-unique found.1 tight))
-    look Nothing none tight = absurd (none x tight (omega (arith, free.jitter-none)))
+    look : (f : Option ℕ) → TightIn c (core_of c ps) p x f → Tight c (core_of c ps) p x x → f ≡ Some x
+    look (Some w) found tight = ap Some (omega (arith, found.3, free.jitter-none, least-unique found.1 tight))
+    look None none tight = absurd (none x tight (omega (arith, free.jitter-none)))

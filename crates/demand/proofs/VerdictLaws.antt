@@ -5,6 +5,7 @@
 --   verdict-means         the executable definition satisfies the meaning
 --   verdict-unique        two verdicts that satisfy the meaning coincide
 --   passes-forever        "passes" covers every live length without end
+use Rattle.std.specs.Prelude.{None, Option, Some}
 use mathlib.Core.Path.{◌≡◌, refl, sym, ap, subst}
 use mathlib.Core.Bool.{Bool, true, false}
 use mathlib.Core.List.{List, [], ◌∷◌}
@@ -17,8 +18,6 @@ use borrow.Author.Tests.{ltb-true, ltb-false}
 use lib.Dec.{ltb}
 use lib.ListN.{length}
 use Rattle.demand.specs.declared.Charged.{Charged}
-use Rattle.demand.specs.declared.Found.{Found}
-use Rattle.demand.specs.declared.Found.TheVariants.{At, Nothing}
 use Rattle.demand.specs.declared.Verdict.{Verdict}
 use Rattle.demand.specs.declared.Verdict.TheVariants.{Passes, Overloaded, Undecided}
 use Rattle.demand.specs.Sizes.{Each, busy_most}
@@ -79,9 +78,9 @@ says-means b qs a l span Passes says = ◌⊎◌.inr (a, l, span, says)
 says-means b qs a l span (Overloaded t) says = (a, l, span, says)
 says-means b qs a l span Undecided says = absurd says
 
-span-means : (b : ℕ) (qs : List Charged) (a : ℕ) → Least (Live qs) a → (r : Found) → Finds (busy_sum qs) busy_most r → Means b qs (over_span b qs a r)
-span-means b qs a start (At l) found = says-means b qs a l (record { start = start; busy = found.0; within = found.1 }) (scan b qs a l) (scan-says b qs a l)
-span-means b qs a start Nothing none = none
+span-means : (b : ℕ) (qs : List Charged) (a : ℕ) → Least (Live qs) a → (r : Option ℕ) → Finds (busy_sum qs) busy_most r → Means b qs (over_span b qs a r)
+span-means b qs a start (Some l) found = says-means b qs a l (record { start = start; busy = found.0; within = found.1 }) (scan b qs a l) (scan-says b qs a l)
+span-means b qs a start None none = none
 
 pub verdict-means : (b : ℕ) (qs : List Charged) → Means b qs (verdict b qs)
 unfolding verdict

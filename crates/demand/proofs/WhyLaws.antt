@@ -9,6 +9,7 @@
 --   shown-passes                                passes: at a live length of the judged span, with the least slack, the shortest if several
 --   shown-undecided                             undecided: the busy sum at the limit, which is above it
 --   shown-empty                                 no piece: nothing but the verdict
+use Rattle.std.specs.Prelude.{None, Option, Some}
 use mathlib.Core.Path.{◌≡◌, refl, sym, ap, subst, ◌∙◌}
 use mathlib.Core.List.{List, [], ◌∷◌}
 use mathlib.Core.Logic.{⊎_elim}
@@ -18,8 +19,6 @@ use native.Mathlib.Omega.{arith}
 use borrow.Author.Tests.{lt-ltb, le-ltb}
 use lib.ListN.{length}
 use Rattle.demand.specs.declared.Charged.{Charged}
-use Rattle.demand.specs.declared.Found.{Found}
-use Rattle.demand.specs.declared.Found.TheVariants.{At, Nothing}
 use Rattle.demand.specs.declared.Verdict.{Verdict}
 use Rattle.demand.specs.declared.Verdict.TheVariants.{Passes, Overloaded, Undecided}
 use Rattle.demand.specs.Sizes.{busy_most}
@@ -136,10 +135,10 @@ module _ (b : ℕ) (qs : List Charged) where
   means v e = subst (λ (w : Verdict). Means b qs w) e (verdict-means b qs)
 
   -- as the engine goes: by the busy length, then by the span
-  pub shown-beyond : 1 ≤ length qs → busy_length qs ≡ Nothing → core_shown b qs ≡ shown_at b qs Undecided busy_most
+  pub shown-beyond : 1 ≤ length qs → busy_length qs ≡ None → core_shown b qs ≡ shown_at b qs Undecided busy_most
   shown-beyond some none = shown-is Undecided (verdict-span b qs some ∙ ap (over_span b qs (least_live qs)) none)
 
-  module _ (some : 1 ≤ length qs) (l : ℕ) (busy : busy_length qs ≡ At l) where
+  module _ (some : 1 ≤ length qs) (l : ℕ) (busy : busy_length qs ≡ Some l) where
     verdict-is : verdict b qs ≡ scan b qs (least_live qs) l
     verdict-is = verdict-span b qs some ∙ ap (over_span b qs (least_live qs)) busy
 
@@ -147,7 +146,7 @@ module _ (b : ℕ) (qs : List Charged) where
     shown-over t over = shown-is (Overloaded t) (verdict-is ∙ sym over)
 
     pub shown-calm : Passes ≡ scan b qs (least_live qs) l → core_shown b qs ≡ shown_at b qs Passes (least_slack (demand b qs) (least_live qs) (l - 1))
-    shown-calm calm = shown-is Passes (verdict-is ∙ sym calm) ∙ ap (λ (r : Found). shown_at b qs Passes (tightest_over b qs r)) busy
+    shown-calm calm = shown-is Passes (verdict-is ∙ sym calm) ∙ ap (λ (r : Option ℕ). shown_at b qs Passes (tightest_over b qs r)) busy
 
   pub shown-overloaded : (t : ℕ) → verdict b qs ≡ Overloaded t → (core_shown b qs ≡ shown_at b qs (Overloaded t) t) × (t < demand b qs t)
   shown-overloaded t e = (shown-is (Overloaded t) e, (means (Overloaded t) e).3.over)
@@ -168,11 +167,11 @@ module _ (b : ℕ) (qs : List Charged) where
       start : least_live qs ≡ t₀
       start = least-live-is qs t₀ span.start
 
-      by : (r : Found) → Finds (busy_sum qs) busy_most r → LeastSlack (demand b qs) t₀ l (tightest_over b qs r)
-      by (At m) found =
+      by : (r : Option ℕ) → Finds (busy_sum qs) busy_most r → LeastSlack (demand b qs) t₀ l (tightest_over b qs r)
+      by (Some m) found =
           let same : m ≡ l = least-unique found.0 span.busy in
           rw (same, start) (least-slack-of (demand b qs) t₀ l span.busy.here.some)
-      by Nothing none = absurd (none l span.within span.busy.here)
+      by None none = absurd (none l span.within span.busy.here)
 
   pub shown-passes : verdict b qs ≡ Passes → (qs ≡ [] → ⊥) → (t : ℕ) × (t₀ : ℕ) × (l : ℕ) × Judged qs t₀ l × LeastSlack (demand b qs) t₀ l t
       × Live qs t × (demand b qs t ≤ t) × (core_shown b qs ≡ shown_at b qs Passes t)

@@ -8,27 +8,14 @@
 --   charged_time c p       C', or 0 where the costs or the piece are outside the sizes
 --   showing_of c n ps      what is shown of the run, refused as its verdict is
 --   told a                document 01's number for each case, with what it carries
-use Rattle.std.specs.Prelude.{cond, ◌&&◌, List, [], ◌∷◌, ◌++◌, ℕ, zero, suc, ◌+◌, ◌≤◌, leb, take}
+use Rattle.std.specs.Prelude.{cond, ◌&&◌, List, [], ◌∷◌, ◌++◌, ℕ, zero, suc, ◌+◌, ◌≤◌, leb, take, Err, None, Ok, Option, Result, Some, ⊤}
 use Rattle.demand.specs.declared.Piece.{Piece}
 use Rattle.demand.specs.declared.Costs.{Costs}
 use Rattle.demand.specs.declared.Charged.{Charged}
 use Rattle.demand.specs.declared.Verdict.{Verdict}
 use Rattle.demand.specs.declared.Verdict.TheVariants.{Passes, Overloaded, Undecided}
-use Rattle.demand.specs.declared.Found.{Found}
-use Rattle.demand.specs.declared.Found.TheVariants.{At, Nothing}
 use Rattle.demand.specs.declared.Refusal.TheVariants.{TooMany, BadCosts, BadRecord}
-use Rattle.demand.specs.declared.Check.{Check}
-use Rattle.demand.specs.declared.Check.TheVariants.{Fine, Bad}
-use Rattle.demand.specs.declared.Answer.{Answer}
-use Rattle.demand.specs.declared.Answer.TheVariants.{Judged, Refused}
-use Rattle.demand.specs.declared.Figure.{Figure}
-use Rattle.demand.specs.declared.Figure.TheVariants.{Of, Barred}
 use Rattle.demand.specs.declared.Shown.{Shown}
-use Rattle.demand.specs.declared.Showing.{Showing}
-use Rattle.demand.specs.declared.Showing.TheVariants.{Shows, Unshown}
-use Rattle.demand.specs.declared.Split.{Split}
-use Rattle.demand.specs.declared.Splitting.{Splitting}
-use Rattle.demand.specs.declared.Splitting.TheVariants.{Best, Denied}
 use Rattle.demand.specs.Sizes.{run_most, length_most, SizedCosts, Sized, sized_costs, sized, Each}
 use Rattle.demand.specs.Charge.{charge, core_of, stall}
 use Rattle.demand.specs.Demand.{demand}
@@ -36,23 +23,25 @@ use Rattle.demand.specs.Busy.{busy_length, tight_window}
 use Rattle.demand.specs.Verdict.{verdict_of}
 use Rattle.demand.specs.Why.{shown_of}
 use Rattle.demand.specs.Split.{greatest_split}
+use Rattle.demand.specs.declared.Refusal.{Refusal}
+use Rattle.demand.specs.declared.Cut.{Cut}
 
 abbrev pub first_bad : ℕ → List Piece → ℕ
 first_bad k [] = 0
 first_bad k (p ∷ ps) = cond (sized p) (first_bad (k + 1) ps) k
 
-abbrev pub bad_record : ℕ → Check
-bad_record zero = Fine
-bad_record (suc k) = Bad (BadRecord (suc k))
+abbrev pub bad_record : ℕ → Result ⊤ Refusal
+bad_record zero = (Ok tt)
+bad_record (suc k) = Err (BadRecord (suc k))
 
-unfoldable pub check_run : Costs → ℕ → List Piece → Check
-check_run c n ps = cond (leb n run_most) (cond (sized_costs c) (bad_record (first_bad 1 (take n ps))) (Bad BadCosts)) (Bad TooMany)
+unfoldable pub check_run : Costs → ℕ → List Piece → Result ⊤ Refusal
+check_run c n ps = cond (leb n run_most) (cond (sized_costs c) (bad_record (first_bad 1 (take n ps))) (Err BadCosts)) (Err TooMany)
 
-abbrev pub answered : Check → Verdict → Answer
-answered Fine v = Judged v
-answered (Bad r) v = Refused r
+abbrev pub answered : Result ⊤ Refusal → Verdict → Result Verdict Refusal
+answered (Ok tt) v = Ok v
+answered (Err r) v = Err r
 
-unfoldable pub answer_of : Costs → ℕ → List Piece → Answer
+unfoldable pub answer_of : Costs → ℕ → List Piece → Result Verdict Refusal
 answer_of c n ps = answered (check_run c n ps) (verdict_of c (take n ps))
 
 pub record Taken (c : Costs) (n : ℕ) (ps : List Piece) : Type 0 where
@@ -67,42 +56,42 @@ charged_time c p = cond (sized_costs c && sized p) (charge c p) 0
 
 -- ---- figures of a run, refused as its verdict is
 
-abbrev pub figured : Check → Found → Figure
-figured Fine f = Of f
-figured (Bad r) f = Barred r
+abbrev pub figured : Result ⊤ Refusal → Option ℕ → Result (Option ℕ) Refusal
+figured (Ok tt) f = Ok f
+figured (Err r) f = Err r
 
 -- the busy length L
-unfoldable pub busy_figure : Costs → ℕ → List Piece → Figure
+unfoldable pub busy_figure : Costs → ℕ → List Piece → Result (Option ℕ) Refusal
 busy_figure c n ps = figured (check_run c n ps) (busy_length (core_of c (take n ps)))
 
 -- what is shown of the verdict
-abbrev pub showing : Check → Shown → Showing
-showing Fine s = Shows s
-showing (Bad r) s = Unshown r
+abbrev pub showing : Result ⊤ Refusal → Shown → Result Shown Refusal
+showing (Ok tt) s = Ok s
+showing (Err r) s = Err r
 
-unfoldable pub showing_of : Costs → ℕ → List Piece → Showing
+unfoldable pub showing_of : Costs → ℕ → List Piece → Result Shown Refusal
 showing_of c n ps = showing (check_run c n ps) (shown_of c (take n ps))
 
 -- the demand g(t), for t up to what a judged length can be
-unfoldable pub demand_figure : Costs → ℕ → List Piece → ℕ → Figure
-demand_figure c n ps t = figured (check_run c n ps) (cond (leb t length_most) (At (demand (stall c) (core_of c (take n ps)) t)) Nothing)
+unfoldable pub demand_figure : Costs → ℕ → List Piece → ℕ → Result (Option ℕ) Refusal
+demand_figure c n ps t = figured (check_run c n ps) (cond (leb t length_most) (Some (demand (stall c) (core_of c (take n ps)) t)) None)
 
 -- the tight window of the last of the pieces, beside all of them, where that is at most its own window
-abbrev pub tight_of_last : ℕ → List Charged → List Charged → Found
-tight_of_last b all [] = Nothing
+abbrev pub tight_of_last : ℕ → List Charged → List Charged → Option ℕ
+tight_of_last b all [] = None
 tight_of_last b all (q ∷ []) = tight_window b all q q.window
 tight_of_last b all (q ∷ p ∷ qs) = tight_of_last b all (p ∷ qs)
 
-unfoldable pub tight_figure : Costs → ℕ → List Piece → Figure
+unfoldable pub tight_figure : Costs → ℕ → List Piece → Result (Option ℕ) Refusal
 tight_figure c n ps = figured (check_run c n ps) (tight_of_last (stall c) (core_of c (take n ps)) (core_of c (take n ps)))
 
 -- ---- the split of a task beside a run: the task is checked as the record behind the run's, so the run has at most 78
 
-abbrev pub splitted : Check → Split → Splitting
-splitted Fine s = Best s
-splitted (Bad r) s = Denied r
+abbrev pub splitted : Result ⊤ Refusal → Option Cut → Result (Option Cut) Refusal
+splitted (Ok tt) s = Ok s
+splitted (Err r) s = Err r
 
-unfoldable pub split_of : Costs → ℕ → List Piece → Piece → ℕ → Splitting
+unfoldable pub split_of : Costs → ℕ → List Piece → Piece → ℕ → Result (Option Cut) Refusal
 split_of c n ps p g = splitted (check_run c (n + 1) (take n ps ++ (p ∷ []))) (greatest_split c g (take n ps) p)
 
 -- ---- the numbers
@@ -112,10 +101,10 @@ pub record Told : Type 0 where
   pub which : ℕ
   pub carries : ℕ
 
-abbrev pub told : Answer → Told
-told (Judged Passes) = record { which = 0; carries = 0 }
-told (Judged (Overloaded t)) = record { which = 1; carries = t }
-told (Judged Undecided) = record { which = 2; carries = 0 }
-told (Refused TooMany) = record { which = 106; carries = 0 }
-told (Refused BadCosts) = record { which = 102; carries = 0 }
-told (Refused (BadRecord k)) = record { which = 103; carries = k }
+abbrev pub told : Result Verdict Refusal → Told
+told (Ok Passes) = record { which = 0; carries = 0 }
+told (Ok (Overloaded t)) = record { which = 1; carries = t }
+told (Ok Undecided) = record { which = 2; carries = 0 }
+told (Err TooMany) = record { which = 106; carries = 0 }
+told (Err BadCosts) = record { which = 102; carries = 0 }
+told (Err (BadRecord k)) = record { which = 103; carries = k }

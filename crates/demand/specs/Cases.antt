@@ -1,25 +1,21 @@
 -- The numbered examples K1 to K11 of document 01 as one table. `proofs/Cases.antt` has the one statement over it: every row holds. `Worked.antt` has
 -- a second table of the same form.
 -- Costs are 0 and J, P, M are 0 unless given; pieces are (x, D, T).
-use Rattle.std.specs.Prelude.{Bool, true, false, cond, ◌&&◌, List, [], ◌∷◌, ◌++◌, ℕ, eqb, length}
+use Rattle.std.specs.Prelude.{Bool, true, false, cond, ◌&&◌, List, [], ◌∷◌, ◌++◌, ℕ, eqb, length, None, Ok, Option, Result, Some}
 use Rattle.demand.specs.declared.Kind.{Kind}
 use Rattle.demand.specs.declared.Kind.TheVariants.{Whole, First}
 use Rattle.demand.specs.declared.Piece.{Piece}
 use Rattle.demand.specs.declared.Costs.{Costs}
-use Rattle.demand.specs.declared.Found.{Found}
-use Rattle.demand.specs.declared.Found.TheVariants.{At, Nothing}
-use Rattle.demand.specs.declared.Split.{Split}
-use Rattle.demand.specs.declared.Split.TheVariants.{Cut, Nowhere}
 use Rattle.demand.specs.declared.Verdict.{Verdict}
 use Rattle.demand.specs.declared.Verdict.TheVariants.{Passes, Overloaded, Undecided}
 use Rattle.demand.specs.Charge.{no_costs, charge, charged, core_of, stall}
 use Rattle.demand.specs.Demand.{demand}
 use Rattle.demand.specs.Busy.{busy_length, tight_window}
-use Rattle.demand.specs.declared.Answer.{Answer}
-use Rattle.demand.specs.declared.Answer.TheVariants.{Judged}
 use Rattle.demand.specs.Verdict.{verdict_of}
 use Rattle.demand.specs.Split.{greatest_split}
 use Rattle.demand.specs.Answer.{told, check_run, answered}
+use Rattle.demand.specs.declared.Refusal.{Refusal}
+use Rattle.demand.specs.declared.Cut.{Cut}
 
 unfoldable pub piece : Kind → ℕ → ℕ → ℕ → ℕ → Piece
 piece k x d t j = record { kind = k; budget = x; window = d; period = t; jitter = j; preempt = 0; migrate = 0 }
@@ -39,24 +35,24 @@ pub data Row : Type 0 where
   asks : (k : ℕ) → Costs → List Piece → (t g : ℕ) → Row
   tight : (k : ℕ) → Costs → List Piece → Piece → ℕ → Row
   charges : (k : ℕ) → Costs → Piece → ℕ → Row
-  splits : (k : ℕ) → Costs → (grain : ℕ) → List Piece → Piece → Split → Row
+  splits : (k : ℕ) → Costs → (grain : ℕ) → List Piece → Piece → Option Cut → Row
   takes : (k : ℕ) → Costs → List Piece → (which carries : ℕ) → Row
 
-abbrev pub answers : Answer → ℕ → ℕ → Bool
+abbrev pub answers : Result Verdict Refusal → ℕ → ℕ → Bool
 answers a which carries = eqb (told a).which which && eqb (told a).carries carries
 
 abbrev pub same : Verdict → Verdict → Bool
-same v w = answers (Judged v) (told (Judged w)).which (told (Judged w)).carries
+same v w = answers (Ok v) (told (Ok w)).which (told (Ok w)).carries
 
-abbrev pub found : Found → ℕ → Bool
-found (At n) m = eqb n m
-found Nothing m = false
+abbrev pub found : Option ℕ → ℕ → Bool
+found (Some n) m = eqb n m
+found None m = false
 
-abbrev pub same_split : Split → Split → Bool
-same_split (Cut x w) (Cut y v) = eqb x y && eqb w v
-same_split (Cut x w) Nowhere = false
-same_split Nowhere (Cut y v) = false
-same_split Nowhere Nowhere = true
+abbrev pub same_split : Option Cut → Option Cut → Bool
+same_split (Some s) (Some r) = eqb s.budget r.budget && eqb s.window r.window
+same_split (Some s) None = false
+same_split None (Some s) = false
+same_split None None = true
 
 -- of a run that is taken the verdict is not asked
 unfoldable pub right : Row → Bool

@@ -13,7 +13,7 @@
 --   least_live qs         t0, where there is a piece
 use Rattle.std.specs.Prelude.{cond, List, [], ◌∷◌, ℕ, ◌+◌, ◌*◌, ◌-◌, ◌/◌, ◌≤◌, min, max, ltb}
 use Rattle.demand.specs.declared.Charged.{Charged}
-use Rattle.demand.specs.Sizes.{Some}
+use Rattle.demand.specs.Sizes.{SomeOf}
 
 unfoldable pub ceil : ℕ → ℕ → ℕ
 ceil a b = (a + (b - 1)) / b
@@ -45,7 +45,7 @@ unfoldable pub demand : ℕ → List Charged → ℕ → ℕ
 demand b qs t = blocking b qs t + total (load t) qs
 
 unfoldable pub Live : List Charged → ℕ → Type 0
-Live qs t = Some (λ q. 1 ≤ jobs_due q t) qs
+Live qs t = SomeOf (λ q. 1 ≤ jobs_due q t) qs
 
 -- the least of w and the lengths at which the pieces have their first job due
 abbrev pub earliest : ℕ → List Charged → ℕ

@@ -8,7 +8,7 @@
 --   SizedCosts c      the nine constants are within their sizes
 --   Sized p           the record p is within the sizes, with 1 ≤ x ≤ D ≤ T
 --   Each P ps         P of every element
---   Some P ps         P of one of them
+--   SomeOf P ps         P of one of them
 use Rattle.std.specs.Prelude.{Bool, true, false, ◌&&◌, List, [], ◌∷◌, ◌⊎◌, ℕ, ◌≤◌, leb}
 use Rattle.demand.specs.declared.Piece.{Piece}
 use Rattle.demand.specs.declared.Costs.{Costs}
@@ -80,6 +80,6 @@ abbrev pub Each : {A : Type 0} → (A → Type 0) → List A → Type 0
 Each P [] = Unit {0}
 Each P (p ∷ ps) = P p × Each P ps
 
-abbrev pub Some : {A : Type 0} → (A → Type 0) → List A → Type 0
-Some P [] = ⊥
-Some P (p ∷ ps) = P p ⊎ Some P ps
+abbrev pub SomeOf : {A : Type 0} → (A → Type 0) → List A → Type 0
+SomeOf P [] = ⊥
+SomeOf P (p ∷ ps) = P p ⊎ SomeOf P ps

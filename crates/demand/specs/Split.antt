@@ -10,22 +10,19 @@
 --   Candidate g p x        x is a multiple of the grain g with 1 ≤ x < C
 --   Greatest c g ps p x t  x is the greatest allowed candidate
 --   greatest_split c g ps p   that x with its tight window, or none
-use Rattle.std.specs.Prelude.{◌≡◌, Bool, true, false, cond, ◌&&◌, List, [], ◌∷◌, ◌++◌, ℕ, zero, suc, ◌+◌, ◌*◌, ◌-◌, ◌/◌, ◌≤◌, ◌<◌}
+use Rattle.std.specs.Prelude.{◌≡◌, Bool, true, false, cond, ◌&&◌, List, [], ◌∷◌, ◌++◌, ℕ, zero, suc, ◌+◌, ◌*◌, ◌-◌, ◌/◌, ◌≤◌, ◌<◌, None, Option, Some}
 use Rattle.demand.specs.declared.Kind.{Kind}
 use Rattle.demand.specs.declared.Kind.TheVariants.{First, Last}
 use Rattle.demand.specs.declared.Piece.{Piece}
 use Rattle.demand.specs.declared.Costs.{Costs}
-use Rattle.demand.specs.declared.Found.{Found}
-use Rattle.demand.specs.declared.Found.TheVariants.{At, Nothing}
 use Rattle.demand.specs.declared.Verdict.{Verdict}
 use Rattle.demand.specs.declared.Verdict.TheVariants.{Passes, Overloaded, Undecided}
-use Rattle.demand.specs.declared.Split.{Split}
-use Rattle.demand.specs.declared.Split.TheVariants.{Cut, Nowhere}
 use Rattle.demand.specs.Sizes.{sized_costs}
 use Rattle.demand.specs.Kinds.{arrives}
 use Rattle.demand.specs.Charge.{charged, core_of, stall}
 use Rattle.demand.specs.Busy.{Least, Holds, tight_sum, tight_window}
 use Rattle.demand.specs.Verdict.{verdict_of}
+use Rattle.demand.specs.declared.Cut.{Cut}
 
 unfoldable pub late_jitter : Costs → ℕ
 late_jitter c = cond (sized_costs c) (c.precision + c.ipb + c.relo + c.tseto) 0
@@ -63,10 +60,14 @@ pub record Greatest (c : Costs) (g : ℕ) (ps : List Piece) (p : Piece) (x t : �
   pub allowed : Allowed c ps p x t
   pub none_above : (y u : ℕ) → x < y → Candidate g p y → Allowed c ps p y u → ⊥
 
+-- a split by its two numbers
+abbrev pub cut_at : ℕ → ℕ → Option Cut
+cut_at x w = Some (record { budget = x; window = w })
+
 -- what a split says
-abbrev pub Splits : Costs → ℕ → List Piece → Piece → Split → Type 0
-Splits c g ps p (Cut x w) = (t : ℕ) × Greatest c g ps p x t × (w ≡ p.jitter + t)
-Splits c g ps p Nowhere = (x t : ℕ) → Candidate g p x → Allowed c ps p x t → ⊥
+abbrev pub Splits : Costs → ℕ → List Piece → Piece → Option Cut → Type 0
+Splits c g ps p (Some s) = (t : ℕ) × Greatest c g ps p s.budget t × (s.window ≡ p.jitter + t)
+Splits c g ps p None = (x t : ℕ) → Candidate g p x → Allowed c ps p x t → ⊥
 
 -- ---- the same as a function
 
@@ -76,7 +77,7 @@ passes (Overloaded t) = false
 passes Undecided = false
 
 -- the tight window of the first piece of x, where it leaves the last piece a window
-unfoldable pub tight_first : Costs → List Piece → Piece → ℕ → Found
+unfoldable pub tight_first : Costs → List Piece → Piece → ℕ → Option ℕ
 tight_first c ps p x = tight_window (stall c) (core_of c (ps ++ (first_piece p x 0 ∷ []))) (charged c (first_piece p x 0)) (p.window - 1)
 
 -- both pieces pass
@@ -84,13 +85,13 @@ unfoldable pub both_pass : Costs → List Piece → Piece → ℕ → ℕ → Bo
 both_pass c ps p x w = passes (verdict_of c (ps ++ (first_piece p x w ∷ []))) && passes (verdict_of c (last_piece c p x w ∷ []))
 
 -- from the k-th multiple of the grain down
-abbrev pub splitting : Costs → ℕ → List Piece → Piece → ℕ → Split
-splitting c g ps p zero = Nowhere
+abbrev pub splitting : Costs → ℕ → List Piece → Piece → ℕ → Option Cut
+splitting c g ps p zero = None
 splitting c g ps p (suc k) = elim (tight_first c ps p (suc k * g)) [
-  | At w ↦ elim (both_pass c ps p (suc k * g) w) [ true ↦ Cut (suc k * g) w | false ↦ splitting c g ps p k ]
-  | Nothing ↦ splitting c g ps p k
+  | Some w ↦ elim (both_pass c ps p (suc k * g) w) [ true ↦ cut_at (suc k * g) w | false ↦ splitting c g ps p k ]
+  | None ↦ splitting c g ps p k
 ]
 
 -- the multiples of the grain below C are the first (C - 1) / g
-unfoldable pub greatest_split : Costs → ℕ → List Piece → Piece → Split
+unfoldable pub greatest_split : Costs → ℕ → List Piece → Piece → Option Cut
 greatest_split c g ps p = splitting c g ps p ((p.budget - 1) / g)

@@ -9,12 +9,10 @@
 --   KeepsUp b qs          no length at which a job is due, however long, asks for more than itself
 --   verdict b qs          the right verdict
 --   verdict_of c ps        the verdict on the pieces ps at the costs c
-use Rattle.std.specs.Prelude.{true, false, ◌≡◌, List, [], ◌∷◌, ◌⊎◌, ℕ, zero, suc, ◌+◌, ◌≤◌, ◌<◌, ltb}
+use Rattle.std.specs.Prelude.{true, false, ◌≡◌, List, [], ◌∷◌, ◌⊎◌, ℕ, zero, suc, ◌+◌, ◌≤◌, ◌<◌, ltb, None, Option, Some}
 use Rattle.demand.specs.declared.Piece.{Piece}
 use Rattle.demand.specs.declared.Costs.{Costs}
 use Rattle.demand.specs.declared.Charged.{Charged}
-use Rattle.demand.specs.declared.Found.{Found}
-use Rattle.demand.specs.declared.Found.TheVariants.{At, Nothing}
 use Rattle.demand.specs.declared.Verdict.{Verdict}
 use Rattle.demand.specs.declared.Verdict.TheVariants.{Passes, Overloaded, Undecided}
 use Rattle.demand.specs.Sizes.{busy_most}
@@ -59,9 +57,9 @@ abbrev pub scan : ℕ → List Charged → ℕ → ℕ → Verdict
 scan b qs a zero = Passes
 scan b qs a (suc k) = elim (ltb (a + k) (demand b qs (a + k))) [ true ↦ Overloaded (a + k) | false ↦ scan b qs a k ]
 
-abbrev pub over_span : ℕ → List Charged → ℕ → Found → Verdict
-over_span b qs t₀ Nothing = Undecided
-over_span b qs t₀ (At l) = scan b qs t₀ l
+abbrev pub over_span : ℕ → List Charged → ℕ → Option ℕ → Verdict
+over_span b qs t₀ None = Undecided
+over_span b qs t₀ (Some l) = scan b qs t₀ l
 
 unfoldable pub verdict : ℕ → List Charged → Verdict
 verdict b [] = Passes

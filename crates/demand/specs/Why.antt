@@ -11,12 +11,10 @@
 --   length_shown b qs v   the length that is shown: the verdict's own; of a pass the one with the least slack in the judged span; of an undecided core the limit
 --   core_shown b qs       what is shown of a core, its pieces' asks beside it
 --   shown_of c ps         the same of the pieces ps at the costs c
-use Rattle.std.specs.Prelude.{cond, List, ℕ, zero, suc, ◌+◌, ◌*◌, ◌-◌, ◌≤◌, ◌<◌, ltb}
+use Rattle.std.specs.Prelude.{cond, List, ℕ, zero, suc, ◌+◌, ◌*◌, ◌-◌, ◌≤◌, ◌<◌, ltb, None, Option, Some}
 use Rattle.demand.specs.declared.Piece.{Piece}
 use Rattle.demand.specs.declared.Costs.{Costs}
 use Rattle.demand.specs.declared.Charged.{Charged}
-use Rattle.demand.specs.declared.Found.{Found}
-use Rattle.demand.specs.declared.Found.TheVariants.{At, Nothing}
 use Rattle.demand.specs.declared.Verdict.{Verdict}
 use Rattle.demand.specs.declared.Verdict.TheVariants.{Passes, Overloaded, Undecided}
 use Rattle.demand.specs.declared.Ask.{Ask}
@@ -66,9 +64,9 @@ ask_sum v t q = (ask v t q).demand + (ask v t q).interrupts
 -- ---- what is shown of a core
 
 -- in the judged span: the l lengths from the least live one
-abbrev pub tightest_over : ℕ → List Charged → Found → ℕ
-tightest_over b qs (At l) = least_slack (demand b qs) (least_live qs) (l - 1)
-tightest_over b qs Nothing = 0
+abbrev pub tightest_over : ℕ → List Charged → Option ℕ → ℕ
+tightest_over b qs (Some l) = least_slack (demand b qs) (least_live qs) (l - 1)
+tightest_over b qs None = 0
 
 abbrev pub length_shown : ℕ → List Charged → Verdict → ℕ
 length_shown b qs Passes = tightest_over b qs (busy_length qs)

@@ -6,15 +6,15 @@
 --   cached k x d t j p m   a piece with all its numbers
 --   only_cost i v       the i-th cost v, the others 0
 --   charge_rows, blocking_rows, split_rows, size_rows   the table, in four parts
-use Rattle.std.specs.Prelude.{cond, List, [], ◌∷◌, ℕ, eqb, replicate}
+use Rattle.std.specs.Prelude.{cond, List, [], ◌∷◌, ℕ, eqb, replicate, None}
 use Rattle.demand.specs.declared.Kind.{Kind}
 use Rattle.demand.specs.declared.Kind.TheVariants.{Whole, First, Last}
 use Rattle.demand.specs.declared.Piece.{Piece}
 use Rattle.demand.specs.declared.Costs.{Costs}
-use Rattle.demand.specs.declared.Split.TheVariants.{Cut, Nowhere}
 use Rattle.demand.specs.declared.Verdict.TheVariants.{Passes, Overloaded}
 use Rattle.demand.specs.Charge.{no_costs}
 use Rattle.demand.specs.Cases.{Row, says, busy, asks, tight, charges, splits, takes, whole}
+use Rattle.demand.specs.Split.{cut_at}
 
 unfoldable pub paid : ℕ → Costs
 paid p = record { relo = 2; schedo = 3; tseto = 1; ipb = 3; beto = 2; migro = 1; ipio = 5; ipij = 7; precision = p }
@@ -100,12 +100,12 @@ blocking_rows =
 unfoldable pub split_rows : List Row
 split_rows =
     tight 6 (paid 6) (often ∷ cached Last 3 40 48 6 2 3 ∷ []) (cached First 5 100 100 5 2 3) 57
-    ∷ splits 7 (paid 3) 5 (cached Whole 19 60 60 0 2 0 ∷ []) (cached Whole 51 117 130 10 1 3) (Cut 10 44)
-    ∷ splits 7 (paid 4) 5 (cached Whole 19 60 60 0 2 0 ∷ []) (cached Whole 51 117 130 10 1 3) Nowhere
-    ∷ splits 7 (distinct 9) 5 [] (cached Whole 30 120 140 0 2 1) (Cut 25 64)
-    ∷ splits 7 (distinct 10) 5 [] (cached Whole 30 120 140 0 2 1) Nowhere
+    ∷ splits 7 (paid 3) 5 (cached Whole 19 60 60 0 2 0 ∷ []) (cached Whole 51 117 130 10 1 3) (cut_at 10 44)
+    ∷ splits 7 (paid 4) 5 (cached Whole 19 60 60 0 2 0 ∷ []) (cached Whole 51 117 130 10 1 3) None
+    ∷ splits 7 (distinct 9) 5 [] (cached Whole 30 120 140 0 2 1) (cut_at 25 64)
+    ∷ splits 7 (distinct 10) 5 [] (cached Whole 30 120 140 0 2 1) None
     -- x is below C: 3 in 3 would pass too, with nothing left
-    ∷ splits 7 no_costs 1 [] (whole 3 5 10) (Cut 2 2)
+    ∷ splits 7 no_costs 1 [] (whole 3 5 10) (cut_at 2 2)
     ∷ []
 
 -- ---- sizes: at each bound taken, past it refused: a run by 106, costs by 102, a record by 103 with its place

@@ -39,8 +39,9 @@ fn charged_of(costs: Costs, piece: Piece) -> Charged
     }
 }
 
-fn no_charge() -> Charged
-    ensures { result ≡ no_charge }
+/// The charged piece that asks for nothing: zeros.
+pub fn no_charge() -> Charged
+    ensures exact { result ≡ no_charge }
 {
     Charged {
         charge: 0,
@@ -84,12 +85,7 @@ fn stall_within(costs: Costs) -> u64
     requires { SizedCosts costs }
     ensures { result ≡ stall costs }
 {
-    let switch = costs.schedo + costs.tseto;
-    if costs.ipb < switch {
-        switch
-    } else {
-        costs.ipb
-    }
+    costs.ipb.max(costs.schedo + costs.tseto)
 }
 
 /// Costs of which all nine are 0.

@@ -4,14 +4,16 @@ ghost use Rattle.demand.specs.Kinds.{kind_number, kind_of, departs, arrives};
 
 use crate::Kind;
 
-/// The number of a kind: 0 whole, 1 first, 2 last.
-pub fn kind_number(kind: Kind) -> u64
-    ensures exact { result ≡ kind_number kind }
-{
-    match kind {
-        Kind::Whole => 0,
-        Kind::First => 1,
-        Kind::Last => 2,
+// 0 whole, 1 first, 2 last.
+impl From<Kind> for u64 {
+    ghost from_gives = { λ kind number. number ≡ kind_number kind };
+
+    fn from(kind: Kind) -> u64 {
+        match kind {
+            Kind::Whole => 0,
+            Kind::First => 1,
+            Kind::Last => 2,
+        }
     }
 }
 
@@ -19,13 +21,11 @@ pub fn kind_number(kind: Kind) -> u64
 pub fn kind_of(number: u64) -> Kind
     ensures exact { result ≡ kind_of number }
 {
-    if number == 0 {
-        return Kind::Whole;
+    match number {
+        0 => Kind::Whole,
+        1 => Kind::First,
+        _ => Kind::Last,
     }
-    if number == 1 {
-        return Kind::First;
-    }
-    Kind::Last
 }
 
 // n for a piece whose task goes on elsewhere, else nothing.
@@ -33,9 +33,8 @@ pub fn if_departs(kind: Kind, n: u64) -> u64
     ensures { (result ≡ cond (departs kind) n 0) × (result ≤ n) }
 {
     match kind {
-        Kind::Whole => 0,
         Kind::First => n,
-        Kind::Last => 0,
+        Kind::Whole | Kind::Last => 0,
     }
 }
 
@@ -44,8 +43,7 @@ pub fn if_arrives(kind: Kind, n: u64, other: u64) -> u64
     ensures { result ≡ cond (arrives kind) n other }
 {
     match kind {
-        Kind::Whole => other,
-        Kind::First => other,
         Kind::Last => n,
+        Kind::Whole | Kind::First => other,
     }
 }

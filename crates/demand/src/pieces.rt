@@ -4,7 +4,6 @@ ghost use Rattle.demand.specs.Sizes.{SizedCosts};
 ghost use Rattle.demand.specs.Split.{late_jitter, piece_of, first_piece, last_piece};
 
 use crate::kinds::if_arrives;
-use crate::numbers::less;
 use crate::sizes::sized_costs;
 use crate::{Costs, Kind, Piece};
 
@@ -30,13 +29,12 @@ pub fn late_jitter(costs: Costs) -> u64
 pub fn piece_of(late: u64, task: Piece, kind: Kind, x: u64, w: u64) -> Piece
     ensures { result ≡ piece_of late task kind x w }
 {
-    let jitter = if_arrives(kind, late, task.jitter);
     Piece {
-        kind: kind,
+        kind,
         budget: x,
         window: w,
         period: task.period,
-        jitter: jitter,
+        jitter: if_arrives(kind, late, task.jitter),
         preempt: task.preempt,
         migrate: task.migrate,
     }
@@ -53,8 +51,11 @@ pub fn first_piece(task: Piece, x: u64, w: u64) -> Piece
 pub fn last_piece(costs: Costs, task: Piece, x: u64, w: u64) -> Piece
     ensures exact { result ≡ last_piece costs task x w }
 {
-    let late = late_jitter(costs);
-    let budget = less(task.budget, x);
-    let window = less(task.window, w);
-    piece_of(late, task, Kind::Last, budget, window)
+    piece_of(
+        late_jitter(costs),
+        task,
+        Kind::Last,
+        task.budget.saturating_sub(x),
+        task.window.saturating_sub(w),
+    )
 }

@@ -1,12 +1,29 @@
-// A run of piece records that is lent as numbers, seven to a record, and what is refused of it.
-ghost use Rattle.std.specs.Prelude.{◌≡◌, [], ◌∷◌, ◌++◌, ◌+◌, ◌<◌, ◌≤◌, take};
-ghost use Rattle.demand.specs.Answer.{first_bad, check_run};
-ghost use Rattle.demand.specs.Records.{outside, record_at, record_within, records_of, put_record, lent_of};
+// A run of piece records, as it is lent, and what is refused of it.
+ghost use Rattle.std.specs.Prelude.{◌≡◌, [], ◌∷◌, ◌++◌, ◌+◌, ◌≤◌, map, length};
+ghost use Rattle.demand.specs.Answer.{first_bad, bad_record, check_run};
+ghost use Rattle.demand.specs.Records.{outside, piece_in, pieces_in, record_for};
 ghost use Rattle.demand.specs.Sizes.{run_most};
 
-use crate::kinds::{kind_number, kind_of};
+use crate::kinds::kind_of;
 use crate::sizes::{sized_costs, sized_piece};
-use crate::{Check, Costs, KIND_MOST, Kind, Piece, RUN_MOST, RUN_NUMBERS, Refusal, Run};
+use crate::{Costs, KIND_MOST, Kind, Piece, RUN_MOST, Record, Refusal, Run};
+
+impl From<Piece> for Record {
+    ghost from_gives = { λ piece r. r ≡ record_for piece };
+
+    #[tactic(auto, unfolding(crate::specs::Records::record_for))]
+    fn from(piece: Piece) -> Record {
+        Record {
+            kind: piece.kind.into(),
+            budget: piece.budget,
+            window: piece.window,
+            period: piece.period,
+            jitter: piece.jitter,
+            preempt: piece.preempt,
+            migrate: piece.migrate,
+        }
+    }
+}
 
 /// A piece outside the sizes: zeros.
 pub fn outside() -> Piece
@@ -23,117 +40,72 @@ pub fn outside() -> Piece
     }
 }
 
-// The record at place i; one of another kind is outside the sizes.
-fn read_record(records: &[u64; RUN_NUMBERS], i: usize) -> Piece
-    requires { i < run_most }
-    ensures { result ≡ record_at records.now i }
+/// The piece that a record is. A record of another kind is outside the sizes, whatever its figures.
+#[tactic(auto, using(crate::proofs::RecordLaws::in_named, crate::proofs::RecordLaws::in_other))]
+pub fn piece_in(lent: Record) -> Piece
+    ensures exact { result ≡ piece_in lent }
 {
-    let at = 7 * i;
-    let kind = records[at];
-    if KIND_MOST < kind {
+    if KIND_MOST < lent.kind {
         return outside();
     }
     Piece {
-        kind: kind_of(kind),
-        budget: records[at + 1],
-        window: records[at + 2],
-        period: records[at + 3],
-        jitter: records[at + 4],
-        preempt: records[at + 5],
-        migrate: records[at + 6],
+        kind: kind_of(lent.kind),
+        budget: lent.budget,
+        window: lent.window,
+        period: lent.period,
+        jitter: lent.jitter,
+        preempt: lent.preempt,
+        migrate: lent.migrate,
     }
 }
 
-/// The record at a place from 0 of a run that is lent as numbers; zeros past its last place, and where the kind is none.
-pub fn record_at(records: &[u64; RUN_NUMBERS], i: usize) -> Piece
-    ensures exact { result ≡ record_within records.now i }
+/// A run by value, as the records that are lent.
+pub fn records_of(run: Run) -> [Record; RUN_MOST]
+    ensures exact { result ≡ map record_for run.pieces }
 {
-    if i < RUN_MOST {
-        return read_record(records, i);
-    }
-    outside()
-}
-
-/// Writes a record, as its seven numbers, at a place from 0 of a run that is lent as numbers; past its last place nothing changes.
-pub fn put_record(records: &mut [u64; RUN_NUMBERS], i: usize, piece: Piece)
-    ensures exact { records.new ≡ put_record records.old i piece }
-{
-    if RUN_MOST <= i {
-        return;
-    }
-    let at = 7 * i;
-    let kind = piece.kind;
-    records[at] = kind_number(kind);
-    records[at + 1] = piece.budget;
-    records[at + 2] = piece.window;
-    records[at + 3] = piece.period;
-    records[at + 4] = piece.jitter;
-    records[at + 5] = piece.preempt;
-    records[at + 6] = piece.migrate;
-}
-
-/// A run by value, as the numbers that are lent.
-pub fn records_of(run: Run) -> [u64; RUN_NUMBERS]
-    ensures exact { result ≡ lent_of run.pieces }
-{
-    let mut records: [u64; RUN_NUMBERS] = [0; RUN_NUMBERS];
-    let mut i: usize = 0;
-    while i < RUN_MOST {
-        let piece = run.pieces[i];
-        put_record(&mut records, i, piece);
-        i += 1;
+    let mut records = [Record::from(outside()); RUN_MOST];
+    for (place, piece) in run.pieces.iter().enumerate() {
+        records[place] = Record::from(*piece);
     }
     records
 }
 
-// The place, from 1, of the first of the n records outside the sizes, or 0.
-fn first_bad(records: &[u64; RUN_NUMBERS], n: usize) -> u64
-    requires { n ≤ run_most }
-    ensures { result ≡ first_bad 1 (take n (records_of records.now)) }
+// The first record outside the sizes is refused, by its place from 1.
+fn check_each(records: &[Record]) -> Result<(), Refusal>
+    requires { length records.now ≤ run_most }
+    ensures { result ≡ bad_record (first_bad 1 (pieces_in records.now)) }
 {
-    let mut i: usize = 0;
-    let mut place: u64 = 1;
-    while i < n {
-        if !sized_piece(read_record(records, i)) {
-            return place;
+    for (place, record) in records.iter().enumerate() {
+        if !sized_piece(piece_in(*record)) {
+            return Err(Refusal::BadRecord(place as u64 + 1));
         }
-        i += 1;
-        place += 1;
     }
-    0
+    Ok(())
 }
 
-/// Whether the first n records of a run are taken: 6, then 2, then 3 with the record's place.
-pub fn check_records(costs: Costs, records: &[u64; RUN_NUMBERS], n: usize) -> Check
-    ensures exact { result ≡ check_run costs n (records_of records.now) }
+/// Whether a run of records is taken: 6, then 2, then 3 with the record's place.
+pub fn check_records(costs: Costs, records: &[Record]) -> Result<(), Refusal>
+    ensures exact { result ≡ check_run costs (length records.now) (pieces_in records.now) }
 {
-    if RUN_MOST < n {
-        return Check::Bad(Refusal::TooMany);
+    if RUN_MOST < records.len() {
+        return Err(Refusal::TooMany);
     }
     if !sized_costs(costs) {
-        return Check::Bad(Refusal::BadCosts);
+        return Err(Refusal::BadCosts);
     }
-    let place = first_bad(records, n);
-    if place == 0 {
-        return Check::Fine;
-    }
-    Check::Bad(Refusal::BadRecord(place))
+    check_each(records)
 }
 
 /// The same of a run with one record more, the task's.
-pub fn check_task(costs: Costs, records: &[u64; RUN_NUMBERS], n: usize, task: Piece) -> Check
-    ensures exact { result ≡ check_run costs (n + 1) (take n (records_of records.now) ++ (task ∷ [])) }
+pub fn check_task(costs: Costs, records: &[Record], task: Piece) -> Result<(), Refusal>
+    ensures exact { result ≡ check_run costs (length records.now + 1) (pieces_in records.now ++ (task ∷ [])) }
 {
-    if RUN_MOST <= n {
-        return Check::Bad(Refusal::TooMany);
+    if RUN_MOST <= records.len() {
+        return Err(Refusal::TooMany);
     }
-    match check_records(costs, records, n) {
-        Check::Bad(why) => Check::Bad(why),
-        Check::Fine => {
-            if sized_piece(task) {
-                return Check::Fine;
-            }
-            Check::Bad(Refusal::BadRecord(n as u64 + 1))
-        }
+    check_records(costs, records)?;
+    if !sized_piece(task) {
+        return Err(Refusal::BadRecord(records.len() as u64 + 1));
     }
+    Ok(())
 }

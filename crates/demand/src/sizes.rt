@@ -8,89 +8,39 @@ use crate::{COST_MOST, Costs, Piece, TIME_MOST};
 pub fn sized_costs(costs: Costs) -> bool
     ensures { Tells (SizedCosts costs) result }
 {
-    if COST_MOST < costs.relo {
-        return false;
-    }
-    if COST_MOST < costs.schedo {
-        return false;
-    }
-    if COST_MOST < costs.tseto {
-        return false;
-    }
-    if COST_MOST < costs.ipb {
-        return false;
-    }
-    if COST_MOST < costs.beto {
-        return false;
-    }
-    if COST_MOST < costs.migro {
-        return false;
-    }
-    if COST_MOST < costs.ipio {
-        return false;
-    }
-    if COST_MOST < costs.ipij {
-        return false;
-    }
-    if COST_MOST < costs.precision {
-        return false;
-    }
-    true
+    costs.relo <= COST_MOST
+        && costs.schedo <= COST_MOST
+        && costs.tseto <= COST_MOST
+        && costs.ipb <= COST_MOST
+        && costs.beto <= COST_MOST
+        && costs.migro <= COST_MOST
+        && costs.ipio <= COST_MOST
+        && costs.ipij <= COST_MOST
+        && costs.precision <= COST_MOST
 }
 
 pub fn sized_piece(piece: Piece) -> bool
     ensures { Tells (Sized piece) result }
 {
-    if piece.budget < 1 {
-        return false;
-    }
-    if piece.window < piece.budget {
-        return false;
-    }
-    if piece.period < piece.window {
-        return false;
-    }
-    if TIME_MOST < piece.period {
-        return false;
-    }
-    if TIME_MOST < piece.jitter {
-        return false;
-    }
-    if COST_MOST < piece.preempt {
-        return false;
-    }
-    if COST_MOST < piece.migrate {
-        return false;
-    }
-    true
+    1 <= piece.budget
+        && piece.budget <= piece.window
+        && piece.window <= piece.period
+        && piece.period <= TIME_MOST
+        && piece.jitter <= TIME_MOST
+        && piece.preempt <= COST_MOST
+        && piece.migrate <= COST_MOST
 }
 
 // Whether a piece can be charged.
 pub fn countable_piece(piece: Piece) -> bool
     ensures { Tells (Countable piece) result }
 {
-    if TIME_MOST < piece.budget {
-        return false;
-    }
-    if TIME_MOST < piece.window {
-        return false;
-    }
-    if piece.period < 1 {
-        return false;
-    }
-    if TIME_MOST < piece.period {
-        return false;
-    }
-    if TIME_MOST < piece.jitter {
-        return false;
-    }
-    if COST_MOST < piece.preempt {
-        return false;
-    }
-    if COST_MOST < piece.migrate {
-        return false;
-    }
-    true
+    piece.budget <= TIME_MOST
+        && piece.window <= TIME_MOST
+        && (1..=TIME_MOST).contains(&piece.period)
+        && piece.jitter <= TIME_MOST
+        && piece.preempt <= COST_MOST
+        && piece.migrate <= COST_MOST
 }
 
 /// Whether a record is within the sizes.

@@ -3,24 +3,31 @@
 --
 --   after-line                                   the plan after a line, by the answers of those who read it and did it
 --   played-newline, played-other, played-end     the desk after the bytes from a place on
-use mathlib.Core.Path.{◌≡◌, ap, ◌∙◌}
+use mathlib.Core.Path.{◌≡◌, refl, ap, ◌∙◌}
 use mathlib.Core.List.{List}
 use Prim.Native.Nat.{ℕ, ◌+◌, ◌≤◌, ◌<◌}
 use native.Mathlib.Numerals.{add-one}
 use borrow.Author.Tests.{eq-eqb, ne_eqb}
 use lib.ListN.{length, drop, get_or, drop_of_length-le}
 use lib.Seq.{drop-cons}
+use Rattle.std.proofs.Common.{Option, Result, Ok, Err}
+use Rattle.task.specs.declared.faults.Refused.{Refused}
+use Rattle.edits.specs.Edits.{edit_reply}
 use Rattle.plan.specs.declared.Plan.{Plan}
-use Rattle.plan.specs.declared.Reply.{Reply}
+use Rattle.plan.specs.Reply.{Reply}
 use Rattle.lines.specs.declared.Order.{Order}
 use Rattle.lines.specs.Lines.{newline}
-use Rattle.desk.specs.declared.Pending.{Pending}
+use Rattle.desk.specs.declared.script.Pending.{Pending}
 use Rattle.desk.specs.declared.Desk.{Desk}
 use Rattle.desk.specs.Desk.{fresh, with_byte, order_in, reply_to, after_line, after_byte, played_bytes}
 
-pub after-line : (l : Pending) (s : Plan) (o : Order) (r : Reply) → o ≡ order_in l → r ≡ reply_to o s → r.plan ≡ after_line l s
+pub after-line : (l : Pending) (s t : Plan) (o : Option Order) (r : Result (Unit {0}) Refused) → o ≡ order_in l → edit_reply r t ≡ reply_to o s → t ≡ after_line l s
 unfolding after_line
-after-line l s o r order reply = ap (λ (x : Reply). x.plan) reply ∙ ap (λ (x : Order). (reply_to x s).plan) order
+after-line l s t o r order reply = plan-of r ∙ ap (λ (x : Reply). x.plan) reply ∙ ap (λ (x : Option Order). (reply_to x s).plan) order
+  where
+    plan-of : (q : Result (Unit {0}) Refused) → t ≡ (edit_reply q t).plan
+    plan-of (Ok done) = refl
+    plan-of (Err f) = refl
 
 abbrev pub desk : Plan → Pending → Desk
 desk p l = record { plan = p; line = l }

@@ -16,7 +16,7 @@ use Rattle.demand.specs.Lists.{padded}
 use Rattle.lines.specs.Orders.{order_of}
 use Rattle.demand.proofs.PaddedLaws.{padded-none, padded-put, padded-take}
 use Rattle.lines.proofs.LongLaws.{order-long}
-use Rattle.desk.specs.declared.Pending.{Pending}
+use Rattle.desk.specs.declared.script.Pending.{Pending}
 use Rattle.desk.specs.Desk.{line_room, fresh, with_byte, order_in}
 
 pub record Holds (l : List ℕ) (q : Pending) : Type 0 where

@@ -11,16 +11,15 @@ use Prim.Native.Nat.{ℕ}
 use native.Mathlib.Decide.{dec_le}
 use native.Mathlib.Omega.{arith}
 use lib.ListN.{length}
-use Rattle.task.specs.declared.Task.{Task}
 use Rattle.plan.specs.declared.Plan.{Plan}
 use Rattle.edits.specs.Edits.{TaskEdit, played}
-use Rattle.lines.specs.declared.Deed.{Deed}
+use Rattle.std.proofs.Common.{Option, Some, None}
 use Rattle.lines.specs.declared.Order.{Order}
 use Rattle.lines.specs.Lines.{newline}
 use Rattle.lines.specs.Orders.{order_of}
-use Rattle.desk.specs.declared.Pending.{Pending}
+use Rattle.desk.specs.declared.script.Pending.{Pending}
 use Rattle.desk.specs.declared.Desk.{Desk}
-use Rattle.desk.specs.Desk.{line_room, fresh, with_byte, reply_by, reply_to, after_line, after_byte, played_bytes}
+use Rattle.desk.specs.Desk.{line_room, fresh, with_byte, reply_to, after_line, after_byte, played_bytes}
 use Rattle.desk.specs.Script.{Unbroken, AllUnbroken, written, edits_by, asked}
 use Rattle.desk.proofs.DeskLaws.{desk, after-newline, after-other}
 use Rattle.desk.proofs.LineLaws.{Holds, holds-none, holds_more, holds-order}
@@ -55,7 +54,7 @@ module _ (p : Plan) (l : List ℕ) (u : Unbroken l) where
   unfolding after_line
   ended d g =
       after-newline d.plan (after_line d.line d.plan) d.line fresh newline refl refl refl
-      ∙ ap (λ (o : Order). desk (reply_to o d.plan).plan fresh) (holds-order l d.line g.line)
+      ∙ ap (λ (o : Option Order). desk (reply_to o d.plan).plan fresh) (holds-order l d.line g.line)
       ∙ ap (λ (s : Plan). desk (reply_to (order_of l) s).plan fresh) g.plan
 
   line-plays : (rest : List ℕ) → played_bytes (desk p fresh) (l ++ (newline ∷ rest)) ≡ played_bytes (desk (reply_to (order_of l) p).plan fresh) rest
@@ -74,12 +73,12 @@ module _ (p : Plan) (l : List ℕ) (u : Unbroken l) where
 
 -- ---- a script
 
-reply-asked : (d : Deed) (t : Task) (p : Plan) → (reply_by d t p).plan ≡ played (edits_by d t) p
-reply-asked Deed.Add t p = refl
-reply-asked Deed.Withdraw t p = refl
-reply-asked Deed.Retime t p = refl
-reply-asked Deed.List t p = refl
-reply-asked Deed.Other t p = refl
+reply-asked : (o : Option Order) (p : Plan) → (reply_to o p).plan ≡ played (edits_by o) p
+reply-asked (Some (Order.Add t)) p = refl
+reply-asked (Some (Order.Withdraw n)) p = refl
+reply-asked (Some (Order.Retime t)) p = refl
+reply-asked (Some Order.List) p = refl
+reply-asked None p = refl
 
 played-append : (es fs : List TaskEdit) (p : Plan) → played (es ++ fs) p ≡ played fs (played es p)
 played-append [] fs p = refl
@@ -89,8 +88,8 @@ pub script-plays : (ls : List (List ℕ)) (p : Plan) → AllUnbroken ls → play
 unfolding played_bytes
 script-plays [] p u = refl
 script-plays (l ∷ ls) p u =
-    let es = edits_by (order_of l).deed (order_of l).task in
+    let es = edits_by (order_of l) in
     line-plays p l u.0 (written ls)
-    ∙ ap (λ (s : Plan). played_bytes (desk s fresh) (written ls)) (reply-asked (order_of l).deed (order_of l).task p)
+    ∙ ap (λ (s : Plan). played_bytes (desk s fresh) (written ls)) (reply-asked (order_of l) p)
     ∙ script-plays ls (played es p) u.1
     ∙ ap (λ (s : Plan). desk s fresh) (sym (played-append es (asked ls) p))

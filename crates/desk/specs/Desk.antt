@@ -7,17 +7,15 @@
 --   reply_to o s          what comes of the order o on the plan s
 --   after_line l s        the plan that is held after the line l
 --   played_bytes d bs     the desk after the bytes bs
-use Rattle.std.specs.Prelude.{cond, List, [], ◌∷◌, ℕ, ◌+◌, leb, eqb, take, set, replicate}
-use Rattle.task.specs.declared.Task.{Task}
+use Rattle.std.specs.Prelude.{cond, List, [], ◌∷◌, ℕ, ◌+◌, leb, eqb, take, set, replicate, Option, Some, None}
 use Rattle.plan.specs.declared.Plan.{Plan}
-use Rattle.plan.specs.declared.Reply.{Reply}
+use Rattle.plan.specs.Reply.{Reply}
 use Rattle.walks.specs.Edits.{Edit}
 use Rattle.edits.specs.Edits.{accepted, given_back, edit_of}
-use Rattle.lines.specs.declared.Deed.{Deed}
 use Rattle.lines.specs.declared.Order.{Order}
 use Rattle.lines.specs.Lines.{newline}
-use Rattle.lines.specs.Orders.{no_order, order_of}
-use Rattle.desk.specs.declared.Pending.{Pending}
+use Rattle.lines.specs.Orders.{order_of}
+use Rattle.desk.specs.declared.script.Pending.{Pending}
 use Rattle.desk.specs.declared.Desk.{Desk}
 
 -- ---- a line
@@ -35,20 +33,17 @@ fresh = record { len = 0; bytes = replicate line_room 0 }
 unfoldable pub with_byte : Pending → ℕ → Pending
 with_byte l b = cond (leb line_room l.len) l (record { len = l.len + 1; bytes = set l.bytes l.len b })
 
-unfoldable pub order_in : Pending → Order
-order_in l = cond (leb l.len line_most) (order_of (take l.len l.bytes)) no_order
+unfoldable pub order_in : Pending → Option Order
+order_in l = cond (leb l.len line_most) (order_of (take l.len l.bytes)) None
 
 -- ---- what it does
 
-abbrev pub reply_by : Deed → Task → Plan → Reply
-reply_by Deed.Add t s = edit_of (Edit.add t) s
-reply_by Deed.Withdraw t s = edit_of (Edit.withdraw t.name) s
-reply_by Deed.Retime t s = edit_of (Edit.retime t) s
-reply_by Deed.List t s = accepted s
-reply_by Deed.Other t s = given_back s 8 0
-
-abbrev pub reply_to : Order → Plan → Reply
-reply_to o s = reply_by o.deed o.task s
+abbrev pub reply_to : Option Order → Plan → Reply
+reply_to (Some (Order.Add t)) s = edit_of (Edit.add t) s
+reply_to (Some (Order.Withdraw n)) s = edit_of (Edit.withdraw n) s
+reply_to (Some (Order.Retime t)) s = edit_of (Edit.retime t) s
+reply_to (Some Order.List) s = accepted s
+reply_to None s = given_back s 8 0
 
 unfoldable pub after_line : Pending → Plan → Plan
 after_line l s = (reply_to (order_in l) s).plan

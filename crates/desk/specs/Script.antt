@@ -4,11 +4,10 @@
 --   AllUnbroken ls   no byte of any of the lines ls is
 --   written ls       the bytes of the lines ls, each ended by its newline
 --   asked ls         the edits that the lines ls ask for, in their order; a listing and a line of no form ask for none
-use Rattle.std.specs.Prelude.{◌≡◌, List, [], ◌∷◌, ◌++◌, ℕ}
-use Rattle.task.specs.declared.Task.{Task}
+use Rattle.std.specs.Prelude.{◌≡◌, List, [], ◌∷◌, ◌++◌, ℕ, Option, Some, None}
 use Rattle.walks.specs.Edits.{Edit}
 use Rattle.edits.specs.Edits.{TaskEdit}
-use Rattle.lines.specs.declared.Deed.{Deed}
+use Rattle.lines.specs.declared.Order.{Order}
 use Rattle.lines.specs.Lines.{newline}
 use Rattle.lines.specs.Orders.{order_of}
 
@@ -24,13 +23,13 @@ abbrev pub written : List (List ℕ) → List ℕ
 written [] = []
 written (l ∷ ls) = l ++ (newline ∷ written ls)
 
-abbrev pub edits_by : Deed → Task → List TaskEdit
-edits_by Deed.Add t = Edit.add t ∷ []
-edits_by Deed.Withdraw t = Edit.withdraw t.name ∷ []
-edits_by Deed.Retime t = Edit.retime t ∷ []
-edits_by Deed.List t = []
-edits_by Deed.Other t = []
+abbrev pub edits_by : Option Order → List TaskEdit
+edits_by (Some (Order.Add t)) = Edit.add t ∷ []
+edits_by (Some (Order.Withdraw n)) = Edit.withdraw n ∷ []
+edits_by (Some (Order.Retime t)) = Edit.retime t ∷ []
+edits_by (Some Order.List) = []
+edits_by None = []
 
 abbrev pub asked : List (List ℕ) → List TaskEdit
 asked [] = []
-asked (l ∷ ls) = edits_by (order_of l).deed (order_of l).task ++ asked ls
+asked (l ∷ ls) = edits_by (order_of l) ++ asked ls

@@ -1,49 +1,42 @@
 // What is answered to a line, on standard output.
-ghost use Rattle.std.specs.Prelude.{◌≡◌, length};
-
-use lines::Deed;
+use lines::Order;
 use listing::write_listing;
-use plan::{Plan, Reply};
+use plan::Plan;
 use std::io;
+use task::{Fault, Refused};
+
+// The most bytes of a listing that is written.
+const LISTING_ROOM: usize = 8192;
 
 // A refusal: its number and what it carries.
-pub fn refuse(rt: &impl Print, number: u64, carries: u64) -> io::Result<()> {
+pub fn refuse(rt: &impl Print, fault: Fault, carries: u64) -> io::Result<()> {
+    let number = u64::from(fault);
     print!(rt; "refusal\t{number}\t{carries}\n")
 }
 
-// Room for the listing of a held plan.
-fn listing_room() -> [u8; 8192]
-    ensures { 8192 ≡ length result }
-{
-    [0u8; 8192]
-}
-
-// The listing of a plan; 10 with its length, where it is longer than the room for it.
+// The listing of a plan; it is refused with its length, where it is longer than the room for it.
 fn list(rt: &impl Print, plan: Plan) -> io::Result<()> {
-    let mut buf = listing_room();
+    let mut buf = [0u8; LISTING_ROOM];
     let n = write_listing(plan, &mut buf);
-    if 8192 < n {
-        return refuse(rt, 10, n as u64);
+    if LISTING_ROOM < n {
+        return refuse(rt, Fault::TooShort, n as u64);
     }
     rt.write_all(&buf[..n])
 }
 
-// What came of an edit, or of a line of no form.
-fn settle(rt: &impl Print, number: u64, carries: usize) -> io::Result<()> {
-    if number != 0 {
-        return refuse(rt, number, carries as u64);
+// What came of a line: a refusal, the listing that it asks for, or that the edit is done.
+pub fn tell(
+    rt: &impl Print,
+    order: Option<Order>,
+    reply: Result<(), Refused>,
+    plan: &Plan,
+) -> io::Result<()> {
+    if let Err(refused) = reply {
+        return refuse(rt, refused.fault, refused.carries);
     }
-    print!(rt; "ok\n")
-}
-
-// What came of a line.
-pub fn tell(rt: &impl Print, deed: Deed, reply: Reply) -> io::Result<()> {
-    match deed {
-        Deed::Add => settle(rt, reply.number, reply.carries),
-        Deed::Withdraw => settle(rt, reply.number, reply.carries),
-        Deed::Retime => settle(rt, reply.number, reply.carries),
-        Deed::List => list(rt, reply.plan),
-        Deed::Other => settle(rt, reply.number, reply.carries),
+    match order {
+        Some(Order::List) => list(rt, *plan),
+        _ => print!(rt; "ok\n"),
     }
 }
 
@@ -64,9 +57,9 @@ impl<'a, R: Print> Answers<'a, R> {
     }
 
     // Tells what came of a line.
-    pub fn tell(&mut self, deed: Deed, reply: Reply) {
+    pub fn tell(&mut self, order: Option<Order>, reply: Result<(), Refused>, plan: &Plan) {
         if self.outcome.is_ok() {
-            self.outcome = tell(self.rt, deed, reply);
+            self.outcome = tell(self.rt, order, reply, plan);
         }
     }
 

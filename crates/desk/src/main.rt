@@ -7,25 +7,19 @@ mod play;
 mod script;
 mod words;
 
-ghost use Rattle.std.specs.Prelude.{◌≡◌, ◌≤◌, IfOk, length};
+ghost use Rattle.std.specs.Prelude.{◌≤◌, IfOk, length};
 
 use answers::{Answers, refuse};
 use plan::{Plan, plan_tasks};
 use play::play_bytes;
-use script::fresh;
-use sheet::{Read, read_sheet};
+use script::Pending;
+use sheet::{SHEET_MOST, Sheet, read_sheet};
 use std::env::FillError;
 use std::io::Read as _;
 use std::rt::{Env, Files};
 use std::{fs, io, str};
+use task::{Fault, Refused};
 use words::tell_failure;
-
-/// The bytes of a script's line so far. A line of more than 200 bytes is held as 201 of them: it is too long for any form.
-#[derive(Clone, Copy)]
-pub struct Pending {
-    pub len: usize,
-    pub bytes: [u8; 201],
-}
 
 /// A held plan, and the line under way.
 #[derive(Clone, Copy)]
@@ -34,12 +28,8 @@ pub struct Desk {
     pub line: Pending,
 }
 
-// Room for a sheet of the largest size, and one byte more.
-fn sheet_room() -> [u8; 16385]
-    ensures { 16385 ≡ length result }
-{
-    [0u8; 16385]
-}
+// Room for a sheet of the largest size, and one byte more: that is enough for its refusal.
+const SHEET_ROOM: usize = SHEET_MOST + 1;
 
 // Reads until the room is full or the file is at its end, and says how many bytes came.
 fn fill(file: &mut impl io::Read, room: &mut [u8]) -> io::Result<usize>
@@ -56,10 +46,10 @@ fn fill(file: &mut impl io::Read, room: &mut [u8]) -> io::Result<usize>
     Ok(done)
 }
 
-// Reads the sheet in a file. One byte past the largest size is enough for its refusal.
-fn sheet_in(rt: &impl Files, path: &str) -> io::Result<Read> {
+// Reads the sheet in a file.
+fn sheet_in(rt: &impl Files, path: &str) -> io::Result<Result<Sheet, Refused>> {
     let mut file = fs::open(rt, path)?;
-    let mut buf = sheet_room();
+    let mut buf = [0u8; SHEET_ROOM];
     let n = fill(&mut file, &mut buf)?;
     Ok(read_sheet(&buf[..n]))
 }
@@ -70,13 +60,13 @@ fn play_all(rt: &(impl Print + Input + Eprint), plan: Plan) -> io::Result<()> {
     let mut script = rt.reader();
     let mut desk = Desk {
         plan,
-        line: fresh(),
+        line: Pending::fresh(),
     };
     for _ in 0..u64::MAX {
         let mut buf = [0u8; 4096];
         match script.read(&mut buf) {
             Ok(0) => break,
-            Ok(n) => desk = play_bytes(&mut answers, desk, &buf[..n]),
+            Ok(n) => play_bytes(&mut answers, &mut desk, &buf[..n]),
             Err(error) => {
                 tell_failure(rt, "standard input", &error)?;
                 break;
@@ -88,26 +78,21 @@ fn play_all(rt: &(impl Print + Input + Eprint), plan: Plan) -> io::Result<()> {
     }
     answers.outcome()?;
     if 0 < desk.line.len {
-        refuse(rt, 8, 0)?;
+        refuse(rt, Fault::Form, 0)?;
     }
     Ok(())
 }
 
 // Plays the script over the plan of a sheet; a refused sheet is the one answer.
-fn play_sheet(rt: &(impl Print + Input + Eprint), read: Read) -> io::Result<()> {
-    if read.number != 0 {
-        return refuse(rt, read.number, read.carries);
+fn play_sheet(rt: &(impl Print + Input + Eprint), read: Result<Sheet, Refused>) -> io::Result<()> {
+    let sheet = match read {
+        Ok(sheet) => sheet,
+        Err(refused) => return refuse(rt, refused.fault, refused.carries),
+    };
+    match plan_tasks(sheet.machine, sheet.costs, sheet.tasks) {
+        Ok(plan) => play_all(rt, plan),
+        Err(refused) => refuse(rt, refused.fault, refused.carries),
     }
-    let sheet = read.sheet;
-    let machine = sheet.machine;
-    let costs = sheet.costs;
-    let tasks = sheet.tasks;
-    let reply = plan_tasks(machine, costs, tasks);
-    if reply.number != 0 {
-        return refuse(rt, reply.number, reply.carries as u64);
-    }
-    let plan = reply.plan;
-    play_all(rt, plan)
 }
 
 // Plays the script over the sheet at the path.

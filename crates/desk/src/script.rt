@@ -2,43 +2,51 @@
 ghost use Rattle.std.specs.Prelude.{◌≡◌};
 ghost use Rattle.desk.specs.Desk.{fresh, with_byte, order_in};
 
-use crate::Pending;
-use lines::{Order, no_order, order_of};
+use lines::{Order, order_of};
 
-// A line of which nothing has come.
-pub fn fresh() -> Pending
-    ensures { result ≡ fresh }
-{
-    Pending {
-        len: 0,
-        bytes: [0u8; 201],
-    }
+/// The most bytes of a line that are looked at.
+const LINE_MOST: usize = 200;
+
+/// One byte more tells that a line is longer.
+const LINE_ROOM: usize = 201;
+
+/// The bytes of a script's line so far. A line of more than 200 bytes is held as 201 of them: it is too long for any form.
+#[derive(Clone, Copy)]
+pub struct Pending {
+    pub len: usize,
+    pub bytes: [u8; LINE_ROOM],
 }
 
-// The line with one byte more.
-pub fn with_byte(line: Pending, b: u8) -> Pending
-    ensures { result ≡ with_byte line b }
-{
-    let len = line.len;
-    if 201 <= len {
-        return line;
+impl Pending {
+    // A line of which nothing has come.
+    pub fn fresh() -> Pending
+        ensures { result ≡ fresh }
+    {
+        Pending {
+            len: 0,
+            bytes: [0u8; LINE_ROOM],
+        }
     }
-    let mut bytes = line.bytes;
-    bytes[len] = b;
-    Pending {
-        len: len + 1,
-        bytes,
-    }
-}
 
-// What the line says.
-pub fn order_in(line: Pending) -> Order
-    ensures { result ≡ order_in line }
-{
-    let len = line.len;
-    if 200 < len {
-        return no_order();
+    // One byte more.
+    #[tactic(auto, unfolding(crate::specs::Desk::with_byte))]
+    pub fn push(&mut self, b: u8)
+        ensures { self.new ≡ with_byte self.old b }
+    {
+        if self.len < LINE_ROOM {
+            self.bytes[self.len] = b;
+            self.len += 1;
+        }
     }
-    let bytes = line.bytes;
-    order_of(&bytes[..len])
+
+    // What the line says.
+    #[tactic(auto, unfolding(crate::specs::Desk::order_in))]
+    pub fn order(&self) -> Option<Order>
+        ensures { result ≡ order_in self.now }
+    {
+        if LINE_MOST < self.len {
+            return None;
+        }
+        order_of(&self.bytes[..self.len])
+    }
 }

@@ -27,7 +27,7 @@ use Rattle.task.specs.declared.Task.{Task}
 use Rattle.task.specs.declared.Machine.{Machine}
 use Rattle.task.specs.Tasks.{tasks_most, rule, first_fault, state_fault, sized_machine, tasks_of}
 use Rattle.plan.specs.declared.Plan.{Plan}
-use Rattle.plan.specs.declared.Reply.{Reply}
+use Rattle.plan.specs.Reply.{Reply}
 use Rattle.walks.specs.Way.{Placed, fine, stuck}
 use Rattle.walks.specs.Edits.{edited}
 use Rattle.walks.specs.Halves.{Stand}

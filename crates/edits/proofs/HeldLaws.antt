@@ -34,7 +34,7 @@ use Rattle.walks.proofs.WayLaws.{of_map}
 use Rattle.walks.proofs.KeptLaws.{share_on, Sorts}
 use Rattle.plan.specs.declared.Stored.{Stored}
 use Rattle.plan.specs.declared.Plan.{Plan}
-use Rattle.plan.specs.declared.Reply.{Reply}
+use Rattle.plan.specs.Reply.{Reply}
 use Rattle.plan.specs.declared.Layout.{Layout}
 use Rattle.plan.specs.Walk.{whole_of, task_way, upto, walked}
 use Rattle.plan.specs.Layout.{blank, kept_piece}

@@ -26,7 +26,7 @@ use Rattle.walks.specs.Lists.{only}
 use Rattle.walks.specs.Edits.{edited}
 use Rattle.walks.specs.Kept.{Among, Behind, Meet}
 use Rattle.plan.specs.declared.Plan.{Plan}
-use Rattle.plan.specs.declared.Reply.{Reply}
+use Rattle.plan.specs.Reply.{Reply}
 use Rattle.plan.specs.Walk.{task_way}
 use Rattle.plan.specs.Layout.{kept_piece}
 use Rattle.plan.specs.Plan.{plan_of}

@@ -3,21 +3,20 @@
 --
 --   room-none, room-some           whether one more has room, by the count
 --   Found, place-from              the place of a name: which list has it no more, and which has another there
---   place-some, place-low          that place in an array, from 1, and below the count
+--   place-low                      that place in an array is below the count
 --   lists-more                     the list with one more at the end
 --   lists-put                      the list with a task in the place of the one of its name
---   remove-none, remove-more       the list without its place i, one place further
---   lists-removed, lists-less      the same of the whole list, by the place and by the name
+--   lists-removed, lists-less      the list without a task, by its place and by its name
 use mathlib.Core.Path.{◌≡◌, refl, sym, ap, ◌∙◌}
 use mathlib.Core.Bool.{Bool, true, false, cond}
-use mathlib.Core.List.{List, [], ◌∷◌, ◌++◌, append_assoc, append-nil}
+use mathlib.Core.List.{List, [], ◌∷◌, ◌++◌}
 use Prim.Native.Nat.{ℕ, suc, ◌+◌, ◌-◌, ◌≤◌, ◌<◌}
 use native.Mathlib.Numerals.{add-one}
 use native.Mathlib.Omega.{arith}
 use borrow.Author.Tests.{lt-ltb, le-ltb}
 use lib.Dec.{ltb}
-use lib.ListN.{length, take, drop, get_or, set, length-append, length-take, length-drop, length-set, drop_of_length-le}
-use lib.Seq.{take-suc, take-suc-set, take-set-lt, take-take, drop-append-le, take-append-le, length-take-le}
+use lib.ListN.{length, take, drop, set, length-append, length-take, length-drop, length-set}
+use lib.Seq.{take-suc-set, take-set-lt, take-take, take-append-le, length-take-le}
 use Rattle.task.specs.declared.Name.{Name}
 use Rattle.task.specs.declared.Task.{Task}
 use Rattle.task.specs.declared.Tasks.{Tasks}
@@ -25,6 +24,9 @@ use Rattle.task.specs.Names.{same_name}
 use Rattle.task.specs.Tasks.{tasks_most, place_of, list_of}
 use Rattle.walks.specs.Edits.{without, replaced}
 use Rattle.edits.specs.Edits.{by_name}
+use Rattle.std.specs.List.{copy_within}
+use Rattle.std.proofs.lemmas.List.{drop-take}
+use lib.Seq.{take_all}
 use Rattle.edits.specs.Ways.ListInArray.{Lists, removed}
 
 -- ---- room, by the count of an array that is full at 64
@@ -84,65 +86,42 @@ module _ (q : Tasks) (long : length q.list ≡ tasks_most) (few : q.count ≤ ta
     items = rw (add-one, take-suc-set q.list q.count t (omega arith));
   }
 
-  module _ (n : Name) (k : ℕ) (place : k ≡ place_of 1 n (list_of q)) (some : place_of 1 n (list_of q) ≡ 0 → ⊥) where
-    there : From 1 n (list_of q) k
-    there = rw place (place-from 1 n (list_of q) (omega arith) some)
+  module _ (n : Name) (i : ℕ) (place : suc i ≡ place_of 1 n (list_of q)) where
+    found : Found n (list_of q) i
+    found =
+        let there : From 1 n (list_of q) (suc i) = rw place (place-from 1 n (list_of q) (omega arith) (λ none. omega (arith, place, none))) in
+        let back : suc i - 1 ≡ i = omega arith in
+        rw back at there.found
 
-    found : Found n (list_of q) (k - 1)
-    found = there.found
-
-    pub place-some : 1 ≤ k
-    place-some = there.low
-
-    pub place-low : k - 1 < q.count
+    pub place-low : i < q.count
     place-low = omega (arith, found.inside, whole)
 
-    pub lists-put : (t : Task) → t.name ≡ n → Lists (record { count = q.count; list = set q.list (k - 1) t }) (replaced by_name t (list_of q))
+    pub lists-put : (t : Task) → t.name ≡ n → Lists (record { count = q.count; list = set q.list i t }) (replaced by_name t (list_of q))
     lists-put t name = record {
-      count = sym (ap length (found.put t name) ∙ length-set (list_of q) (k - 1) t ∙ whole);
-      items = take-set-lt q.count q.list (k - 1) t place-low ∙ sym (found.put t name);
+      count = sym (ap length (found.put t name) ∙ length-set (list_of q) i t ∙ whole);
+      items = take-set-lt q.count q.list i t place-low ∙ sym (found.put t name);
     }
 
-    pub lists-less : (r : Tasks) → Lists r (removed (k - 1) (list_of q)) → Lists r (without by_name n (list_of q))
+    pub lists-less : (r : Tasks) → Lists r (removed i (list_of q)) → Lists r (without by_name n (list_of q))
     lists-less r ok = rw found.less ok
 
--- ---- one less: what stands behind place i moves up, j of them so far
+-- ---- one less: what stands behind place i moves up
 
-removed-snoc : (i : ℕ) (l : List Task) (a : Task) → i < length l → removed i (l ++ (a ∷ [])) ≡ removed i l ++ (a ∷ [])
-removed-snoc i l a low =
-    ap (λ (x : List Task). x ++ drop (suc i) (l ++ (a ∷ []))) (take-append-le i l (a ∷ []) (omega arith))
-    ∙ ap (λ (x : List Task). take i l ++ x) (drop-append-le (suc i) l (a ∷ []) low)
-    ∙ sym (append_assoc (take i l) (drop (suc i) l) (a ∷ []))
-
-module _ (l : List Task) (i : ℕ) where
-  pub remove-none : i < length l → take i l ≡ removed i (take (i + 1) l)
-  remove-none room =
-      let none : drop (suc i) (take (i + 1) l) ≡ [] = drop_of_length-le (take (i + 1) l) {i = suc i} (omega (arith, length-take (i + 1) l)) in
-      rw (none, append-nil, take-take i (i + 1) l (omega arith))
-
-  pub remove-more : (next : List Task) (j : ℕ) (d : Task) → i ≤ j → j + 1 < length l → j < length next → take j next ≡ removed i (take (j + 1) l)
-      → take (j + 1) (set next j (get_or l (j + 1) d)) ≡ removed i (take (j + 1 + 1) l)
-  remove-more next j d low room space so =
-      let a = get_or l (j + 1) d in
-      let front = take (j + 1) l in
-      let size : length front ≡ j + 1 = length-take-le (j + 1) l (omega arith) in
-      let one : take (j + 1 + 1) l ≡ front ++ (a ∷ []) = rw add-one (take-suc l (j + 1) d room) in
-      ap (λ (m : ℕ). take m (set next j a)) (add-one j) ∙ take-suc-set next j a space ∙ ap (λ (x : List Task). x ++ (a ∷ [])) so
-      ∙ sym (removed-snoc i front a (omega arith)) ∙ ap (removed i) (sym one)
-
-pub lists-removed : (q : Tasks) (i j last : ℕ) (next : List Task) → length q.list ≡ tasks_most → q.count ≤ tasks_most → i < q.count
-    → j ≡ last → last + 1 ≡ q.count
-    → take j next ≡ removed i (take (j + 1) q.list) → Lists (record { count = last; list = next }) (removed i (list_of q))
-lists-removed q i j last next long few low there end so =
-    let all : j + 1 ≡ q.count = omega arith in
+pub lists-removed : (q : Tasks) (i : ℕ) (next : List Task) → length q.list ≡ tasks_most → q.count ≤ tasks_most → i < q.count
+    → next ≡ copy_within q.list (i + 1) q.count i → Lists (record { count = q.count - 1; list = next }) (removed i (list_of q))
+lists-removed q i next long few low is =
+    let n = q.count in
+    let back : take (n - (i + 1)) (drop (i + 1) q.list) ≡ drop (suc i) (take n q.list) =
+    (let e : i + 1 + (n - (i + 1)) ≡ n = omega arith in sym (drop-take (i + 1) (n - (i + 1)) q.list) ∙ rw (e, add-one)) in
+    let front : take i q.list ≡ take i (take n q.list) = sym (take-take i n q.list (omega arith)) in
+    let made : next ≡ removed i (list_of q) ++ drop (i + (n - (i + 1))) q.list =
+    is ∙ rw (front, back) in
+    let size : length (removed i (list_of q)) ≡ n - 1 =
+    omega (arith, length-append (take i (list_of q)) (drop (suc i) (list_of q)), length-take i (list_of q), length-drop (suc i) (list_of q), length-take n q.list) in
     record {
-      count =
-          omega (
-            arith,
-            whole q long few,
-            length-append (take i (list_of q)) (drop (suc i) (list_of q)),
-            length-take i (list_of q),
-            length-drop (suc i) (list_of q),
-          );
-      items = ap (λ (n : ℕ). take n next) (sym there) ∙ so ∙ ap (λ (n : ℕ). removed i (take n q.list)) all;
+      count = sym size;
+      items =
+          rw made
+          (take-append-le (n - 1) (removed i (list_of q)) (drop (i + (n - (i + 1))) q.list) (omega (arith, size))
+          ∙ take_all (n - 1) (removed i (list_of q)) (omega (arith, size)));
     }

@@ -25,7 +25,7 @@ use Rattle.task.specs.Refusals.{TaskNamed}
 use Rattle.task.proofs.RefusalLaws.{comes-rule, form-breaks, place-breaks, state-comes}
 use Rattle.walks.specs.Edits.{add, withdraw, retime, edited}
 use Rattle.plan.specs.declared.Plan.{Plan}
-use Rattle.plan.specs.declared.Reply.{Reply}
+use Rattle.plan.specs.Reply.{Reply}
 use Rattle.plan.specs.Plan.{plan_of}
 use Rattle.plan.specs.Refusals.{walk_table}
 use Rattle.plan.proofs.RefusalLaws.{walk-comes}

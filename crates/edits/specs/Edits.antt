@@ -5,6 +5,7 @@
 --   tasks_held s          the tasks that the state s holds
 --   edit_fault e ts       what is wrong with the edit e of the tasks ts before any walk: 8, then 3, then 4 or 5, then 6; or 0
 --   edit_of e s           the answer: the state's own faults first, then the edit's, then 7; each gives the state back; else the new plan
+--   edit_reply r s           the answer that the result r is, with the plan s that it leaves
 --   SameAnswer x y       the answers x and y are the same, and so are their plans where they are accepted
 --   afresh s             the plan worked out afresh from the state's machine, costs and task list
 --   Afresh s             the state is that plan, also past its counts: so is every plan that is answered
@@ -12,7 +13,7 @@
 --   Held s               a held plan: its rows and words are exactly those of the walk over its own machine, costs and task list; a row is what the walk
 --                        placed on the core, and a word has a bit for each task that it placed something of there, and no other
 --   played es s          the state after the edits es, refusals among them
-use Rattle.std.specs.Prelude.{◌≡◌, Bool, cond, not, ◌↔◌, List, [], ◌∷◌, map, ℕ, zero, suc, ◌≤◌, ◌<◌, eqb, ltb, length, get_or}
+use Rattle.std.specs.Prelude.{◌≡◌, Bool, cond, not, ◌↔◌, List, [], ◌∷◌, map, ℕ, zero, suc, ◌≤◌, ◌<◌, eqb, ltb, length, get_or, Result, Ok, Err}
 use Rattle.demand.specs.Sizes.{sized}
 use Rattle.demand.specs.Tables.{Kept}
 use Rattle.task.specs.declared.Name.{Name}
@@ -24,8 +25,10 @@ use Rattle.walks.specs.Way.{Placed, fine, on_core}
 use Rattle.walks.specs.Edits.{Keyed, Edit, add, withdraw, retime, edited}
 use Rattle.walks.specs.Halves.{Stand}
 use Rattle.plan.specs.declared.Stored.{Stored}
+use Rattle.task.specs.Faults.{number_of}
 use Rattle.plan.specs.declared.Plan.{Plan}
-use Rattle.plan.specs.declared.Reply.{Reply}
+use Rattle.task.specs.declared.faults.Refused.{Refused}
+use Rattle.plan.specs.Reply.{Reply}
 use Rattle.plan.specs.Walk.{walked}
 use Rattle.plan.specs.Layout.{blank}
 use Rattle.plan.specs.Plan.{plan_of}
@@ -97,6 +100,11 @@ pub record SameAnswer (x y : Reply) : Type 0 where
 
 abbrev pub accepted : Plan → Reply
 accepted s = record { number = 0; carries = 0; plan = s }
+
+-- the code's result and the plan that it leaves, as an answer: where it is refused, the plan is the state
+abbrev pub edit_reply : Result Unit Refused → Plan → Reply
+edit_reply (Ok done) s = accepted s
+edit_reply (Err r) s = given_back s (number_of r.fault) r.carries
 
 abbrev pub afresh : Plan → Reply
 afresh s = plan_of s.machine s.costs s.tasks.count s.tasks.list

@@ -22,7 +22,7 @@ use Rattle.task.specs.Names.{name_most, same_bytes}
 use Rattle.walks.specs.Edits.{add, withdraw, retime}
 use Rattle.plan.specs.declared.Stored.{Stored}
 use Rattle.plan.specs.declared.Plan.{Plan}
-use Rattle.plan.specs.declared.Reply.{Reply}
+use Rattle.plan.specs.Reply.{Reply}
 use Rattle.plan.specs.Walk.{upto}
 use Rattle.plan.specs.Layout.{none}
 use Rattle.plan.specs.Plan.{plan_of}

@@ -1,62 +1,46 @@
 // What is wrong with an edit of a list of tasks, and the list after it.
 ghost use Rattle.std.specs.Prelude.{◌≡◌, ◌<◌, ◌≤◌};
+ghost use Rattle.task.specs.Faults.{fault_number};
 ghost use Rattle.task.specs.Tasks.{list_of, tasks_most};
 ghost use Rattle.walks.specs.Edits.{add, withdraw, retime, edited};
 ghost use Rattle.edits.specs.Edits.{by_name, edit_fault};
 ghost use Rattle.edits.specs.Ways.ListInArray.{Lists, removed};
 
-use task::{Name, TASKS_MOST, Task, Tasks, place_of, well_formed, whole_piece};
+use task::{Fault, Name, TASKS_MOST, Task, Tasks, own_fault, place_of, task_fault, well_formed};
 
-// What is wrong with a task to add: 8, then 3, then 4, then 6, or 0.
-pub fn add_fault(task: Task, tasks: Tasks) -> u64
-    ensures { result ≡ edit_fault (add task) (list_of tasks) }
+// What is wrong with a task to add: what is wrong with it below those held, then that there are 64.
+pub fn add_fault(task: Task, tasks: Tasks) -> Result<(), Fault>
+    ensures { fault_number result ≡ edit_fault (add task) (list_of tasks) }
 {
-    let name = task.name;
-    let times = task.times;
-    if !well_formed(name) {
-        return 8;
-    }
-    if !demand::within_sizes(whole_piece(times)) {
-        return 3;
-    }
-    if place_of(name, tasks) != 0 {
-        return 4;
-    }
+    task_fault(tasks.held(), task)?;
     if TASKS_MOST <= tasks.count {
-        return 6;
+        return Err(Fault::TooMany);
     }
-    0
+    Ok(())
 }
 
-// What is wrong with a name to withdraw: 8, then 5, or 0.
-pub fn withdraw_fault(name: Name, tasks: Tasks) -> u64
-    ensures { result ≡ edit_fault (withdraw name) (list_of tasks) }
+// What is wrong with a name to withdraw: its form, then that no task has it.
+pub fn withdraw_fault(name: Name, tasks: Tasks) -> Result<(), Fault>
+    ensures { fault_number result ≡ edit_fault (withdraw name) (list_of tasks) }
 {
     if !well_formed(name) {
-        return 8;
+        return Err(Fault::Form);
     }
-    if place_of(name, tasks) == 0 {
-        return 5;
+    if place_of(name, tasks).is_none() {
+        return Err(Fault::Unknown);
     }
-    0
+    Ok(())
 }
 
-// What is wrong with a task of other times: 8, then 3, then 5, or 0.
-pub fn retime_fault(task: Task, tasks: Tasks) -> u64
-    ensures { result ≡ edit_fault (retime task) (list_of tasks) }
+// What is wrong with a task of other times: what is wrong with it by itself, then that no task has its name.
+pub fn retime_fault(task: Task, tasks: Tasks) -> Result<(), Fault>
+    ensures { fault_number result ≡ edit_fault (retime task) (list_of tasks) }
 {
-    let name = task.name;
-    let times = task.times;
-    if !well_formed(name) {
-        return 8;
+    own_fault(task)?;
+    if place_of(task.name, tasks).is_none() {
+        return Err(Fault::Unknown);
     }
-    if !demand::within_sizes(whole_piece(times)) {
-        return 3;
-    }
-    if place_of(name, tasks) == 0 {
-        return 5;
-    }
-    0
+    Ok(())
 }
 
 // One more at the end.
@@ -64,10 +48,9 @@ pub fn append(tasks: Tasks, task: Task) -> Tasks
     requires { (tasks.count ≤ tasks_most) × (edit_fault (add task) (list_of tasks) ≡ 0) }
     ensures { Lists result (edited by_name (add task) (list_of tasks)) }
 {
-    let n = tasks.count;
     let mut next = tasks;
-    next.list[n] = task;
-    next.count = n + 1;
+    next.list[tasks.count] = task;
+    next.count += 1;
     next
 }
 
@@ -76,11 +59,9 @@ pub fn replace(tasks: Tasks, task: Task) -> Tasks
     requires { (tasks.count ≤ tasks_most) × (edit_fault (retime task) (list_of tasks) ≡ 0) }
     ensures { Lists result (edited by_name (retime task) (list_of tasks)) }
 {
-    let name = task.name;
-    let k = place_of(name, tasks);
-    let i = k - 1;
+    let place = place_of(task.name, tasks).unwrap();
     let mut next = tasks;
-    next.list[i] = task;
+    next.list[place] = task;
     next
 }
 
@@ -89,15 +70,9 @@ pub fn close_up(tasks: Tasks, i: usize) -> Tasks
     requires { (tasks.count ≤ tasks_most) × (i < tasks.count) }
     ensures { Lists result (removed i (list_of tasks)) }
 {
-    let last = tasks.count - 1;
     let mut next = tasks;
-    let mut j = i;
-    while j < last {
-        let behind = tasks.list[j + 1];
-        next.list[j] = behind;
-        j += 1;
-    }
-    next.count = last;
+    next.list.copy_within(i + 1..tasks.count, i);
+    next.count -= 1;
     next
 }
 
@@ -106,7 +81,6 @@ pub fn remove(tasks: Tasks, name: Name) -> Tasks
     requires { (tasks.count ≤ tasks_most) × (edit_fault (withdraw name) (list_of tasks) ≡ 0) }
     ensures { Lists result (edited by_name (withdraw name) (list_of tasks)) }
 {
-    let k = place_of(name, tasks);
-    let i = k - 1;
-    close_up(tasks, i)
+    let place = place_of(name, tasks).unwrap();
+    close_up(tasks, place)
 }

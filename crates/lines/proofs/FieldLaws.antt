@@ -5,26 +5,31 @@
 --   unled-short, unled-long                     whether a zero leads
 --   digits-small, digits_more                   how large so many digits can be
 --   number_short, -long, -led, -other, -yes     what the answer on a number is
---   number_ok, number-value                     what the answer says
---   name-more, name-cut, name-all               a name's bytes, one on
-use mathlib.Core.Path.{◌≡◌, refl, ◌∙◌}
+--   number_cases                                the set of these
+--   name-laid                                   a name's bytes in their 24 places
+--   name-short                                  a name has at most 24 bytes
+--   name-long, -bad, -good, name_cases          what the answer on a name is; the set of these
+use mathlib.Core.Path.{◌≡◌, refl, sym}
 use mathlib.Core.Bool.{Bool, true, false, cond, not, ◌&&◌, and-false}
-use mathlib.Core.List.{List, [], ◌∷◌}
+use mathlib.Core.List.{List, [], ◌∷◌, ◌++◌}
 use Prim.Native.Nat.{ℕ, suc, ◌+◌, ◌-◌, ◌*◌, ◌^◌, ◌≤◌, ◌<◌}
-use native.Mathlib.Nat.{pow-suc, pow-le-pow_right, le_of_lt}
+use native.Mathlib.Nat.{pow-suc, pow-le-pow_right}
+use native.Mathlib.Decide.{dec_le}
 use native.Mathlib.Numerals.{add-one}
 use native.Mathlib.Omega.{arith}
 use borrow.Author.Tests.{le-leb, lt-leb, leb-true}
 use lib.Dec.{leb, eqb, lit<}
-use lib.ListN.{length, take, drop, get_or, set, drop_of_length-le}
-use lib.Seq.{drop-cons, take-suc, take_all, length-take-le}
-use Rattle.lines.specs.declared.Number.{Number}
-use Rattle.lines.specs.Lines.{is_digit, every, unled, is_number, value_from, value_of, name_of}
+use lib.ListN.{length, drop, get_or, replicate, drop_of_length-le}
+use lib.Seq.{drop-cons}
+use Rattle.std.proofs.Common.{Some, None}
+use Rattle.std.proofs.lemmas.List.{drop-replicate}
 use Rattle.demand.specs.Lists.{padded}
-use Rattle.task.specs.Names.{name_most}
-use Rattle.lines.specs.Ways.NumbersRead.{no_number, number_of}
 use Rattle.demand.proofs.Tests.{both_left, both_right}
-use Rattle.demand.proofs.PaddedLaws.{padded-put, padded-cut}
+use Rattle.demand.proofs.PaddedLaws.{padded-length, padded-append}
+use Rattle.task.specs.Names.{name_most, formed, spelt}
+use Rattle.task.proofs.NameLaws.{spelt-long}
+use Rattle.lines.specs.Lines.{is_digit, every, unled, is_number, value_from, value_of, name_of, is_name, name_in}
+use Rattle.lines.specs.Forms.{number_in}
 
 -- ---- digits, one on
 
@@ -65,53 +70,61 @@ unled-long (d ∷ e ∷ f) long = refl
 -- ---- the answer on a number
 
 module _ (f : List ℕ) where
-  pub number_short : length f < 1 → no_number ≡ number_of f
-  unfolding number_of is_number
+  pub number_short : length f < 1 → number_in f ≡ None
+  unfolding number_in is_number
   number_short short = simp (lt-leb 1 (length f) short)
 
-  pub number-long : 7 < length f → no_number ≡ number_of f
-  unfolding number_of is_number
+  pub number-long : 7 < length f → number_in f ≡ None
+  unfolding number_in is_number
   number-long long = simp (lt-leb (length f) 7 long, and-false)
 
-  pub number-led : unled f ≡ false → no_number ≡ number_of f
-  unfolding number_of is_number
+  pub number-led : unled f ≡ false → number_in f ≡ None
+  unfolding number_in is_number
   number-led led = simp (led, and-false)
 
-  pub number-other : every is_digit f ≡ false → no_number ≡ number_of f
-  unfolding number_of is_number
+  pub number-other : every is_digit f ≡ false → number_in f ≡ None
+  unfolding number_in is_number
   number-other other = simp (other, and-false)
 
-  pub number-yes : (v : ℕ) → 1 ≤ length f → length f ≤ 7 → unled f ≡ true → every is_digit f ≡ true → v ≡ value_of f
-      → record { ok = true; value = v } ≡ number_of f
-  unfolding number_of is_number
+  pub number-yes : (v : ℕ) → 1 ≤ length f → length f ≤ 7 → unled f ≡ true → every is_digit f ≡ true → v ≡ value_of f → number_in f ≡ Some v
+  unfolding number_in is_number
   number-yes v some few plain digits value = simp (le-leb 1 (length f) some, le-leb (length f) 7 few, plain, digits, value)
 
-  pub number_ok : (x : Number) → x ≡ number_of f → is_number f ≡ x.ok
-  unfolding number_of
-  number_ok x e = rw e (by_form (is_number f))
+pub ruleset number_cases = (every-at, every-end, value-end, number_short, number-long, number-led, number-other, number-yes)
+
+-- ---- names
+
+-- the bytes in a name's 24 places, zeros behind them
+pub name-laid : (f : List ℕ) → length f ≤ name_most → f ++ drop (length f) (replicate name_most 0) ≡ padded name_most 0 f
+name-laid f fits = rw (drop-replicate {X = ℕ} (length f) name_most 0) (sym (padded-append 0 name_most f fits))
+
+pub name-short : (f : List ℕ) → is_name f ≡ true → length f ≤ name_most
+unfolding is_name formed name_of
+name-short f good =
+    elim (dec_le (length f) name_most) [
+      | yes short ↦ short
+      | no long ↦
+          let bad = spelt-long (length f) (padded name_most 0 f) (omega (arith, padded-length 0 name_most f)) in
+          let some = both_right (leb 1 (length f)) (spelt (length f) (padded name_most 0 f)) good in
+          let z : ◌≡◌ {A = ℕ} 0 1 = cc (bad, some) in
+          absurd (omega arith)
+    ]
+
+module _ (f : List ℕ) where
+  pub name-long : name_most < length f → name_in f ≡ None
+  name-long long = by (is_name f) refl
     where
-      by_form : (b : Bool) → b ≡ (cond {A = Number} b (record { ok = true; value = value_of f }) no_number).ok
-      by_form true = refl
-      by_form false = refl
+      by : (t : Bool) → is_name f ≡ t → cond t (Some (name_of f)) None ≡ None
+      by true good = absurd (omega (arith, name-short f good))
+      by false bad = refl
 
-  pub number-value : (x : Number) → x ≡ number_of f → x.ok ≡ true → x.value ≡ value_of f
-  unfolding number_of
-  number-value x e t = let h : is_number f ≡ true = number_ok x e ∙ t in rw e (simp h)
+  module _ (bytes : List ℕ) (laid : bytes ≡ padded name_most 0 f) where
+    pub name-bad : formed (record { len = length f; bytes = bytes }) ≡ false → name_in f ≡ None
+    unfolding is_name name_of
+    name-bad bad = rw (rw laid at bad)
 
--- ---- a name's bytes, one on
+    pub name-good : formed (record { len = length f; bytes = bytes }) ≡ true → name_in f ≡ Some (record { len = length f; bytes = bytes })
+    unfolding is_name name_of
+    name-good good = rw (rw laid at good, laid)
 
-module _ (f bytes : List ℕ) (i : ℕ) (so_far : bytes ≡ padded name_most 0 (take i f)) where
-  pub name-more : i < length f → i < name_most → set bytes i (get_or f i 0) ≡ padded name_most 0 (take (i + 1) f)
-  name-more low room =
-      let long : length (take i f) ≡ i = length-take-le i f (le_of_lt low) in
-      let put = padded-put 0 name_most (take i f) (get_or f i 0) (omega arith) in
-      rw (so_far, add-one i, take-suc f i 0 low) (rw long at put)
-
-  pub name-all : length f ≤ i → record { len = length f; bytes = bytes } ≡ name_of f
-  unfolding name_of
-  name-all short = rw (so_far, take_all i f short)
-
-  -- what stands past the 24th byte is left out
-  pub name-cut : i ≡ name_most → record { len = length f; bytes = bytes } ≡ name_of f
-  unfolding name_of
-  name-cut full = rw (so_far, full, padded-cut)
+pub ruleset name_cases = (name-laid, name-long, name-bad, name-good)

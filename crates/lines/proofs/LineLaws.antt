@@ -1,38 +1,40 @@
--- Laws of runs and of equal bytes.
+-- Laws of runs, and of bytes that are not equal.
 -- Assumes nothing.
 --
---   run-other, run-here, run_end        a run, one byte on
---   rest, rest-drop, -length, -rest            what a slice from a place on holds
---   run-le, -take, -whole, -last, -more the same of a run whose end is known
+--   run-place, run-found, run-none      where a run ends, by the place of its byte
+--   kept-some, kept-none                what is kept where a test holds, and else nothing
+--   rest-none, rest-some                what stands beyond a run, if anything does
+--   other-length, other-byte            bytes that are not equal; word_cases: the set of these
 use mathlib.Core.Path.{◌≡◌, refl, sym, ap, ◌∙◌}
 use mathlib.Core.Bool.{Bool, true, false, cond, and-false}
 use mathlib.Core.List.{List, [], ◌∷◌}
-use Prim.Native.Nat.{ℕ, suc, ◌+◌, ◌-◌, ◌≤◌, ◌<◌}
+use Prim.Native.Nat.{ℕ, zero, suc, ◌+◌, ◌≤◌, ◌<◌}
 use native.Mathlib.Numerals.{add-one}
 use native.Mathlib.Omega.{arith}
-use borrow.Author.Tests.{eq-eqb, ne_eqb}
-use lib.Dec.{eqb}
-use lib.ListN.{length, take, drop, get_or, length-drop, drop_of_length-le}
-use lib.Seq.{drop-cons, drop-drop, take_all}
+use borrow.Author.Tests.{ltb-true, ltb-false, ne_eqb}
+use lib.Dec.{eqb, ltb}
+use lib.ListN.{length, take, drop, get_or}
+use lib.Seq.{take_all}
+use Rattle.std.proofs.Common.{Option, Some, None, is_some, Bor}
+use Rattle.std.specs.List.{position, position_or_len}
+use Rattle.std.proofs.lemmas.List.Recursion.{is_position_or_len}
 use Rattle.task.specs.Names.{same_bytes}
-use Rattle.lines.specs.Lines.{up_to, beyond}
+use Rattle.lines.specs.Lines.{up_to, beyond, runs_in}
 
--- ---- runs
+-- ---- where a run ends
 
-module _ (b : ℕ) (s : List ℕ) (i : ℕ) where
-  pub run-other : i < length s → (get_or s i 0 ≡ b → ⊥) → length (up_to b (drop i s)) ≡ 1 + length (up_to b (drop (i + 1) s))
-  unfolding up_to
-  run-other more other = rw (add-one, drop-cons s i 0 more, ne_eqb (get_or s i 0) b other) (omega arith)
+pub run-place : (b : ℕ) (s : List ℕ) → length (up_to b s) ≡ position_or_len (λ x. eqb x b) s
+unfolding up_to
+run-place b s = is_position_or_len (λ l. length (up_to b l)) (λ x. eqb x b) refl step s
+  where
+    step : (x : ℕ) (xs : List ℕ) → length (up_to b (x ∷ xs)) ≡ cond (eqb x b) 0 (1 + length (up_to b xs))
+    step x xs = by-test (eqb x b)
+      where
+        by-test : (t : Bool) → length (cond t [] (x ∷ up_to b xs)) ≡ cond t 0 (1 + length (up_to b xs))
+        by-test true = refl
+        by-test false = omega arith
 
-  pub run-here : i < length s → get_or s i 0 ≡ b → length (up_to b (drop i s)) ≡ 0
-  unfolding up_to
-  run-here more here = rw (drop-cons s i 0 more, eq-eqb (get_or s i 0) b here)
-
-  pub run_end : length s ≤ i → length (up_to b (drop i s)) ≡ 0
-  unfolding up_to
-  run_end short = rw (drop_of_length-le s {i = i} short)
-
--- where a run ends, by the byte that stands there
+-- a run and its length, by the byte that stands there
 abbrev Run : ℕ → List ℕ → Type 0
 Run b s = (take (length (up_to b s)) s ≡ up_to b s) × (length (up_to b s) ≤ length s)
 
@@ -45,16 +47,6 @@ run_of b (x ∷ s) = by-test (eqb x b) (run_of b s)
         × (length (cond t [] (x ∷ up_to b s)) ≤ length (x ∷ s))
     by-test true r = (refl, omega arith)
     by-test false r = (ap (λ (l : List ℕ). x ∷ l) r.0, omega (arith, r.1))
-
-module _ (b : ℕ) (s : List ℕ) where
-  up-to-take : take (length (up_to b s)) s ≡ up_to b s
-  up-to-take = (run_of b s).0
-
-  up-to-le : length (up_to b s) ≤ length s
-  up-to-le = (run_of b s).1
-
-up-to-whole : (b : ℕ) (s : List ℕ) → length s ≤ length (up_to b s) → up_to b s ≡ s
-up-to-whole b s whole = sym (up-to-take b s) ∙ take_all (length (up_to b s)) s whole
 
 beyond-none : (b : ℕ) (s : List ℕ) → length s ≤ length (up_to b s) → beyond b s ≡ []
 unfolding beyond up_to
@@ -80,47 +72,62 @@ beyond-some b (x ∷ s) short = by-test (eqb x b) (λ h. beyond-some b s h) shor
     by-test true h w = refl
     by-test false h w = rw (add-one (suc (length (up_to b s)))) (rw (add-one (length (up_to b s))) at (h (omega arith)))
 
--- ---- a slice from a place on
+-- ---- what is kept where a test holds, and else nothing
 
-abbrev pub rest : List ℕ → ℕ → List ℕ
-rest s at = take (length s - at) (drop at s)
+module _ {A : Type 0} where
+  pub kept-some : (t : Bool) (x y : A) → cond t (Some x) None ≡ Some y → (t ≡ true) × (x ≡ y)
+  kept-some true x y e = (refl, cc)
+  kept-some false x y e = absurd (let z : ◌≡◌ {A = ℕ} 0 1 = cc in omega arith)
 
-pub rest-drop : (s : List ℕ) (at : ℕ) → rest s at ≡ drop at s
-rest-drop s at = take_all (length s - at) (drop at s) (rw length-drop (omega arith))
+  pub kept-none : (t : Bool) (x : A) → cond t (Some x) None ≡ None → t ≡ false
+  kept-none true x e = absurd (let z : ◌≡◌ {A = ℕ} 0 1 = cc in omega arith)
+  kept-none false x e = refl
 
-pub rest-length : (s : List ℕ) (at : ℕ) → length (rest s at) ≡ length s - at
-rest-length s at = ap length (rest-drop s at) ∙ length-drop at s
+-- ---- what stands beyond a run, if anything does
 
--- what stands behind a run and the byte that ends it
-pub rest-rest : (s : List ℕ) (at e : ℕ) → rest (rest s at) (e + 1) ≡ rest s (at + e + 1)
-rest-rest s at e =
-    let place : at + (e + 1) ≡ at + e + 1 = omega arith in
-    rw (rest-drop (rest s at) (e + 1), rest-drop s at, rest-drop s (at + e + 1), drop-drop, place)
+pub rest-none : (r : Option (Bor (List ℕ))) → is_some r ≡ false → r ≡ None
+rest-none None e = refl
+rest-none (Some x) e = absurd (let z : ◌≡◌ {A = ℕ} 0 1 = cc in omega arith)
 
--- ---- a run that ends at e, as slices have it
+pub rest-some : (b : ℕ) (r : Option (Bor (List ℕ))) → is_some r ≡ true → (f : List ℕ) × (fs : List (List ℕ)) × (runs_in b r ≡ f ∷ fs)
+rest-some b None e = absurd (let z : ◌≡◌ {A = ℕ} 0 1 = cc in omega arith)
+rest-some b (Some x) e = (up_to b x.now, beyond b x.now, refl)
 
-module _ (b : ℕ) (s : List ℕ) (e : ℕ) (run : e ≡ length (up_to b s)) where
-  pub run-le : e ≤ length s
-  run-le = omega (arith, up-to-le b s)
+-- ---- a run that is looked for by its byte's place
 
-  pub run_take : take e s ≡ up_to b s
-  run_take = rw run (up-to-take b s)
+module _ (b : ℕ) (s : List ℕ) (r : Option ℕ) (place : r ≡ position (λ x. eqb x b) s) where
+  placed : r ≡ cond (ltb (length (up_to b s)) (length s)) (Some (length (up_to b s))) None
+  placed = rw run-place place
 
-  -- the only run
-  pub run-whole : length s ≤ e → up_to b s ≡ s
-  run-whole whole = up-to-whole b s (omega arith)
+  ends : (e : ℕ) → r ≡ Some e → (e ≡ length (up_to b s)) × (e < length s)
+  ends e found =
+      let z = kept-some (ltb (length (up_to b s)) (length s)) (length (up_to b s)) e (sym placed ∙ found) in
+      (sym z.1, omega (arith, ltb-true (length (up_to b s)) (length s) z.0, z.1))
 
-  pub run-last : length s ≤ e → beyond b s ≡ []
-  run-last whole = beyond-none b s (omega arith)
+  pub run-found : (e : ℕ) → r ≡ Some e → (take e s ≡ up_to b s) × (e < length s)
+      × (beyond b s ≡ up_to b (drop (e + 1) s) ∷ beyond b (drop (e + 1) s))
+  run-found e found =
+      let z = ends e found in
+      (rw z.0 (run_of b s).0, z.1, rw z.0 (beyond-some b s (omega (arith, z.0, z.1))))
 
-  -- one with others beyond it
-  pub run_more : e < length s → beyond b s ≡ up_to b (rest s (e + 1)) ∷ beyond b (rest s (e + 1))
-  run_more more = rw (rest-drop s (e + 1), run) (beyond-some b s (omega arith))
+  pub run-none : r ≡ None → (s ≡ up_to b s) × (beyond b s ≡ [])
+  run-none none =
+      let whole : length s ≤ length (up_to b s) =
+      ltb-false (length (up_to b s)) (length s) (kept-none (ltb (length (up_to b s)) (length s)) (length (up_to b s)) (sym placed ∙ none)) in
+      (sym (take_all (length (up_to b s)) s whole) ∙ (run_of b s).0, beyond-none b s whole)
 
--- ---- equal bytes
+-- ---- bytes that are not equal
 
-pub same-lengths : (as' bs : List ℕ) → (length as' ≡ length bs → ⊥) → same_bytes as' bs ≡ false
-same-lengths [] [] h = absurd (h refl)
-same-lengths [] (b ∷ bs) h = refl
-same-lengths (a ∷ as') [] h = refl
-same-lengths (a ∷ as') (b ∷ bs) h = rw (same-lengths as' bs (λ e. h (ap suc e))) (and-false (eqb a b))
+pub other-length : (f w : List ℕ) → (length f ≡ length w → ⊥) → same_bytes f w ≡ false
+other-length [] [] h = absurd (h refl)
+other-length [] (y ∷ w) h = refl
+other-length (x ∷ f) [] h = refl
+other-length (x ∷ f) (y ∷ w) h = rw (other-length f w (λ e. h (ap suc e)), and-false)
+
+pub other-byte : (f w : List ℕ) (i : ℕ) → i < length f → i < length w → (get_or f i 0 ≡ get_or w i 0 → ⊥) → same_bytes f w ≡ false
+other-byte [] w i low room h = absurd (omega arith)
+other-byte (x ∷ f) [] i low room h = absurd (omega arith)
+other-byte (x ∷ f) (y ∷ w) zero low room h = rw (ne_eqb x y h)
+other-byte (x ∷ f) (y ∷ w) (suc i) low room h = rw (other-byte f w i (omega arith) (omega arith) h, and-false)
+
+pub ruleset word_cases = (other-length, other-byte)

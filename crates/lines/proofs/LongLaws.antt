@@ -13,15 +13,15 @@ use lib.Dec.{leb, eqb}
 use lib.ListN.{length}
 use Rattle.task.specs.Names.{between, same_bytes}
 use Rattle.task.proofs.NameLaws.{same-bytes-exact}
-use Rattle.lines.specs.declared.Line.{Line}
-use Rattle.lines.specs.declared.Deed.{Deed}
-use Rattle.lines.specs.Lines.{bytes_of, tab, up_to, beyond, is_digit, every, unled, is_number, digits_most, name_of, is_name}
-use Rattle.task.specs.Tasks.{task_of}
-use Rattle.lines.specs.Forms.{untimed, no_line, part_line, times_of, numbered, values, part_form}
-use Rattle.lines.specs.declared.Order.{Order}
-use Rattle.lines.specs.Orders.{no_order, for_part, timed_form, withdraw_form, list_form, deed_of, order_form, order_of}
+use Rattle.std.proofs.Common.{Some, None}
+use Rattle.std.specs.Option.{option_map}
 use Rattle.demand.proofs.Tests.{both_left, both_right}
-use Rattle.lines.proofs.SaysLaws.{name-short}
+use Rattle.lines.specs.declared.orders.Deed.{Deed}
+use Rattle.lines.specs.declared.Order.{Order}
+use Rattle.lines.specs.Lines.{bytes_of, tab, up_to, beyond, is_digit, every, unled, is_number, digits_most, name_of, is_name}
+use Rattle.lines.specs.Forms.{times_of, numbered, values, part_form}
+use Rattle.lines.specs.Orders.{named_as, timed_form, withdraw_form, list_form, deed_of, order_form, order_of}
+use Rattle.lines.proofs.FieldLaws.{name-short, name-long}
 
 abbrev pub order_most : ℕ
 order_most = 79
@@ -60,15 +60,13 @@ numbers-span (f ∷ fs) good =
 
 -- ---- the forms
 
-timed-long : (d : Deed) (fs : List (List ℕ)) → 73 < span fs → timed_form d fs ≡ no_order
+timed-long : (fs : List (List ℕ)) → 73 < span fs → timed_form fs ≡ None
 unfolding timed_form part_form
-timed-long d [] long = refl
-timed-long d (f ∷ fs) long = by-test (is_name f && numbered 6 fs) refl
+timed-long [] long = refl
+timed-long (f ∷ fs) long = by-test (is_name f && numbered 6 fs) refl
   where
-    line : Bool → Line
-    line t = cond t (part_line (record { name = name_of f; times = times_of (values fs) })) no_line
-
-    by-test : (t : Bool) → (is_name f && numbered 6 fs) ≡ t → for_part d (line t).word (line t).part ≡ no_order
+    by-test : (t : Bool) → (is_name f && numbered 6 fs) ≡ t
+        → option_map named_as (cond t (Some (record { name = name_of f; times = times_of (values fs) })) None) ≡ None
     by-test true e =
         let six = both_right (is_name f) (numbered 6 fs) e in
         let many : length fs ≡ 6 = eqb-true (length fs) 6 (both_left (eqb (length fs) 6) (every is_number fs) six) in
@@ -80,24 +78,20 @@ timed-long d (f ∷ fs) long = by-test (is_name f && numbered 6 fs) refl
         ))
     by-test false e = refl
 
-withdraw-long : (fs : List (List ℕ)) → 25 < span fs → withdraw_form fs ≡ no_order
+withdraw-long : (fs : List (List ℕ)) → 25 < span fs → withdraw_form fs ≡ None
 unfolding withdraw_form
 withdraw-long [] long = refl
-withdraw-long (f ∷ []) long = by-test (is_name f) refl
-  where
-    by-test : (t : Bool) → is_name f ≡ t → cond {A = Order} t (record { deed = Deed.Withdraw; task = task_of (name_of f) (untimed (name_of f)) }) no_order ≡ no_order
-    by-test true e = absurd (omega (arith, name-short f e))
-    by-test false e = refl
+withdraw-long (f ∷ []) long = name-long f (omega arith)
 withdraw-long (f ∷ g ∷ fs) long = refl
 
-list-long : (fs : List (List ℕ)) → 0 < span fs → list_form fs ≡ no_order
+list-long : (fs : List (List ℕ)) → 0 < span fs → list_form fs ≡ None
 unfolding list_form
 list-long [] long = absurd (omega arith)
 list-long (f ∷ fs) long = refl
 
 -- ---- a line
 
-pub order-long : (l : List ℕ) → order_most < length l → order_of l ≡ no_order
+pub order-long : (l : List ℕ) → order_most < length l → order_of l ≡ None
 unfolding order_of deed_of
 order-long l long =
     by_word (same_bytes (up_to tab l) (bytes_of "add")) (same_bytes (up_to tab l) (bytes_of "withdraw"))
@@ -108,16 +102,16 @@ order-long l long =
         → same_bytes (up_to tab l) (bytes_of "withdraw") ≡ w
         → same_bytes (up_to tab l) (bytes_of "retime") ≡ r
         → same_bytes (up_to tab l) (bytes_of "list") ≡ s
-        → order_form (cond a Deed.Add (cond w Deed.Withdraw (cond r Deed.Retime (cond s Deed.List Deed.Other)))) (beyond tab l) ≡ no_order
+        → order_form (cond a (Some Deed.Add) (cond w (Some Deed.Withdraw) (cond r (Some Deed.Retime) (cond s (Some Deed.List) None)))) (beyond tab l) ≡ None
     by_word true w r s e ew er es =
         let word : length (up_to tab l) ≡ 3 = ap length ((same-bytes-exact (up_to tab l) (bytes_of "add")).0 e) in
-        timed-long Deed.Add (beyond tab l) (omega (arith, line-span l, word))
+        ap (option_map Order.Add) (timed-long (beyond tab l) (omega (arith, line-span l, word)))
     by_word false true r s ea e er es =
         let word : length (up_to tab l) ≡ 8 = ap length ((same-bytes-exact (up_to tab l) (bytes_of "withdraw")).0 e) in
-        withdraw-long (beyond tab l) (omega (arith, line-span l, word))
+        ap (option_map Order.Withdraw) (withdraw-long (beyond tab l) (omega (arith, line-span l, word)))
     by_word false false true s ea ew e es =
         let word : length (up_to tab l) ≡ 6 = ap length ((same-bytes-exact (up_to tab l) (bytes_of "retime")).0 e) in
-        timed-long Deed.Retime (beyond tab l) (omega (arith, line-span l, word))
+        ap (option_map Order.Retime) (timed-long (beyond tab l) (omega (arith, line-span l, word)))
     by_word false false false true ea ew er e =
         let word : length (up_to tab l) ≡ 4 = ap length ((same-bytes-exact (up_to tab l) (bytes_of "list")).0 e) in
         list-long (beyond tab l) (omega (arith, line-span l, word))

@@ -1,7 +1,7 @@
 -- A line that is read by its form says what its bytes say.
 -- Assumes nothing.
 --
---   said l        what a line says, as it is read: by its word
+--   said l        what a line says, as it is read
 --   says-line     that is what its bytes say
 use mathlib.Core.Path.{◌≡◌, refl, sym}
 use mathlib.Core.Bool.{Bool, true, false, cond, ◌&&◌, and-false}
@@ -13,28 +13,30 @@ use lib.Dec.{eqb, eqb-suc-suc}
 use lib.ListN.{length}
 use Rattle.task.specs.Names.{same_bytes}
 use Rattle.task.proofs.NameLaws.{same-bytes-exact}
-use Rattle.lines.specs.declared.Word.{Word}
+use Rattle.std.proofs.Common.{Option, Some, None}
+use Rattle.std.specs.Option.{option_map}
 use Rattle.lines.specs.declared.Line.{Line}
 use Rattle.lines.specs.Lines.{bytes_of, tab, up_to, beyond, every, is_number, is_name}
-use Rattle.lines.specs.Forms.{no_line, machine_line, cost_line, machine_of, costs_of, numbered, values}
+use Rattle.lines.specs.Forms.{machine_of, costs_of, numbered, values}
 use Rattle.lines.specs.Forms.{machine_form, cost_form, part_form, fit_form, word_of, form_of, line_of}
 use Rattle.lines.specs.Says.{Saying, machine, cost, part, fit, nothing, has, says_in, says_of}
 
-abbrev pub word_said : Word → Line → Saying
-word_said Word.Machine l = machine l.machine
-word_said Word.Cost l = cost l.costs
-word_said Word.Part l = part l.part
-word_said Word.Fit l = fit l.task l.part.name
-word_said Word.Other l = nothing
-
-abbrev pub said : Line → Saying
-said l = word_said l.word l
+abbrev pub said : Option Line → Saying
+said (Some (Line.Machine m)) = machine m
+said (Some (Line.Cost c)) = cost c
+said (Some (Line.Part p)) = part p
+said (Some (Line.Fit t p)) = fit t p
+said None = nothing
 
 -- ---- forms that are kept, or not
 
-kept-or-none : (b : Bool) (l : Line) → said (cond b l no_line) ≡ cond b (said l) nothing
-kept-or-none true l = refl
-kept-or-none false l = refl
+kept-or-none : {A : Type 0} (make : A → Line) (b : Bool) (x : A) → said (option_map make (cond b (Some x) None)) ≡ cond b (said (Some (make x))) nothing
+kept-or-none make true x = refl
+kept-or-none make false x = refl
+
+fit-or-none : (b : Bool) (l : Line) → said (cond b (Some l) None) ≡ cond b (said (Some l)) nothing
+fit-or-none true l = refl
+fit-or-none false l = refl
 
 part-numbers : (f : List ℕ) (fs : List (List ℕ)) → has 1 6 (f ∷ fs) ≡ (is_name f && numbered 6 fs)
 part-numbers f fs = rw (eqb-suc-suc (length fs) 6) (by (is_name f))
@@ -51,24 +53,24 @@ two-names false c = refl
 -- ---- each form by its word
 
 module _ (fs : List (List ℕ)) where
-  machine-said : says_in (bytes_of "machine") fs ≡ said (machine_form fs)
+  machine-said : says_in (bytes_of "machine") fs ≡ said (option_map Line.Machine (machine_form fs))
   unfolding says_in machine_form
-  machine-said = sym (kept-or-none (numbered 2 fs) (machine_line (machine_of (values fs))))
+  machine-said = sym (kept-or-none Line.Machine (numbered 2 fs) (machine_of (values fs)))
 
-  cost-said : says_in (bytes_of "cost") fs ≡ said (cost_form fs)
+  cost-said : says_in (bytes_of "cost") fs ≡ said (option_map Line.Cost (cost_form fs))
   unfolding says_in cost_form
-  cost-said = sym (kept-or-none (numbered 9 fs) (cost_line (costs_of (values fs))))
+  cost-said = sym (kept-or-none Line.Cost (numbered 9 fs) (costs_of (values fs)))
 
-part-said : (fs : List (List ℕ)) → says_in (bytes_of "part") fs ≡ said (part_form fs)
+part-said : (fs : List (List ℕ)) → says_in (bytes_of "part") fs ≡ said (option_map Line.Part (part_form fs))
 unfolding says_in part_form
 part-said [] = refl
-part-said (f ∷ fs) = rw (part-numbers f fs) (sym (kept-or-none (is_name f && numbered 6 fs) _))
+part-said (f ∷ fs) = rw (part-numbers f fs) (sym (kept-or-none Line.Part (is_name f && numbered 6 fs) _))
 
 fit-said : (fs : List (List ℕ)) → says_in (bytes_of "fit") fs ≡ said (fit_form fs)
 unfolding says_in fit_form
 fit-said [] = refl
 fit-said (f ∷ []) = rw (and-false)
-fit-said (f ∷ g ∷ []) = rw (two-names (is_name f) (is_name g)) (sym (kept-or-none (is_name f && is_name g) _))
+fit-said (f ∷ g ∷ []) = rw (two-names (is_name f) (is_name g)) (sym (fit-or-none (is_name f && is_name g) _))
 fit-said (f ∷ g ∷ h ∷ fs) =
     let many : eqb (length (f ∷ g ∷ h ∷ fs)) 2 ≡ false = ne_eqb (length (f ∷ g ∷ h ∷ fs)) 2 (λ e. omega arith) in
     rw (many, and-false)

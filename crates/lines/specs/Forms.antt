@@ -1,46 +1,24 @@
--- What one line says by its form alone: document 01, "Sheet". A line of no form says `no_line`.
+-- What one line says by its form alone: document 01, "Sheet". A line of no form says nothing: `None`.
 --
 --   word_of f              the kind of line that the first field names
 --   numbered n fs         the fields fs are n numbers
+--   number_in f            the number that the field f is
+--   numbers_in n fs        the n numbers that the fields fs are
 --   machine_form fs        m, grain
 --   cost_form fs           RelO, SchedO, TsetO, IpB, BetO, MigrO, IpiO, IpiJ, π
 --   part_form fs           name, C, D, T, J, P, M
 --   fit_form fs            task name, part name
 --   line_of l              the line l: its word, and the fields beyond it
-use Rattle.std.specs.Prelude.{Bool, cond, ◌&&◌, List, [], ◌∷◌, map, ℕ, eqb, length, get_or}
+use Rattle.std.specs.Prelude.{Bool, cond, ◌&&◌, List, [], ◌∷◌, map, ℕ, eqb, length, get_or, Option, Some, None}
+use Rattle.std.specs.Option.{option_map}
 use Rattle.demand.specs.declared.Costs.{Costs}
-use Rattle.task.specs.declared.Name.{Name}
 use Rattle.task.specs.declared.Times.{Times}
 use Rattle.task.specs.declared.Part.{Part}
 use Rattle.task.specs.declared.Machine.{Machine}
-use Rattle.demand.specs.Charge.{no_costs}
-use Rattle.task.specs.Names.{no_name, same_bytes}
-use Rattle.task.specs.Tasks.{no_times, no_part, no_machine}
-use Rattle.lines.specs.declared.Word.{Word}
+use Rattle.task.specs.Names.{same_bytes}
+use Rattle.lines.specs.declared.forms.Word.{Word}
 use Rattle.lines.specs.declared.Line.{Line}
 use Rattle.lines.specs.Lines.{bytes_of, tab, up_to, beyond, every, is_number, value_of, is_name, name_of}
-
--- ---- what a line says; what it does not say is zero
-
--- a part that is named and no more
-abbrev pub untimed : Name → Part
-untimed n = record { name = n; times = no_times }
-
-abbrev pub no_line : Line
-no_line = record { word = Word.Other; machine = no_machine; costs = no_costs; part = no_part; task = no_name }
-
-abbrev pub machine_line : Machine → Line
-machine_line m = record { word = Word.Machine; machine = m; costs = no_costs; part = no_part; task = no_name }
-
-abbrev pub cost_line : Costs → Line
-cost_line c = record { word = Word.Cost; machine = no_machine; costs = c; part = no_part; task = no_name }
-
-abbrev pub part_line : Part → Line
-part_line p = record { word = Word.Part; machine = no_machine; costs = no_costs; part = p; task = no_name }
-
--- the part stands above, so the line only names it
-abbrev pub fit_line : (task part : Name) → Line
-fit_line n p = record { word = Word.Fit; machine = no_machine; costs = no_costs; part = untimed p; task = n }
 
 -- ---- numbers in their order
 
@@ -65,37 +43,44 @@ numbered n fs = eqb (length fs) n && every is_number fs
 abbrev pub values : List (List ℕ) → List ℕ
 values fs = map value_of fs
 
-unfoldable pub machine_form : List (List ℕ) → Line
-machine_form fs = cond (numbered 2 fs) (machine_line (machine_of (values fs))) no_line
+unfoldable pub number_in : List ℕ → Option ℕ
+number_in f = cond (is_number f) (Some (value_of f)) None
 
-unfoldable pub cost_form : List (List ℕ) → Line
-cost_form fs = cond (numbered 9 fs) (cost_line (costs_of (values fs))) no_line
+unfoldable pub numbers_in : ℕ → List (List ℕ) → Option (List ℕ)
+numbers_in n fs = cond (numbered n fs) (Some (values fs)) None
 
-unfoldable pub part_form : List (List ℕ) → Line
-part_form [] = no_line
-part_form (f ∷ fs) = cond (is_name f && numbered 6 fs) (part_line (record { name = name_of f; times = times_of (values fs) })) no_line
+unfoldable pub machine_form : List (List ℕ) → Option Machine
+machine_form fs = cond (numbered 2 fs) (Some (machine_of (values fs))) None
 
-unfoldable pub fit_form : List (List ℕ) → Line
-fit_form [] = no_line
-fit_form (f ∷ []) = no_line
-fit_form (f ∷ g ∷ []) = cond (is_name f && is_name g) (fit_line (name_of f) (name_of g)) no_line
-fit_form (f ∷ g ∷ h ∷ fs) = no_line
+unfoldable pub cost_form : List (List ℕ) → Option Costs
+cost_form fs = cond (numbered 9 fs) (Some (costs_of (values fs))) None
+
+unfoldable pub part_form : List (List ℕ) → Option Part
+part_form [] = None
+part_form (f ∷ fs) = cond (is_name f && numbered 6 fs) (Some (record { name = name_of f; times = times_of (values fs) })) None
+
+-- the part stands above, so the line only names it
+unfoldable pub fit_form : List (List ℕ) → Option Line
+fit_form [] = None
+fit_form (f ∷ []) = None
+fit_form (f ∷ g ∷ []) = cond (is_name f && is_name g) (Some (Line.Fit (name_of f) (name_of g))) None
+fit_form (f ∷ g ∷ h ∷ fs) = None
 
 -- ---- a line
 
-unfoldable pub word_of : List ℕ → Word
+unfoldable pub word_of : List ℕ → Option Word
 word_of f =
-    cond (same_bytes f (bytes_of "machine")) Word.Machine
-    (cond (same_bytes f (bytes_of "cost")) Word.Cost
-    (cond (same_bytes f (bytes_of "part")) Word.Part
-    (cond (same_bytes f (bytes_of "fit")) Word.Fit Word.Other)))
+    cond (same_bytes f (bytes_of "machine")) (Some Word.Machine)
+    (cond (same_bytes f (bytes_of "cost")) (Some Word.Cost)
+    (cond (same_bytes f (bytes_of "part")) (Some Word.Part)
+    (cond (same_bytes f (bytes_of "fit")) (Some Word.Fit) None)))
 
-abbrev pub form_of : Word → List (List ℕ) → Line
-form_of Word.Machine fs = machine_form fs
-form_of Word.Cost fs = cost_form fs
-form_of Word.Part fs = part_form fs
-form_of Word.Fit fs = fit_form fs
-form_of Word.Other fs = no_line
+abbrev pub form_of : Option Word → List (List ℕ) → Option Line
+form_of (Some Word.Machine) fs = option_map Line.Machine (machine_form fs)
+form_of (Some Word.Cost) fs = option_map Line.Cost (cost_form fs)
+form_of (Some Word.Part) fs = option_map Line.Part (part_form fs)
+form_of (Some Word.Fit) fs = fit_form fs
+form_of None fs = None
 
-unfoldable pub line_of : List ℕ → Line
+unfoldable pub line_of : List ℕ → Option Line
 line_of l = form_of (word_of (up_to tab l)) (beyond tab l)

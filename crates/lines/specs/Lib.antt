@@ -3,4 +3,3 @@ pub mod Lines
 pub mod Forms
 pub mod Says
 pub mod Orders
-pub mod Ways

@@ -2,12 +2,15 @@
 --
 --   bytes_of "text"          the bytes of an ASCII text
 --   up_to b s, beyond b s    the run of s up to its first byte b, and the runs beyond it: lines by newlines, fields by tabs
---   fields s                the fields of s
+--   runs b s, fields s       all runs of s; its fields
+--   runs_in b r              the runs of what stands beyond a run, if anything does
 --   is_number f              1 to 7 decimal digits, no leading zero but for 0 itself
 --   value_of f               the number that they stand for
 --   name_of f                the name with the bytes f: their number, the bytes, and zeros to 24
 --   is_name f                the rule of names, crate `task`'s `formed`, holds of it
-use Rattle.std.specs.Prelude.{Bool, true, cond, not, ◌&&◌, List, [], ◌∷◌, ℕ, ◌+◌, ◌-◌, ◌*◌, eqb, length}
+--   name_in f                the name that the field f is, if it is one
+use Rattle.std.specs.Prelude.{Bool, true, cond, not, ◌&&◌, List, [], ◌∷◌, ℕ, ◌+◌, ◌-◌, ◌*◌, eqb, length, Option, Some, None}
+use Rattle.std.specs.Borrow.{Bor}
 use Prim.Native.Char.{code}
 use Prim.Native.String.{String, [] as done, ◌∷◌ as ◌then◌}
 use Rattle.task.specs.declared.Name.{Name}
@@ -35,8 +38,16 @@ unfoldable pub beyond : ℕ → List ℕ → List (List ℕ)
 beyond b [] = []
 beyond b (x ∷ s) = cond (eqb x b) (up_to b s ∷ beyond b s) (beyond b s)
 
+abbrev pub runs : ℕ → List ℕ → List (List ℕ)
+runs b s = up_to b s ∷ beyond b s
+
+-- those that stand beyond the first byte b, if it is there
+abbrev pub runs_in : ℕ → Option (Bor (List ℕ)) → List (List ℕ)
+runs_in b None = []
+runs_in b (Some r) = runs b r.now
+
 abbrev pub fields : List ℕ → List (List ℕ)
-fields s = up_to tab s ∷ beyond tab s
+fields s = runs tab s
 
 -- ---- numbers
 
@@ -75,3 +86,6 @@ name_of f = record { len = length f; bytes = padded name_most 0 f }
 
 unfoldable pub is_name : List ℕ → Bool
 is_name f = formed (name_of f)
+
+abbrev pub name_in : List ℕ → Option Name
+name_in f = cond (is_name f) (Some (name_of f)) None

@@ -1,65 +1,55 @@
--- What one line of a script of edits says by its form alone: document 01, "Edits on a held plan". A line of no form says `no_order`.
+-- What one line of a script of edits says by its form alone: document 01, "Edits on a held plan". A line of no form says nothing: `None`.
 --
 --   deed_of f              what the first field asks for
---   timed_form d fs        name, C, D, T, J, P, M, as in a `part` line: a task to add, or other times for one
+--   timed_form fs          name, C, D, T, J, P, M, as in a `part` line: a task to add, or other times for one
 --   withdraw_form fs       task name
 --   list_form fs           nothing beyond the word
 --   order_of l             the line l: its word, and the fields beyond it
-use Rattle.std.specs.Prelude.{cond, List, [], ◌∷◌, ℕ}
+use Rattle.std.specs.Prelude.{cond, List, [], ◌∷◌, ℕ, Option, Some, None}
+use Rattle.std.specs.Option.{option_map}
+use Rattle.task.specs.declared.Name.{Name}
 use Rattle.task.specs.declared.Part.{Part}
+use Rattle.task.specs.declared.Task.{Task}
 use Rattle.task.specs.Names.{same_bytes}
-use Rattle.task.specs.Tasks.{no_task, task_of}
-use Rattle.lines.specs.declared.Word.{Word}
-use Rattle.lines.specs.declared.Deed.{Deed}
+use Rattle.task.specs.Tasks.{task_of}
+use Rattle.lines.specs.declared.orders.Deed.{Deed}
 use Rattle.lines.specs.declared.Order.{Order}
-use Rattle.lines.specs.Lines.{bytes_of, tab, up_to, beyond, is_name, name_of}
-use Rattle.lines.specs.Forms.{untimed, part_form}
-
--- ---- what a line says; what it does not say is zero
-
-abbrev pub no_order : Order
-no_order = record { deed = Deed.Other; task = no_task }
-
-abbrev pub list_order : Order
-list_order = record { deed = Deed.List; task = no_task }
+use Rattle.lines.specs.Lines.{bytes_of, tab, up_to, beyond, name_in}
+use Rattle.lines.specs.Forms.{part_form}
 
 -- ---- the forms
 
--- the order for the task that is fitted with the part of a `part` line, and named as it; none for any other line
-abbrev pub for_part : Deed → Word → Part → Order
-for_part d Word.Machine p = no_order
-for_part d Word.Cost p = no_order
-for_part d Word.Part p = record { deed = d; task = task_of p.name p }
-for_part d Word.Fit p = no_order
-for_part d Word.Other p = no_order
+-- the task that is fitted with the part of a `part` line, and named as it
+abbrev pub named_as : Part → Task
+named_as p = task_of p.name p
 
-unfoldable pub timed_form : Deed → List (List ℕ) → Order
-timed_form d fs = for_part d (part_form fs).word (part_form fs).part
+unfoldable pub timed_form : List (List ℕ) → Option Task
+timed_form fs = option_map named_as (part_form fs)
 
-unfoldable pub withdraw_form : List (List ℕ) → Order
-withdraw_form [] = no_order
-withdraw_form (f ∷ []) = cond (is_name f) (record { deed = Deed.Withdraw; task = task_of (name_of f) (untimed (name_of f)) }) no_order
-withdraw_form (f ∷ g ∷ fs) = no_order
+unfoldable pub withdraw_form : List (List ℕ) → Option Name
+withdraw_form [] = None
+withdraw_form (f ∷ []) = name_in f
+withdraw_form (f ∷ g ∷ fs) = None
 
-unfoldable pub list_form : List (List ℕ) → Order
-list_form [] = list_order
-list_form (f ∷ fs) = no_order
+unfoldable pub list_form : List (List ℕ) → Option Order
+list_form [] = Some Order.List
+list_form (f ∷ fs) = None
 
 -- ---- a line
 
-unfoldable pub deed_of : List ℕ → Deed
+unfoldable pub deed_of : List ℕ → Option Deed
 deed_of f =
-    cond (same_bytes f (bytes_of "add")) Deed.Add
-    (cond (same_bytes f (bytes_of "withdraw")) Deed.Withdraw
-    (cond (same_bytes f (bytes_of "retime")) Deed.Retime
-    (cond (same_bytes f (bytes_of "list")) Deed.List Deed.Other)))
+    cond (same_bytes f (bytes_of "add")) (Some Deed.Add)
+    (cond (same_bytes f (bytes_of "withdraw")) (Some Deed.Withdraw)
+    (cond (same_bytes f (bytes_of "retime")) (Some Deed.Retime)
+    (cond (same_bytes f (bytes_of "list")) (Some Deed.List) None)))
 
-abbrev pub order_form : Deed → List (List ℕ) → Order
-order_form Deed.Add fs = timed_form Deed.Add fs
-order_form Deed.Withdraw fs = withdraw_form fs
-order_form Deed.Retime fs = timed_form Deed.Retime fs
-order_form Deed.List fs = list_form fs
-order_form Deed.Other fs = no_order
+abbrev pub order_form : Option Deed → List (List ℕ) → Option Order
+order_form (Some Deed.Add) fs = option_map Order.Add (timed_form fs)
+order_form (Some Deed.Withdraw) fs = option_map Order.Withdraw (withdraw_form fs)
+order_form (Some Deed.Retime) fs = option_map Order.Retime (timed_form fs)
+order_form (Some Deed.List) fs = list_form fs
+order_form None fs = None
 
-unfoldable pub order_of : List ℕ → Order
+unfoldable pub order_of : List ℕ → Option Order
 order_of l = order_form (deed_of (up_to tab l)) (beyond tab l)

@@ -1,190 +1,99 @@
 // What a line says by its form alone.
 ghost use Rattle.std.specs.Prelude.{◌≡◌};
 ghost use Rattle.lines.specs.Lines.{fields};
-ghost use Rattle.lines.specs.Forms.{untimed, machine_line, cost_line, part_line, fit_line, machine_form, cost_form, part_form, fit_form, word_of};
+ghost use Rattle.lines.specs.Forms.{machine_form, cost_form, part_form, fit_form, word_of};
 
-use crate::fields::{name_of, numbers_of, same_run};
-use crate::{Line, Word, no_line, until};
-use demand::{Costs, no_costs};
-use task::{Machine, Name, Part, Times, no_machine, no_name, no_times, well_formed};
+use crate::fields::{name_of, numbers_of};
+use crate::{Line, until};
+use demand::Costs;
+use task::{Machine, Part, Times};
 
-// A part that is named and no more.
-pub fn untimed(name: Name) -> Part
-    ensures { result ≡ untimed name }
-{
-    let times = no_times();
-    Part { name, times }
+// The kind of a line, by its first field.
+#[derive(Clone, Copy)]
+pub enum Word {
+    Machine,
+    Cost,
+    Part,
+    Fit,
 }
 
-// A `machine` line that says this.
-pub fn machine_line(machine: Machine) -> Line
-    ensures { result ≡ machine_line machine }
-{
-    let costs = no_costs();
-    let task = no_name();
-    let part = untimed(task);
-    Line {
-        word: Word::Machine,
-        machine,
-        costs,
-        part,
-        task,
-    }
-}
-
-// A `cost` line that says this.
-pub fn cost_line(costs: Costs) -> Line
-    ensures { result ≡ cost_line costs }
-{
-    let machine = no_machine();
-    let task = no_name();
-    let part = untimed(task);
-    Line {
-        word: Word::Cost,
-        machine,
-        costs,
-        part,
-        task,
-    }
-}
-
-// A `part` line that says this.
-pub fn part_line(part: Part) -> Line
-    ensures { result ≡ part_line part }
-{
-    let machine = no_machine();
-    let costs = no_costs();
-    let task = no_name();
-    Line {
-        word: Word::Part,
-        machine,
-        costs,
-        part,
-        task,
-    }
-}
-
-// A `fit` line that says this.
-pub fn fit_line(task: Name, name: Name) -> Line
-    ensures { result ≡ fit_line task name }
-{
-    let machine = no_machine();
-    let costs = no_costs();
-    let part = untimed(name);
-    Line {
-        word: Word::Fit,
-        machine,
-        costs,
-        part,
-        task,
-    }
-}
-
-// The `machine` line whose fields stand in s.
-pub fn machine_form(s: &[u8]) -> Line
+// The machine of a `machine` line whose fields stand in s.
+#[tactic(auto, using(crate::proofs::FormLaws::machine_by))]
+pub fn machine_form(s: &[u8]) -> Option<Machine>
     ensures { result ≡ machine_form (fields s.now) }
 {
-    let g = numbers_of(s);
-    if g.count != 2 {
-        return no_line();
-    }
-    let v = g.values;
-    machine_line(Machine {
-        cores: v[0] as usize,
-        grain: v[1],
+    let [cores, grain] = numbers_of::<2>(s)?;
+    Some(Machine {
+        cores: cores as usize,
+        grain,
     })
 }
 
-// The `cost` line whose fields stand in s.
-pub fn cost_form(s: &[u8]) -> Line
+// The costs of a `cost` line whose fields stand in s.
+#[tactic(auto, using(crate::proofs::FormLaws::cost_by))]
+pub fn cost_form(s: &[u8]) -> Option<Costs>
     ensures { result ≡ cost_form (fields s.now) }
 {
-    let g = numbers_of(s);
-    if g.count != 9 {
-        return no_line();
-    }
-    let v = g.values;
-    cost_line(Costs {
-        relo: v[0],
-        schedo: v[1],
-        tseto: v[2],
-        ipb: v[3],
-        beto: v[4],
-        migro: v[5],
-        ipio: v[6],
-        ipij: v[7],
-        precision: v[8],
+    let [relo, schedo, tseto, ipb, beto, migro, ipio, ipij, precision] = numbers_of::<9>(s)?;
+    Some(Costs {
+        relo,
+        schedo,
+        tseto,
+        ipb,
+        beto,
+        migro,
+        ipio,
+        ipij,
+        precision,
     })
 }
 
-// The `part` line whose fields stand in s.
-pub fn part_form(s: &[u8]) -> Line
+// The part of a `part` line whose fields stand in s.
+#[tactic(auto, using(crate::proofs::FormLaws::part_cases))]
+pub fn part_form(s: &[u8]) -> Option<Part>
     ensures { result ≡ part_form (fields s.now) }
 {
-    let e = until(s, 9);
-    if e == s.len() {
-        return no_line();
-    }
-    let name = name_of(&s[..e]);
-    if !well_formed(name) {
-        return no_line();
-    }
-    let g = numbers_of(&s[e + 1..]);
-    if g.count != 6 {
-        return no_line();
-    }
-    let v = g.values;
-    part_line(Part {
+    let (field, rest) = until(s, b'\t');
+    let name = name_of(field)?;
+    let [worst, deadline, period, jitter, preempt, migrate] = numbers_of::<6>(rest?)?;
+    Some(Part {
         name,
         times: Times {
-            worst: v[0],
-            deadline: v[1],
-            period: v[2],
-            jitter: v[3],
-            preempt: v[4],
-            migrate: v[5],
+            worst,
+            deadline,
+            period,
+            jitter,
+            preempt,
+            migrate,
         },
     })
 }
 
 // The `fit` line whose fields stand in s.
-pub fn fit_form(s: &[u8]) -> Line
+#[tactic(auto, using(crate::proofs::FormLaws::fit_cases))]
+pub fn fit_form(s: &[u8]) -> Option<Line>
     ensures { result ≡ fit_form (fields s.now) }
 {
-    let e = until(s, 9);
-    if e == s.len() {
-        return no_line();
+    let (field, rest) = until(s, b'\t');
+    let (other, more) = until(rest?, b'\t');
+    if more.is_some() {
+        return None;
     }
-    let name = name_of(&s[..e]);
-    if !well_formed(name) {
-        return no_line();
-    }
-    let rest = &s[e + 1..];
-    if until(rest, 9) < rest.len() {
-        return no_line();
-    }
-    let part = name_of(rest);
-    if !well_formed(part) {
-        return no_line();
-    }
-    fit_line(name, part)
+    let task = name_of(field)?;
+    let part = name_of(other)?;
+    Some(Line::Fit { task, part })
 }
 
 // The kind of line that a first field names.
-pub fn word_of(f: &[u8]) -> Word
+#[tactic(auto, using(crate::proofs::LineLaws::word_cases), unfolding(crate::specs::Forms::word_of))]
+pub fn word_of(f: &[u8]) -> Option<Word>
     ensures { result ≡ word_of f.now }
 {
-    if same_run(f, b"machine") {
-        return Word::Machine;
+    match f {
+        b"machine" => Some(Word::Machine),
+        b"cost" => Some(Word::Cost),
+        b"part" => Some(Word::Part),
+        b"fit" => Some(Word::Fit),
+        _ => None,
     }
-    if same_run(f, b"cost") {
-        return Word::Cost;
-    }
-    if same_run(f, b"part") {
-        return Word::Part;
-    }
-    if same_run(f, b"fit") {
-        return Word::Fit;
-    }
-    Word::Other
 }

@@ -18,7 +18,7 @@ use lib.Dec.{eqb}
 use lib.ListN.{length}
 use Rattle.demand.specs.declared.Piece.{Piece}
 use Rattle.demand.specs.Kinds.{kind_number}
-use Rattle.demand.specs.Sizes.{Each, Some}
+use Rattle.demand.specs.Sizes.{Each, SomeOf}
 use Rattle.demand.proofs.Tests.{both_left, both_right}
 use Rattle.demand.proofs.KindLaws.{kind-one}
 use Rattle.task.specs.Names.{same_bytes}
@@ -109,20 +109,20 @@ module _ {A : Type 0} where
   every-each t [] h = refl
   every-each t (a ∷ l) h = rw h.0 (every-each t l h.1)
 
-  pub every_some : (t : A → Bool) (l : List A) (a : A) → every t l ≡ true → Some (λ x. x ≡ a) l → t a ≡ true
+  pub every_some : (t : A → Bool) (l : List A) (a : A) → every t l ≡ true → SomeOf (λ x. x ≡ a) l → t a ≡ true
   every_some t (b ∷ l) a h (inl e) = subst (λ (c : A). t c ≡ true) e (both_left (t b) (every t l) h)
   every_some t (b ∷ l) a h (inr i) = every_some t l a (both_right (t b) (every t l) h) i
   every_some t [] a h x'' = elim x'' [ ]
 
-  pub each-with : (P : A → Type 0) (l : List A) → ((a : A) → Some (λ x. x ≡ a) l → P a) → Each P l
+  pub each-with : (P : A → Type 0) (l : List A) → ((a : A) → SomeOf (λ x. x ≡ a) l → P a) → Each P l
   each-with P [] h = tt
   each-with P (a ∷ l) h = (h a (inl refl), each-with P l (λ b i. h b (inr i)))
 
   -- one passes, or none does
-  pub found : (t : A → Bool) (l : List A) → 0 < length (only t l) → (a : A) × ((t a ≡ true) × Some (λ x. x ≡ a) l)
+  pub found : (t : A → Bool) (l : List A) → 0 < length (only t l) → (a : A) × ((t a ≡ true) × SomeOf (λ x. x ≡ a) l)
   found t l some = by (only t l) (only-each t l) some
     where
-      by : (k : List A) → Each (λ a. (t a ≡ true) × Some (λ x. x ≡ a) l) k → 0 < length k → (a : A) × ((t a ≡ true) × Some (λ x. x ≡ a) l)
+      by : (k : List A) → Each (λ a. (t a ≡ true) × SomeOf (λ x. x ≡ a) l) k → 0 < length k → (a : A) × ((t a ≡ true) × SomeOf (λ x. x ≡ a) l)
       by [] h some = absurd (omega arith)
       by (a ∷ k) h some = (a, h.0)
 
@@ -156,7 +156,7 @@ module _ {A : Type 0} (same : A → A → Bool) (exact : (a b : A) → (same a b
   pub of-each : (n : A) (l : List (Placed A)) → Each (λ e. e.item ≡ n) (of_item same n l)
   of-each n l = by (of_item same n l) (only-each (λ e. same e.item n) l)
     where
-      by : (k : List (Placed A)) → Each (λ e. (same e.item n ≡ true) × Some (λ x. x ≡ e) l) k → Each (λ e. e.item ≡ n) k
+      by : (k : List (Placed A)) → Each (λ e. (same e.item n ≡ true) × SomeOf (λ x. x ≡ e) l) k → Each (λ e. e.item ≡ n) k
       by [] h = tt
       by (e ∷ k) h = ((exact e.item n).0 h.0.0, by k h.1)
 
@@ -173,7 +173,7 @@ module _ {A : Type 0} (same : A → A → Bool) (exact : (a b : A) → (same a b
       told l k all some =
           let there = found (same_placed same e) l some in
           let at = (same-placed-exact e there.0).0 there.1.0 in
-          let here : Some (λ x. x ≡ e) l = subst (λ (f : Placed A). Some (λ x. x ≡ f) l) (sym at) there.1.1 in
+          let here : SomeOf (λ x. x ≡ e) l = subst (λ (f : Placed A). SomeOf (λ x. x ≡ f) l) (sym at) there.1.1 in
           every_some (as_often same l k) (of_item same n l) e all (only-has (λ f. same f.item n) e ((exact e.item n).1 is) l here)
 
   pub alike-found : (n : A) (l k : List (Placed A)) → ((e : Placed A) → e.item ≡ n → how_often same e l ≡ how_often same e k) → alike same n l k ≡ true

@@ -19,7 +19,7 @@ use borrow.Author.Tests.{lt-ltb, le-ltb, eqb-true, eq-eqb}
 use lib.Dec.{eqb}
 use lib.ListN.{length, take, get_or, length-append, length-map, length-take, get_or-eq_default}
 use Rattle.demand.specs.declared.Costs.{Costs}
-use Rattle.demand.specs.Sizes.{Each, Some}
+use Rattle.demand.specs.Sizes.{Each, SomeOf}
 use Rattle.demand.proofs.Sums.{each-imp}
 use Rattle.task.specs.declared.Task.{Task}
 use Rattle.task.specs.declared.Tasks.{Tasks}
@@ -32,18 +32,18 @@ use Rattle.walks.proofs.ListLaws.{each-join}
 use Rattle.plan.specs.declared.Stored.{Stored}
 use Rattle.plan.specs.declared.Layout.{Layout}
 use Rattle.plan.specs.declared.Plan.{Plan}
-use Rattle.plan.specs.declared.Reply.{Reply}
+use Rattle.plan.specs.Reply.{Reply}
 use Rattle.plan.specs.Walk.{walked}
 use Rattle.plan.specs.Plan.{plan_of}
 use Rattle.plan.proofs.Theorems.{plan-counts, plan-shows}
-use Rattle.plan.specs.Ways.PlacedArray.{placed_in}
+use Rattle.listing.specs.declared.Ranked.{Ranked}
 use Rattle.listing.specs.Text.{Wrote}
 use Rattle.listing.specs.Listing.{spelling, row_pieces}
 use Rattle.listing.specs.Placed.{by_core}
 use Rattle.listing.specs.Why.{row_seats}
 use Rattle.listing.specs.ByteOrder.{rank_in}
 use Rattle.listing.specs.Diff.{moved_names, diff_blocks, diff_head, diff_text, seats_on, called_by, standing, diff_of}
-use Rattle.listing.specs.Ways.RankArrays.{names_in, roll_of, Ranks, place_with, ranked_name, ranked_by, rank_blocks}
+use Rattle.listing.specs.Ways.RankArrays.{names_in, roll_of, Ranks, place_with, ranked_name, ranked_by, placed, rank_blocks}
 use Rattle.listing.proofs.SeatLaws.{seat_of}
 use Rattle.listing.proofs.PlacedLaws.{Seated, all-seated, map_same, by-core-each, plan-is}
 use Rattle.listing.proofs.WhyPlacedLaws.{row-seats}
@@ -82,38 +82,38 @@ module _ (ts us : List Task) where
         length-map us (λ (t : Task). spelling t.name),
       )
 
-  none-there : Some (λ x. x ≡ []) roll
+  none-there : SomeOf (λ x. x ≡ []) roll
   unfolding roll_of
   none-there = inl refl
 
-  first-there : (n : List ℕ) → Some (λ x. x ≡ n) (names_in ts) → Some (λ x. x ≡ n) roll
+  first-there : (n : List ℕ) → SomeOf (λ x. x ≡ n) (names_in ts) → SomeOf (λ x. x ≡ n) roll
   unfolding roll_of
   first-there n h = inr (some-join (λ x. x ≡ n) (names_in ts) (names_in us) h)
 
-  second-there : (n : List ℕ) → Some (λ x. x ≡ n) (names_in us) → Some (λ x. x ≡ n) roll
+  second-there : (n : List ℕ) → SomeOf (λ x. x ≡ n) (names_in us) → SomeOf (λ x. x ≡ n) roll
   unfolding roll_of
   second-there n h = inr (some-behind (λ x. x ≡ n) (names_in ts) (names_in us) h)
 
-  some-parts : (P : List ℕ → Type 0) (k l : List (List ℕ)) → Some P (k ++ l) → Some P k ⊎ Some P l
+  some-parts : (P : List ℕ → Type 0) (k l : List (List ℕ)) → SomeOf P (k ++ l) → SomeOf P k ⊎ SomeOf P l
   some-parts P [] l h = inr h
   some-parts P (a ∷ k) l (inl h) = inl (inl h)
   some-parts P (a ∷ k) l (inr h) = by (some-parts P k l h)
     where
-      by : Some P k ⊎ Some P l → Some P (a ∷ k) ⊎ Some P l
+      by : SomeOf P k ⊎ SomeOf P l → SomeOf P (a ∷ k) ⊎ SomeOf P l
       by (inl g) = inl (inr g)
       by (inr g) = inr g
 
-  roll-parts : (n : List ℕ) → Some (λ x. x ≡ n) roll → ([] ≡ n) ⊎ (Some (λ x. x ≡ n) (names_in ts) ⊎ Some (λ x. x ≡ n) (names_in us))
+  roll-parts : (n : List ℕ) → SomeOf (λ x. x ≡ n) roll → ([] ≡ n) ⊎ (SomeOf (λ x. x ≡ n) (names_in ts) ⊎ SomeOf (λ x. x ≡ n) (names_in us))
   unfolding roll_of
   roll-parts n (inl e) = inl e
   roll-parts n (inr h) = inr (some-parts (λ x. x ≡ n) (names_in ts) (names_in us) h)
 
-name-at : (vs : List Task) (k : ℕ) → k < length vs → Some (λ x. x ≡ spelling (task_at vs k).name) (names_in vs)
+name-at : (vs : List Task) (k : ℕ) → k < length vs → SomeOf (λ x. x ≡ spelling (task_at vs k).name) (names_in vs)
 name-at [] k low = absurd (omega arith)
 name-at (v ∷ vs) zero low = inl refl
 name-at (v ∷ vs) (suc k) low = inr (name-at vs k (omega arith))
 
-at_name : (vs : List Task) (n : List ℕ) → Some (λ x. x ≡ n) (names_in vs) → (k : ℕ) × ((k < length vs) × (spelling (task_at vs k).name ≡ n))
+at_name : (vs : List Task) (n : List ℕ) → SomeOf (λ x. x ≡ n) (names_in vs) → (k : ℕ) × ((k < length vs) × (spelling (task_at vs k).name ≡ n))
 at_name (v ∷ vs) n (inl e) = (0, (omega arith, e))
 at_name (v ∷ vs) n (inr h) = let more = at_name vs n h in (suc more.0, (omega (arith, more.1.0), more.1.1))
 at_name [] n x' = elim x' [ ]
@@ -122,19 +122,19 @@ past-name : (vs : List Task) (k : ℕ) → length vs ≤ k → spelling (task_at
 past-name vs k high = ap (λ (t : Task). spelling t.name) (get_or-eq_default vs past {n = k} high)
 
 -- what a piece of either plan is called by
-called-first : (ts us : List Task) (k : ℕ) → Some (λ x. x ≡ spelling (task_at ts k).name) (roll_of ts us)
+called-first : (ts us : List Task) (k : ℕ) → SomeOf (λ x. x ≡ spelling (task_at ts k).name) (roll_of ts us)
 called-first ts us k = elim (dec_lt k (length ts)) [
   | yes low ↦ first-there ts us (spelling (task_at ts k).name) (name-at ts k low)
   | no high ↦ rw (past-name ts k (omega arith)) (none-there ts us)
 ]
 
-called-second : (ts us : List Task) (k : ℕ) → Some (λ x. x ≡ spelling (task_at us k).name) (roll_of ts us)
+called-second : (ts us : List Task) (k : ℕ) → SomeOf (λ x. x ≡ spelling (task_at us k).name) (roll_of ts us)
 called-second ts us k = elim (dec_lt k (length us)) [
   | yes low ↦ second-there ts us (spelling (task_at us k).name) (name-at us k low)
   | no high ↦ rw (past-name us k (omega arith)) (none-there ts us)
 ]
 
-covers : (ns : List (List ℕ)) (vs : List Task) → ((k : ℕ) → Some (λ x. x ≡ spelling (task_at vs k).name) ns) → (l : List (Placed ℕ)) → Covered ns (map (called_by vs) l)
+covers : (ns : List (List ℕ)) (vs : List Task) → ((k : ℕ) → SomeOf (λ x. x ≡ spelling (task_at vs k).name) ns) → (l : List (Placed ℕ)) → Covered ns (map (called_by vs) l)
 covers ns vs each [] = tt
 covers ns vs each (e ∷ l) = (each e.item, covers ns vs each l)
 
@@ -162,7 +162,7 @@ place-low k r (x ∷ a) (suc i) low is = by (eqb x r) (place-low (k + 1) r a i (
 
 module _ (ts us : List Task) (a b : List ℕ) (first : Ranks ts (roll_of ts us) a) (second : Ranks us (roll_of ts us) b) where
   -- a name of a list stands at a place that has its rank
-  rank-there : (vs : List Task) (c : List ℕ) → Ranks vs (roll_of ts us) c → (n : List ℕ) → Some (λ x. x ≡ n) (names_in vs)
+  rank-there : (vs : List Task) (c : List ℕ) → Ranks vs (roll_of ts us) c → (n : List ℕ) → SomeOf (λ x. x ≡ n) (names_in vs)
       → place_with 0 (rank_in (roll_of ts us) n) c < 64
   rank-there vs c ranks n there =
       let at = at_name vs n there in
@@ -170,8 +170,8 @@ module _ (ts us : List Task) (a b : List ℕ) (first : Ranks ts (roll_of ts us) 
       omega (arith, place-low 0 (rank_in (roll_of ts us) n) c at.0 (omega (arith, ranks.size, ranks.all, at.1.0)) is, at.1.0, ranks.all)
 
   -- and what stands there is that name
-  there-is : (vs : List Task) (c : List ℕ) → Ranks vs (roll_of ts us) c → ((k : ℕ) → Some (λ x. x ≡ spelling (task_at vs k).name) (roll_of ts us))
-      → (n : List ℕ) → Some (λ x. x ≡ n) (roll_of ts us) → place_with 0 (rank_in (roll_of ts us) n) c < 64
+  there-is : (vs : List Task) (c : List ℕ) → Ranks vs (roll_of ts us) c → ((k : ℕ) → SomeOf (λ x. x ≡ spelling (task_at vs k).name) (roll_of ts us))
+      → (n : List ℕ) → SomeOf (λ x. x ≡ n) (roll_of ts us) → place_with 0 (rank_in (roll_of ts us) n) c < 64
       → spelling (task_at vs (place_with 0 (rank_in (roll_of ts us) n) c)).name ≡ n
   there-is vs c ranks called n there low = by (place_is 0 (rank_in (roll_of ts us) n) c)
     where
@@ -184,7 +184,7 @@ module _ (ts us : List Task) (a b : List ℕ) (first : Ranks ts (roll_of ts us) 
           ap (λ (k : ℕ). spelling (task_at vs k).name) place
           ∙ rank-one (roll_of ts us) (spelling (task_at vs i).name) n (called i) there (sym (ranks.ranks i) ∙ is)
 
-  pub name-ranked : (n : List ℕ) → Some (λ x. x ≡ n) (roll_of ts us) → ranked_name (rank_in (roll_of ts us) n) a ts b us ≡ n
+  pub name-ranked : (n : List ℕ) → SomeOf (λ x. x ≡ n) (roll_of ts us) → ranked_name (rank_in (roll_of ts us) n) a ts b us ≡ n
   unfolding ranked_name
   name-ranked n there = elim (dec_lt (place_with 0 (rank_in (roll_of ts us) n) a) 64) [
     | yes low ↦ rw (lt-ltb (place_with 0 (rank_in (roll_of ts us) n) a) 64 low) (there-is ts a first (called-first ts us) n there low)
@@ -198,7 +198,7 @@ module _ (ts us : List Task) (a b : List ℕ) (first : Ranks ts (roll_of ts us) 
         | no high ↦ by (roll-parts ts us n there) (omega arith)
       ]
         where
-          by : ([] ≡ n) ⊎ (Some (λ x. x ≡ n) (names_in ts) ⊎ Some (λ x. x ≡ n) (names_in us)) → 64 ≤ place_with 0 (rank_in (roll_of ts us) n) b
+          by : ([] ≡ n) ⊎ (SomeOf (λ x. x ≡ n) (names_in ts) ⊎ SomeOf (λ x. x ≡ n) (names_in us)) → 64 ≤ place_with 0 (rank_in (roll_of ts us) n) b
               → spelling (task_at us (place_with 0 (rank_in (roll_of ts us) n) b)).name ≡ n
           by (inl e) beyond = past-name us (place_with 0 (rank_in (roll_of ts us) n) b) (omega (arith, second.all)) ∙ e
           by (inr (inl h)) beyond = absurd (omega (arith, rank-there ts a first n h))
@@ -236,17 +236,16 @@ ranked-low : (c : List ℕ) (l : List (Placed ℕ)) → Each (λ e. e.on < cores
 ranked-low c [] low = tt
 ranked-low c (e ∷ l) low = (low.0, ranked-low c l low.1)
 
-pub stands-low : (s : Layout) (c x : List ℕ) (n : ℕ) → placed_in x n ≡ map (ranked_by c) (seats_on s 16) → Each (λ e. e.on < cores_most) (placed_in x n)
-stands-low s c x n lies =
+pub stands-low : (s : Layout) (c : List ℕ) (es : List Ranked) → placed es ≡ map (ranked_by c) (seats_on s 16) → Each (λ e. e.on < cores_most) (placed es)
+stands-low s c es lies =
     subst (Each (λ e. e.on < cores_most)) (sym lies) (ranked-low c (seats_on s 16) (seats-low s 16 (omega arith)))
 
-pub diff-wrote : (p q : Plan) (a b x y : List ℕ) (n m r : ℕ) (old new : List ℕ)
+pub diff-wrote : (p q : Plan) (a b : List ℕ) (l k : List (Placed ℕ)) (r : ℕ) (old new : List ℕ)
     → Ranks p.tasks.list (roll_of p.tasks.list q.tasks.list) a → Ranks q.tasks.list (roll_of p.tasks.list q.tasks.list) b
-    → placed_in x n ≡ map (ranked_by a) (seats_on p.layout 16) → placed_in y m ≡ map (ranked_by b) (seats_on q.layout 16)
-    → Wrote old 0
-    (diff_head p.tasks.count q.tasks.count ++ rank_blocks (λ k. ranked_name k a p.tasks.list b q.tasks.list) (placed_in x n) (placed_in y m) 129) r new
+    → l ≡ map (ranked_by a) (seats_on p.layout 16) → k ≡ map (ranked_by b) (seats_on q.layout 16)
+    → Wrote old 0 (diff_head p.tasks.count q.tasks.count ++ rank_blocks (λ k. ranked_name k a p.tasks.list b q.tasks.list) l k 129) r new
     → Wrote old 0 (diff_of p q) r new
-diff-wrote p q a b x y n m r old new first second lies rests wrote =
+diff-wrote p q a b l k r old new first second lies rests wrote =
     subst (λ (t : List ℕ). Wrote old 0 t r new)
     ((λ i. diff_head p.tasks.count q.tasks.count ++ rank_blocks (λ k. ranked_name k a p.tasks.list b q.tasks.list) (lies i) (rests i) 129)
     ∙ diff-lines p q a b first second) wrote

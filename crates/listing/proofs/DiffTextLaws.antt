@@ -17,19 +17,18 @@ use native.Mathlib.Decide.{dec_lt}
 use native.Mathlib.Omega.{arith}
 use borrow.Author.Tests.{lt-ltb, le-ltb, eq-eqb, ne_eqb}
 use lib.Dec.{ltb, eqb}
-use lib.ListN.{length, length-append}
+use lib.ListN.{length, length-append, length-map}
 use Rattle.demand.specs.declared.Piece.{Piece}
 use Rattle.walks.specs.Lists.{keep, only}
 use Rattle.walks.specs.Way.{Placed, relabel}
-use Rattle.plan.specs.Ways.PlacedArray.{seat_of, placed_at, placed_in}
-use Rattle.plan.proofs.LentLaws.{placed-length}
+use Rattle.walks.proofs.ListLaws.{only-append}
 use Rattle.plan.proofs.Lists.{map_snoc}
 use Rattle.lines.specs.Lines.{bytes_of, tab}
+use Rattle.listing.specs.declared.Ranked.{Ranked}
 use Rattle.listing.specs.Text.{ended_by, text_line, decimal}
 use Rattle.listing.specs.Listing.{kind_word}
 use Rattle.listing.specs.Diff.{of_item, alike, diff_line, diff_lines, side_by_side}
-use Rattle.listing.specs.Ways.RankArrays.{figures_of, under, rank_block, rank_blocks, ranked_below}
-use Rattle.listing.proofs.RankLaws.{only-more}
+use Rattle.listing.specs.Ways.RankArrays.{figures_of, under, rank_block, rank_blocks, ranked_below, seat, placed}
 
 pub diff-line : (word name : List ℕ) (core n : ℕ) (p : Piece) → n ≡ core + 1
     → ended_by tab word ++ (ended_by tab name ++ (ended_by tab (decimal n) ++ (ended_by tab (kind_word p.kind) ++ text_line (figures_of p))))
@@ -48,32 +47,28 @@ abbrev pub lines_of : (word name : List ℕ) → ℕ → List (Placed ℕ) → L
 lines_of w s r l = diff_lines w (under s (of_item eqb r l))
 
 -- one piece more
-module _ (r : ℕ) (a : List ℕ) (i : ℕ) where
-  of_one : (placed_at a i).item ≡ r → of_item eqb r (placed_in a (i + 1)) ≡ of_item eqb r (placed_in a i) ++ (placed_at a i ∷ [])
-  of_one same = only-more a (λ e. eqb e.item r) i ∙ rw (eq-eqb (placed_at a i).item r same)
+module _ (r : ℕ) (l : List (Placed ℕ)) (e : Placed ℕ) where
+  of_one : e.item ≡ r → of_item eqb r (l ++ (e ∷ [])) ≡ of_item eqb r l ++ (e ∷ [])
+  of_one same = only-append (λ e. eqb e.item r) l (e ∷ []) ∙ rw (eq-eqb e.item r same)
 
-  of-same : ((placed_at a i).item ≡ r → ⊥) → of_item eqb r (placed_in a (i + 1)) ≡ of_item eqb r (placed_in a i)
-  of-same other = only-more a (λ e. eqb e.item r) i ∙ rw (ne_eqb (placed_at a i).item r other) (append-nil (of_item eqb r (placed_in a i)))
+  of-same : (e.item ≡ r → ⊥) → of_item eqb r (l ++ (e ∷ [])) ≡ of_item eqb r l
+  of-same other = only-append (λ e. eqb e.item r) l (e ∷ []) ∙ rw (ne_eqb e.item r other) (append-nil (of_item eqb r l))
 
-  pub of-more : (placed_at a i).item ≡ r → length (of_item eqb r (placed_in a (i + 1))) ≡ length (of_item eqb r (placed_in a i)) + 1
-  of-more same = ap (length {A = Placed ℕ}) (of_one same) ∙ length-append (of_item eqb r (placed_in a i)) (placed_at a i ∷ [])
+  pub of-more : e.item ≡ r → length (of_item eqb r (l ++ (e ∷ []))) ≡ length (of_item eqb r l) + 1
+  of-more same = ap (length {A = Placed ℕ}) (of_one same) ∙ length-append (of_item eqb r l) (e ∷ [])
 
-  pub of-stay : ((placed_at a i).item ≡ r → ⊥) → length (of_item eqb r (placed_in a (i + 1))) ≡ length (of_item eqb r (placed_in a i))
+  pub of-stay : (e.item ≡ r → ⊥) → length (of_item eqb r (l ++ (e ∷ []))) ≡ length (of_item eqb r l)
   of-stay other = ap (length {A = Placed ℕ}) (of-same other)
 
-  pub lines_more : (w s : List ℕ) (core rank : ℕ) (p : Piece) → seat_of core rank p ≡ placed_at a i → (placed_at a i).item ≡ r
-      → lines_of w s r (placed_in a i) ++ diff_line w (record { on = core; item = s; piece = p }) ≡ lines_of w s r (placed_in a (i + 1))
-  lines_more w s core rank p is same =
-      let front = of_item eqb r (placed_in a i) in
-      let there = relabel (λ (k : ℕ). s) (placed_at a i) in
-      let here : diff_line w (record { on = core; item = s; piece = p }) ≡ diff_line w there =
-      ap (λ (e : Placed ℕ). diff_line w (relabel (λ (k : ℕ). s) e)) is in
+  pub lines_more : (w s : List ℕ) → e.item ≡ r → lines_of w s r l ++ diff_line w (relabel (λ k. s) e) ≡ lines_of w s r (l ++ (e ∷ []))
+  lines_more w s same =
+      let there = relabel (λ (k : ℕ). s) e in
       sym (ap (λ (l : List (Placed ℕ)). diff_lines w (under s l)) (of_one same)
-      ∙ (ap (diff_lines w) (map_snoc (relabel (λ (k : ℕ). s)) front (placed_at a i))
-      ∙ (lines-append w (under s front) (there ∷ [])
-      ∙ ap (λ (l : List ℕ). lines_of w s r (placed_in a i) ++ l) (append-nil (diff_line w there) ∙ sym here))))
+      ∙ (ap (diff_lines w) (map_snoc (relabel (λ (k : ℕ). s)) (of_item eqb r l) e)
+      ∙ (lines-append w (under s (of_item eqb r l)) (there ∷ [])
+      ∙ ap (λ (k : List ℕ). lines_of w s r l ++ k) (append-nil (diff_line w there)))))
 
-  pub lines_stay : (w s : List ℕ) → ((placed_at a i).item ≡ r → ⊥) → lines_of w s r (placed_in a i) ≡ lines_of w s r (placed_in a (i + 1))
+  pub lines_stay : (w s : List ℕ) → (e.item ≡ r → ⊥) → lines_of w s r l ≡ lines_of w s r (l ++ (e ∷ []))
   lines_stay w s other = sym (ap (λ (l : List (Placed ℕ)). diff_lines w (under s l)) (of-same other))
 
 -- ---- at most as many as there are
@@ -86,8 +81,8 @@ only-few test (a ∷ l) = by (test a) (only-few test l)
     by true h = omega arith
     by false h = omega arith
 
-pub of-few : (r : ℕ) (a : List ℕ) (n : ℕ) → length (of_item eqb r (placed_in a n)) ≤ n
-of-few r a n = omega (arith, only-few (λ e. eqb e.item r) (placed_in a n), placed-length a n)
+pub of-few : (r : ℕ) (es : List Ranked) → length (of_item eqb r (placed es)) ≤ length es
+of-few r es = omega (arith, only-few (λ e. eqb e.item r) (placed es), length-map es seat)
 
 -- ---- the lines of one name
 
@@ -135,8 +130,8 @@ pub lesser-none : (l : List (Placed ℕ)) → ranked_below 0 l ≡ 0
 lesser-none [] = refl
 lesser-none (e ∷ l) = rw (le-ltb e.item 0 (omega arith)) (lesser-none l)
 
-pub lesser-few : (r : ℕ) (l : List (Placed ℕ)) → ranked_below r l ≤ length l
-lesser-few r l = only-few (λ e. ltb e.item r) l
+pub lesser-few : (r : ℕ) (es : List Ranked) → ranked_below r (placed es) ≤ length es
+lesser-few r es = omega (arith, only-few (λ e. ltb e.item r) (placed es), length-map es seat)
 
 pub lesser-more : (r : ℕ) (l : List (Placed ℕ)) → ranked_below (r + 1) l ≡ ranked_below r l + length (of_item eqb r l)
 lesser-more r [] = refl

@@ -15,7 +15,7 @@ use Prim.Native.Nat.{ℕ, ◌+◌, ◌<◌}
 use native.Mathlib.Decide.{dec_lt}
 use native.Mathlib.Omega.{arith}
 use lib.ListN.{length, length-append}
-use Rattle.demand.specs.Sizes.{Each, Some}
+use Rattle.demand.specs.Sizes.{Each, SomeOf}
 use Rattle.demand.specs.Tables.{Not}
 use Rattle.task.specs.Names.{same_bytes}
 use Rattle.task.proofs.NameLaws.{same-bytes-exact}
@@ -50,7 +50,7 @@ none-there [] h = refl
 none-there (a ∷ l) h = absurd (h (omega arith))
 
 abbrev pub Covered : List (List ℕ) → List (Placed (List ℕ)) → Type 0
-Covered ns l = Each (λ e. Some (λ x. x ≡ e.item) ns) l
+Covered ns l = Each (λ e. SomeOf (λ x. x ≡ e.item) ns) l
 
 module _ (l k : List (Placed (List ℕ))) where
   abbrev pub moves : List ℕ → Bool
@@ -60,13 +60,13 @@ module _ (l k : List (Placed (List ℕ))) where
   moved-chain ns = chain-only (λ m n. comes_before m n ≡ true) moves (byte_ordered ns (length ns)) (order-chain ns (length ns))
 
   -- a name of which something is placed is one of ns
-  name-there : (ns : List (List ℕ)) (n : List ℕ) (k : List (Placed (List ℕ))) → Covered ns k → 0 < length (of_item same_bytes n k) → Some (λ x. x ≡ n) ns
+  name-there : (ns : List (List ℕ)) (n : List ℕ) (k : List (Placed (List ℕ))) → Covered ns k → 0 < length (of_item same_bytes n k) → SomeOf (λ x. x ≡ n) ns
   name-there ns n k cover some =
       let e = found (λ (f : Placed (List ℕ)). same_bytes f.item n) k some in
-      subst (λ (m : List ℕ). Some (λ x. x ≡ m) ns) ((same-bytes-exact e.0.item n).0 e.1.0)
-      (each-some (λ f. Some (λ x. x ≡ f.item) ns) k e.0 cover e.1.1)
+      subst (λ (m : List ℕ). SomeOf (λ x. x ≡ m) ns) ((same-bytes-exact e.0.item n).0 e.1.0)
+      (each-some (λ f. SomeOf (λ x. x ≡ f.item) ns) k e.0 cover e.1.1)
 
-  pub unlike-there : (ns : List (List ℕ)) → Covered ns l → Covered ns k → (n : List ℕ) → alike same_bytes n l k ≡ false → Some (λ x. x ≡ n) ns
+  pub unlike-there : (ns : List (List ℕ)) → Covered ns l → Covered ns k → (n : List ℕ) → alike same_bytes n l k ≡ false → SomeOf (λ x. x ≡ n) ns
   unlike-there ns first second n unlike = elim (dec_lt 0 (length (of_item same_bytes n l))) [
     | yes some ↦ name-there ns n l first some
     | no none ↦ elim (dec_lt 0 (length (of_item same_bytes n k))) [
@@ -76,10 +76,10 @@ module _ (l k : List (Placed (List ℕ))) where
     ]
   ]
 
-  pub moved-exactly : (ns : List (List ℕ)) → Covered ns l → Covered ns k → (n : List ℕ) → Some (λ x. x ≡ n) (moved_of ns l k) ↔ (alike same_bytes n l k ≡ false)
+  pub moved-exactly : (ns : List (List ℕ)) → Covered ns l → Covered ns k → (n : List ℕ) → SomeOf (λ x. x ≡ n) (moved_of ns l k) ↔ (alike same_bytes n l k ≡ false)
   moved-exactly ns first second n = (
     (λ h. not-true (alike same_bytes n l k)
-        (each-some (λ m. (moves m ≡ true) × Some (λ x. x ≡ m) (byte_ordered ns (length ns))) (moved_of ns l k) n
+        (each-some (λ m. (moves m ≡ true) × SomeOf (λ x. x ≡ m) (byte_ordered ns (length ns))) (moved_of ns l k) n
         (only-each moves (byte_ordered ns (length ns))) h).0),
     λ unlike.
         let here = unlike-there ns first second n unlike in
@@ -94,7 +94,7 @@ module _ (l k : List (Placed (List ℕ))) where
         λ m. (moved-exactly ns f g n).1 ((moved-exactly ms h i n).0 m),
       ))
 
-some-named : (l : List (Placed (List ℕ))) (e : Placed (List ℕ)) → Some (λ x. x ≡ e) l → Some (λ x. x ≡ e.item) (names_of l)
+some-named : (l : List (Placed (List ℕ))) (e : Placed (List ℕ)) → SomeOf (λ x. x ≡ e) l → SomeOf (λ x. x ≡ e.item) (names_of l)
 some-named (f ∷ l) e (inl is) = inl (ap (λ (g : Placed (List ℕ)). g.item) is)
 some-named (f ∷ l) e (inr h) = inr (some-named l e h)
 some-named [] e x' = elim x' [ ]
@@ -102,16 +102,16 @@ some-named [] e x' = elim x' [ ]
 -- their own names are all that two plans need
 module _ (l k : List (Placed (List ℕ))) where
   first-covered : Covered (names_of (l ++ k)) l
-  first-covered = each-with (λ e. Some (λ x. x ≡ e.item) (names_of (l ++ k))) l (λ e h. some-named (l ++ k) e (some-join (λ x. x ≡ e) l k h))
+  first-covered = each-with (λ e. SomeOf (λ x. x ≡ e.item) (names_of (l ++ k))) l (λ e h. some-named (l ++ k) e (some-join (λ x. x ≡ e) l k h))
 
   second-covered : Covered (names_of (l ++ k)) k
-  second-covered = each-with (λ e. Some (λ x. x ≡ e.item) (names_of (l ++ k))) k (λ e h. some-named (l ++ k) e (some-behind (λ x. x ≡ e) l k h))
+  second-covered = each-with (λ e. SomeOf (λ x. x ≡ e.item) (names_of (l ++ k))) k (λ e h. some-named (l ++ k) e (some-behind (λ x. x ≡ e) l k h))
 
   pub names-chain : Chain (λ m n. comes_before m n ≡ true) (moved_names l k)
   unfolding moved_names
   names-chain = moved-chain l k (names_of (l ++ k))
 
-  pub names-exactly : (n : List ℕ) → Some (λ x. x ≡ n) (moved_names l k) ↔ (alike same_bytes n l k ≡ false)
+  pub names-exactly : (n : List ℕ) → SomeOf (λ x. x ≡ n) (moved_names l k) ↔ (alike same_bytes n l k ≡ false)
   unfolding moved_names
   names-exactly n = moved-exactly l k (names_of (l ++ k)) first-covered second-covered n
 
@@ -119,7 +119,7 @@ module _ (l k : List (Placed (List ℕ))) where
   unfolding moved_names
   names-are ns f g = moved-one l k ns (names_of (l ++ k)) f g first-covered second-covered
 
-  pub unlike-means : (n : List ℕ) → Some (λ x. x ≡ n) (moved_names l k) ↔ Not (Alike n l k)
+  pub unlike-means : (n : List ℕ) → SomeOf (λ x. x ≡ n) (moved_names l k) ↔ Not (Alike n l k)
   unlike-means n = (
     (λ there same. never (sym ((alike-means n l k).1 same) ∙ (names-exactly n).0 there)),
     λ differs. (names-exactly n).1 (by differs (alike same_bytes n l k) refl),
@@ -173,12 +173,12 @@ module _ (l k : List (Placed (List ℕ))) where
     where
       by : (b : Bool) → alike same_bytes n l k ≡ b → b ≡ true
       by true e = refl
-      by false e = absurd (subst (λ (ns : List (List ℕ)). Some (λ x. x ≡ n) ns) none ((names-exactly l k n).1 e))
+      by false e = absurd (subst (λ (ns : List (List ℕ)). SomeOf (λ x. x ≡ n) ns) none ((names-exactly l k n).1 e))
 
   none-names : ((n : List ℕ) → alike same_bytes n l k ≡ true) → moved_names l k ≡ []
   none-names all = by (moved_names l k) (λ n h. (names-exactly l k n).0 h)
     where
-      by : (ns : List (List ℕ)) → ((n : List ℕ) → Some (λ x. x ≡ n) ns → alike same_bytes n l k ≡ false) → ns ≡ []
+      by : (ns : List (List ℕ)) → ((n : List ℕ) → SomeOf (λ x. x ≡ n) ns → alike same_bytes n l k ≡ false) → ns ≡ []
       by [] h = refl
       by (n ∷ ns) h = never (sym (all n) ∙ h n (inl refl))
 

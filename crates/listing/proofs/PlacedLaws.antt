@@ -35,7 +35,7 @@ use Rattle.task.specs.Tasks.{task_at, state_fault, cores_most, tasks_most, tasks
 use Rattle.task.proofs.TaskLaws.{state-sane, tasks-at}
 use Rattle.plan.specs.declared.Layout.{Layout}
 use Rattle.plan.specs.declared.Plan.{Plan}
-use Rattle.plan.specs.declared.Reply.{Reply}
+use Rattle.plan.specs.Reply.{Reply}
 use Rattle.walks.specs.Lists.{keep}
 use Rattle.walks.specs.Way.{Placed, fine, on_core, row_of}
 use Rattle.walks.specs.Halves.{Stand}

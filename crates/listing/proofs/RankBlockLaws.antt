@@ -10,7 +10,7 @@ use Prim.Native.Nat.{ℕ, zero, suc}
 use borrow.Author.Tests.{eq-eqb, eqb-true}
 use lib.Dec.{eqb}
 use lib.ListN.{length, take, length-map}
-use Rattle.demand.specs.Sizes.{Each, Some}
+use Rattle.demand.specs.Sizes.{Each, SomeOf}
 use Rattle.task.specs.Names.{same_bytes}
 use Rattle.task.proofs.NameLaws.{same-bytes-exact}
 use Rattle.walks.specs.Lists.{keep, only}
@@ -41,7 +41,7 @@ module _ (ns : List (List ℕ)) where
   ranked l = map (relabel (rank_in ns)) l
 
   -- ranks tell names of ns apart
-  agree : (m n : List ℕ) → Some (λ x. x ≡ m) ns → Some (λ x. x ≡ n) ns → eqb (rank_in ns m) (rank_in ns n) ≡ same_bytes m n
+  agree : (m n : List ℕ) → SomeOf (λ x. x ≡ m) ns → SomeOf (λ x. x ≡ n) ns → eqb (rank_in ns m) (rank_in ns n) ≡ same_bytes m n
   agree m n here there = by (eqb (rank_in ns m) (rank_in ns n)) (same_bytes m n) refl refl
     where
       by : (s t : Bool) → eqb (rank_in ns m) (rank_in ns n) ≡ s → same_bytes m n ≡ t → s ≡ t
@@ -51,7 +51,7 @@ module _ (ns : List (List ℕ)) where
           never (sym ((same-bytes-exact m n).1 (rank-one ns m n here there (eqb-true (rank_in ns m) (rank_in ns n) e))) ∙ f)
       by false true e f = never (sym (eq-eqb (rank_in ns m) (rank_in ns n) (ap (rank_in ns) ((same-bytes-exact m n).0 f))) ∙ e)
 
-  of-rank : (n : List ℕ) → Some (λ x. x ≡ n) ns → (l : List (Placed (List ℕ))) → Covered ns l
+  of-rank : (n : List ℕ) → SomeOf (λ x. x ≡ n) ns → (l : List (Placed (List ℕ))) → Covered ns l
       → of_item eqb (rank_in ns n) (ranked l) ≡ map (relabel (rank_in ns)) (of_item same_bytes n l)
   of-rank n here l cover =
       only-map (λ e. eqb e.item (rank_in ns n)) (relabel (rank_in ns)) l
@@ -61,7 +61,7 @@ module _ (ns : List (List ℕ)) where
       each [] h = tt
       each (e ∷ l) h = (agree e.item n h.0 here, each l h.1)
 
-  often-rank : (e : Placed (List ℕ)) → Some (λ x. x ≡ e.item) ns → (l : List (Placed (List ℕ))) → Covered ns l
+  often-rank : (e : Placed (List ℕ)) → SomeOf (λ x. x ≡ e.item) ns → (l : List (Placed (List ℕ))) → Covered ns l
       → how_often eqb (relabel (rank_in ns) e) (ranked l) ≡ how_often same_bytes e l
   often-rank e here l cover =
       let labelled : Placed ℕ = relabel (rank_in ns) e in
@@ -76,13 +76,13 @@ module _ (ns : List (List ℕ)) where
       each (f ∷ l) h =
           (ap (λ (b : Bool). b && eqb e.on f.on && same_piece e.piece f.piece) (agree e.item f.item here h.0), each l h.1)
 
-  every-rank : (n : List ℕ) → Some (λ x. x ≡ n) ns → (l k : List (Placed (List ℕ))) → Covered ns l → Covered ns k
+  every-rank : (n : List ℕ) → SomeOf (λ x. x ≡ n) ns → (l k : List (Placed (List ℕ))) → Covered ns l → Covered ns k
       → every (as_often eqb (ranked l) (ranked k)) (of_item eqb (rank_in ns n) (ranked l)) ≡ every (as_often same_bytes l k) (of_item same_bytes n l)
   every-rank n here l k first second =
       ap (every (as_often eqb (ranked l) (ranked k))) (of-rank n here l first)
       ∙ (every_map (as_often eqb (ranked l) (ranked k)) (relabel (rank_in ns)) (of_item same_bytes n l)
       ∙ every-same (λ e. as_often eqb (ranked l) (ranked k) (relabel (rank_in ns) e)) (as_often same_bytes l k) (of_item same_bytes n l)
-      (each (of_item same_bytes n l) (each-only (λ e. Some (λ x. x ≡ e.item) ns) (λ e. same_bytes e.item n) l first)))
+      (each (of_item same_bytes n l) (each-only (λ e. SomeOf (λ x. x ≡ e.item) ns) (λ e. same_bytes e.item n) l first)))
     where
       each : (m : List (Placed (List ℕ))) → Covered ns m
           → Each (λ e. as_often eqb (ranked l) (ranked k) (relabel (rank_in ns) e) ≡ as_often same_bytes l k e) m
@@ -109,8 +109,8 @@ module _ (ns : List (List ℕ)) where
   none-ranked r none l cover =
       only-map (λ e. eqb e.item r) (relabel (rank_in ns)) l ∙ ap (map (relabel (rank_in ns))) (only_none (λ e. eqb (rank_in ns e.item) r) l (each l cover))
     where
-      other : (n : List ℕ) → Some (λ x. x ≡ n) ns → (b : Bool) → eqb (rank_in ns n) r ≡ b → b ≡ false
-      other n here true e = absurd (subst (λ (m : List (List ℕ)). Some (λ x. x ≡ n) m) none (only-has (λ m. eqb (rank_in ns m) r) n e ns here))
+      other : (n : List ℕ) → SomeOf (λ x. x ≡ n) ns → (b : Bool) → eqb (rank_in ns n) r ≡ b → b ≡ false
+      other n here true e = absurd (subst (λ (m : List (List ℕ)). SomeOf (λ x. x ≡ n) m) none (only-has (λ m. eqb (rank_in ns m) r) n e ns here))
       other n here false e = refl
 
       each : (l : List (Placed (List ℕ))) → Covered ns l → Each (λ e. eqb (rank_in ns e.item) r ≡ false) l
@@ -118,8 +118,8 @@ module _ (ns : List (List ℕ)) where
       each (e ∷ l) h = (other e.item h.0 (eqb (rank_in ns e.item) r) refl, each l h.1)
 
   module _ (l k : List (Placed (List ℕ))) (first : Covered ns l) (second : Covered ns k) (name : ℕ → List ℕ)
-      (names : (n : List ℕ) → Some (λ x. x ≡ n) ns → name (rank_in ns n) ≡ n) where
-    at_name : (n : List ℕ) → Some (λ x. x ≡ n) ns
+      (names : (n : List ℕ) → SomeOf (λ x. x ≡ n) ns → name (rank_in ns n) ≡ n) where
+    at_name : (n : List ℕ) → SomeOf (λ x. x ≡ n) ns
         → cond (alike eqb (rank_in ns n) (ranked l) (ranked k)) [] (rank_block (name (rank_in ns n)) (rank_in ns n) (ranked l) (ranked k))
         ≡ diff_blocks l k (only (moves l k) (n ∷ []))
     at_name n here =
@@ -141,7 +141,7 @@ module _ (ns : List (List ℕ)) where
         ≡ diff_blocks l k (only (moves l k) (take 1 (with_rank ns r)))
     at-rank r = by (with_rank ns r) refl (only-each (λ n. eqb (rank_in ns n) r) ns)
       where
-        by : (m : List (List ℕ)) → with_rank ns r ≡ m → Each (λ n. (eqb (rank_in ns n) r ≡ true) × Some (λ x. x ≡ n) ns) m
+        by : (m : List (List ℕ)) → with_rank ns r ≡ m → Each (λ n. (eqb (rank_in ns n) r ≡ true) × SomeOf (λ x. x ≡ n) ns) m
             → cond (alike eqb r (ranked l) (ranked k)) [] (rank_block (name r) r (ranked l) (ranked k)) ≡ diff_blocks l k (only (moves l k) (take 1 m))
         by [] none h = rw (none-ranked r none l first, none-ranked r none k second)
         by (n ∷ m) some h =

@@ -1,8 +1,8 @@
 -- Laws of runs of bytes written into a buffer, and of decimal digits.
 -- Assumes nothing.
 --
---   wrote_none, wrote-both, wrote-more     nothing written; one run behind another; one byte more of a run
---   wrote-whole, wrote-length              what a buffer that is long enough then holds; and it keeps its length
+--   wrote_none, wrote-both                 nothing written; one run behind another
+--   wrote-whole                            what a buffer that is long enough then holds
 --   ended-length                           a run and its end
 --   digits_last, digits_step               the first digit of a number, and any other
 --   Left n d i m                           the digits of n that are left: m, for the i places in front of those in d
@@ -12,12 +12,11 @@
 use mathlib.Core.Path.{◌≡◌, refl, sym, ap, ◌∙◌}
 use Prim.Native.Nat.{ℕ, zero, suc, ◌+◌, ◌-◌, ◌*◌, ◌/◌, ◌%◌, ◌^◌, ◌≤◌, ◌<◌}
 use native.Mathlib.Nat.{add-zero, zero-add, pow-suc, div-lt_iff_lt-mul}
-use native.Mathlib.Numerals.{add-one}
 use native.Mathlib.Omega.{arith}
 use mathlib.Core.Bool.{Bool, true, false, cond}
 use mathlib.Core.List.{List, [], ◌∷◌, ◌++◌}
-use lib.ListN.{length, get_or, take, drop, set, length-append, length-set, length-drop, drop_of_length-le}
-use lib.Seq.{sets, sets-eq, length-sets, take-suc, take_all, drop-cons, drop-set-lt, get_or-set_same}
+use lib.ListN.{length, take, drop, set, length-append, length-set, length-drop, drop_of_length-le}
+use lib.Seq.{sets, sets-eq, take_all, drop-cons, drop-set-lt, get_or-set_same}
 use lib.Dec.{ltb, lit<}
 use borrow.Author.Tests.{lt-ltb, le-ltb, lt-leb, le-leb}
 use Rattle.listing.specs.Text.{Wrote, ended_by, digits_onto, decimal, over}
@@ -39,20 +38,6 @@ wrote_none l at = record { place = rw add-zero; bytes = refl }
 -- where the buffer is long enough it holds the text and then what it held
 pub wrote-whole : (l vs m : List ℕ) (r : ℕ) → Wrote l 0 vs r m → length vs ≤ length l → m ≡ vs ++ drop (length vs) l
 wrote-whole l vs m r f h = f.bytes ∙ sets-eq vs l 0 (rw zero-add h) ∙ rw zero-add
-
--- the buffer keeps its length
-pub wrote-length : (l : List ℕ) (at : ℕ) (vs : List ℕ) (r : ℕ) (m : List ℕ) → Wrote l at vs r m → length m ≡ length l
-wrote-length l at vs r m f = rw f.bytes (length-sets l at vs)
-
--- one byte more of s is written
-pub wrote-more : (l : List ℕ) (at : ℕ) (s : List ℕ) (i : ℕ) (m : List ℕ) (r : ℕ) (n : List ℕ) → i < length s
-    → Wrote l at (take i s) (at + i) m → Wrote m (at + i) (get_or s i 0 ∷ []) r n → Wrote l at (take (i + 1) s) (at + (i + 1)) n
-wrote-more l at s i m r n h f g =
-    let t : take (i + 1) s ≡ take i s ++ (get_or s i 0 ∷ []) = rw (add-one i) (take-suc s i 0 h) in
-    let b : Wrote l at (take i s ++ (get_or s i 0 ∷ [])) r n = wrote-both f g in
-    let p : r ≡ at + i + 1 = g.place in
-    let q : r ≡ at + (i + 1) = omega arith in
-    record { place = sym q ∙ rw t b.place; bytes = rw t b.bytes }
 
 -- a run and its end
 pub ended-length : (b : ℕ) (f : List ℕ) → length (ended_by b f) ≡ length f + 1

@@ -9,6 +9,7 @@
 --   why-outside           a core that the machine has not is refused
 --   titles-few            tasks with names of at most 24 bytes are called by as many
 --   why-few, front-few    then the listing of at most 79 pieces has at most 8,012 bytes, and the line in front 74
+use Rattle.std.specs.Prelude.{Ok, Result, ⊤}
 use mathlib.Core.Path.{◌≡◌, refl, sym, ap, ◌∙◌}
 use mathlib.Core.Bool.{Bool, true, false, cond}
 use mathlib.Core.List.{List, [], ◌∷◌, ◌++◌, map, map-map}
@@ -23,8 +24,6 @@ use Rattle.demand.specs.declared.Costs.{Costs}
 use Rattle.demand.specs.declared.Kind.{Kind}
 use Rattle.demand.specs.declared.Verdict.{Verdict}
 use Rattle.demand.specs.declared.Verdict.TheVariants.{Passes, Overloaded, Undecided}
-use Rattle.demand.specs.declared.Check.{Check}
-use Rattle.demand.specs.declared.Check.TheVariants.{Fine}
 use Rattle.demand.specs.declared.Ask.{Ask}
 use Rattle.demand.specs.declared.Shown.{Shown}
 use Rattle.demand.specs.Sizes.{Sized, SizedCosts, Each}
@@ -44,7 +43,7 @@ use Rattle.walks.proofs.ListLaws.{each-join, each-only}
 use Rattle.walks.proofs.WayLaws.{until-fine}
 use Rattle.plan.specs.declared.Layout.{Layout}
 use Rattle.plan.specs.declared.Plan.{Plan}
-use Rattle.plan.specs.declared.Reply.{Reply}
+use Rattle.plan.specs.Reply.{Reply}
 use Rattle.plan.specs.Walk.{place_way, packed, walked, walked_until}
 use Rattle.plan.specs.Plan.{plan_placed, finished, reaching, reached_of}
 use Rattle.plan.specs.Shows.{stored_of, LayoutShows}
@@ -61,6 +60,7 @@ use Rattle.listing.proofs.TextLaws.{ended-length, decimal-few}
 use Rattle.listing.proofs.SeatLaws.{seat_of}
 use Rattle.listing.proofs.PlacedLaws.{row-pieces, map_same}
 use Rattle.listing.proofs.PlainLaws.{each-task, word-short}
+use Rattle.demand.specs.declared.Refusal.{Refusal}
 
 -- ---- what a layout has on a core
 
@@ -93,8 +93,8 @@ paper-taken f c ls costs few sizes =
     let pieces = pieces_in ls in
     let all : take (length ls) pieces ≡ pieces = take_all (length ls) pieces (omega (arith, length-map ls (λ (l : Titled). l.piece))) in
     let each : Each Sized (take (length ls) pieces) = rw all (each_map (λ (l : Titled). Sized l.piece) Sized (λ (l : Titled). l.piece) (λ l h. h) ls sizes) in
-    let checked : check_run c (length ls) pieces ≡ Fine = taken-check c (length ls) pieces (record { few = few; costs = costs; each = each }) in
-    ap (λ (k : Check). unless_bad k (written (f ++ why_text c (take (length ls) ls)))) checked
+    let checked : check_run c (length ls) pieces ≡ Ok tt = taken-check c (length ls) pieces (record { few = few; costs = costs; each = each }) in
+    ap (λ (k : Result ⊤ Refusal). unless_bad k (written (f ++ why_text c (take (length ls) ls)))) checked
     ∙ ap (λ (x : List Titled). written (f ++ why_text c x)) (take_all (length ls) ls (omega arith))
 
 pub paper-fine : (f : List ℕ) (c : Costs) (ts : List Task) (es : List (Placed ℕ)) → SizedCosts c → length es ≤ 79 → Each (λ e. Sized e.piece) es

@@ -1,7 +1,6 @@
 -- Laws of the listing that says why.
 -- Assumes nothing.
 --
---   front-some            the line in front, where a task found no room
 --   title-is              what a piece is called by
 --   asks-more, more-titled    one line more
 --   body-some             the lines of some pieces
@@ -9,12 +8,13 @@
 --   line-is               the line of one of them, as the code comes to it
 use mathlib.Core.Path.{◌≡◌, refl, sym, ap, ◌∙◌}
 use mathlib.Core.Bool.{Bool, true, false, cond}
-use mathlib.Core.List.{List, [], ◌∷◌, ◌++◌, append-nil, append_assoc}
-use Prim.Native.Nat.{ℕ, zero, suc, ◌+◌, ◌≤◌, ◌<◌}
+use mathlib.Core.List.{List, [], ◌∷◌, ◌++◌, map, append-nil, append_assoc}
+use Prim.Native.Nat.{ℕ, ◌+◌, ◌≤◌, ◌<◌}
 use native.Mathlib.Nat.{not-suc-le-zero}
 use native.Mathlib.Numerals.{add-one}
 use native.Mathlib.Omega.{arith}
-use lib.ListN.{length, get_or, take}
+use lib.ListN.{length, get_or}
+use Rattle.std.proofs.lemmas.List.{get_or-map}
 use Rattle.demand.specs.declared.Piece.{Piece}
 use Rattle.demand.specs.declared.Costs.{Costs}
 use Rattle.demand.specs.declared.Charged.{Charged}
@@ -22,13 +22,14 @@ use Rattle.demand.specs.declared.Ask.{Ask}
 use Rattle.demand.specs.declared.Shown.{Shown}
 use Rattle.demand.specs.Answer.{Taken}
 use Rattle.demand.specs.Charge.{charged}
-use Rattle.demand.specs.Records.{record_at, record_within, records_of}
-use Rattle.demand.specs.Sizes.{Sized, run_most, length_most}
+use Rattle.demand.specs.declared.Record.{Record}
+use Rattle.demand.specs.Records.{outside, piece_in}
+use Rattle.demand.specs.Sizes.{Sized, length_most}
 use Rattle.demand.specs.Why.{ask, shown_of}
 use Rattle.demand.specs.Ways.Ranges.{charged_within}
 use Rattle.demand.proofs.ArrayLaws.{firsts-length}
 use Rattle.demand.proofs.ChargeLaws.{sized-countable, charged-ranged, charged-within}
-use Rattle.demand.proofs.RecordLaws.{records-length, records-at, records-take, record-within}
+use Rattle.demand.proofs.RecordLaws.{pieces-length, pieces-all}
 use Rattle.demand.proofs.Sums.{each_at}
 use Rattle.verdicts.specs.Asks.{ask_within}
 use Rattle.verdicts.proofs.AskLaws.{ask-held, shown-taken}
@@ -36,13 +37,9 @@ use Rattle.task.specs.declared.Task.{Task}
 use Rattle.task.specs.Tasks.{task_at}
 use Rattle.listing.specs.Text.{decimal}
 use Rattle.listing.specs.Listing.{spelling}
-use Rattle.listing.specs.Why.{Titled, pieces_in, ask_line, ask_lines, why_head, why_foot, why_body, why_text, no_room_line}
-use Rattle.listing.specs.Ways.SeatArrays.{title_in, titled_at, titled_in, front_of}
-use Rattle.listing.proofs.SeatLaws.{titled-pieces}
-
-pub front-some : (k : ℕ) (n : List ℕ) (m : ℕ) → (k ≡ 0 → ⊥) → front_of k n m ≡ no_room_line k n m
-front-some zero n m some = absurd (some refl)
-front-some (suc k) n m some = refl
+use Rattle.listing.specs.Why.{Titled, pieces_in, ask_line, ask_lines, why_head, why_foot, why_body, why_text}
+use Rattle.listing.specs.Ways.SeatArrays.{no_record, piece_at, title_in, titled_at, titled_in}
+use Rattle.listing.proofs.SeatLaws.{titled-pieces, pieces-there}
 
 pub title-is : (b : Bool) (ts : List Task) (ks : List ℕ) (i : ℕ) (name : List ℕ) → name ≡ spelling (task_at ts (get_or ks i 0)).name
     → cond b name (decimal (i + 1)) ≡ title_in b ts ks i
@@ -59,7 +56,7 @@ module _ (c : Costs) (s : Shown) where
   asks-more (x ∷ ls) l = ap (λ (t : List ℕ). line_of x ++ t) (asks-more ls l) ∙ sym (append_assoc (line_of x) (ask_lines c s ls) (line_of l))
 
   -- one piece more of those in the arrays
-  pub more-titled : (b : Bool) (ts : List Task) (ks a : List ℕ) (i : ℕ)
+  pub more-titled : (b : Bool) (ts : List Task) (ks : List ℕ) (a : List Record) (i : ℕ)
       → ask_lines c s (titled_in b ts ks a i ++ (titled_at b ts ks a i ∷ [])) ≡ ask_lines c s (titled_in b ts ks a (i + 1))
   more-titled b ts ks a i = ap (λ (n : ℕ). ask_lines c s (titled_in b ts ks a n)) (sym (add-one i))
 
@@ -70,37 +67,33 @@ module _ (c : Costs) (s : Shown) where
 -- ---- the pieces in the arrays
 
 -- what is shown of them
-module _ (c : Costs) (b : Bool) (ts : List Task) (ks a : List ℕ) (n : ℕ) (s : Shown) where
-  shown-here : n ≤ run_most → s ≡ shown_of c (take n (records_of a)) → shown_of c (pieces_in (titled_in b ts ks a n)) ≡ s
-  shown-here few is = ap (shown_of c) (titled-pieces b ts ks a n ∙ sym (records-take a n few)) ∙ sym is
+module _ (c : Costs) (b : Bool) (ts : List Task) (ks : List ℕ) (a : List Record) (s : Shown) (is : s ≡ shown_of c (map piece_in a)) where
+  shown-here : shown_of c (pieces_in (titled_in b ts ks a (length a))) ≡ s
+  shown-here = ap (shown_of c) (titled-pieces b ts ks a (length a) ∙ pieces-there a) ∙ sym is
 
-  pub why-none : n ≡ 0 → s ≡ shown_of c (take n (records_of a)) → why_head s ≡ why_text c (titled_in b ts ks a n)
+  pub why-none : length a ≡ 0 → why_head s ≡ why_text c (titled_in b ts ks a (length a))
   unfolding why_text
-  why-none none is =
-      let here = shown-here (omega arith) is in
-      sym (append-nil (why_head s)) ∙ sym (rw (here, none))
+  why-none none = sym (append-nil (why_head s)) ∙ sym (rw (shown-here, none))
 
-  pub why-some : 1 ≤ n → n ≤ run_most → s ≡ shown_of c (take n (records_of a))
-      → why_head s ++ (ask_lines c s (titled_in b ts ks a n) ++ why_foot s) ≡ why_text c (titled_in b ts ks a n)
+  pub why-some : 1 ≤ length a → why_head s ++ (ask_lines c s (titled_in b ts ks a (length a)) ++ why_foot s) ≡ why_text c (titled_in b ts ks a (length a))
   unfolding why_text
-  why-some some few is =
-      let here = shown-here few is in
-      let long : 1 ≤ length (titled_in b ts ks a n) = omega (arith, firsts-length (titled_at b ts ks a) n) in
-      sym (rw here (ap (λ (t : List ℕ). why_head s ++ t) (body-some c s (titled_in b ts ks a n) long)))
+  why-some some =
+      let long : 1 ≤ length (titled_in b ts ks a (length a)) = omega (arith, firsts-length (titled_at b ts ks a) (length a)) in
+      sym (rw shown-here (ap (λ (t : List ℕ). why_head s ++ t) (body-some c s (titled_in b ts ks a (length a)) long)))
 
 -- the line of the piece at place i, as the code comes to it
-pub line-is : (c : Costs) (n : ℕ) (a : List ℕ) → Taken c n (records_of a) → (s : Shown) → s ≡ shown_of c (take n (records_of a)) → (i : ℕ) → i < n
-    → (p : Piece) → p ≡ record_within a i → (q : Charged) → q ≡ charged_within c p → (x : Ask) → x ≡ ask_within s.verdict s.length q
+pub line-is : (c : Costs) (a : List Record) → Taken c (length a) (map piece_in a) → (s : Shown) → s ≡ shown_of c (map piece_in a) → (i : ℕ) → i < length a
+    → (p : Piece) → p ≡ piece_at a i → (q : Charged) → q ≡ charged_within c p → (x : Ask) → x ≡ ask_within s.verdict s.length q
     → (b : Bool) (ts : List Task) (ks title : List ℕ) → title ≡ title_in b ts ks i
     → ask_line title p.kind x ≡ line_of c s (titled_at b ts ks a i)
-line-is c n a taken s is i low p p-is q q-is x x-is b ts ks title title-is =
-    let here : p ≡ record_at a i = p-is ∙ record-within a i (omega (arith, taken.few)) in
-    let size : Sized (record_at a i) =
-    rw (records-at a i (record_at a i) (omega (arith, taken.few))) at (each_at Sized n (records_of a) taken.each i (record_at a i) low (omega (arith, taken.few, records-length a))) in
-    let count = sized-countable (record_at a i) size in
-    let charge : q ≡ charged c (record_at a i) = q-is ∙ (ap (charged_within c) here ∙ charged-within c (record_at a i) taken.costs count) in
-    let near : s.length ≤ length_most = rw (← is) at (shown-taken c n (records_of a) taken) in
-    let asked : x ≡ ask s.verdict s.length (charged c (record_at a i)) =
+line-is c a taken s is i low p here q q-is x x-is b ts ks title title-is =
+    let there : get_or (map piece_in a) i outside ≡ piece_at a i = get_or-map piece_in a i no_record outside low in
+    let size : Sized (piece_at a i) =
+    rw there at (each_at Sized (length a) (map piece_in a) taken.each i outside low (omega (arith, pieces-length a))) in
+    let count = sized-countable (piece_at a i) size in
+    let charge : q ≡ charged c (piece_at a i) = q-is ∙ (ap (charged_within c) here ∙ charged-within c (piece_at a i) taken.costs count) in
+    let near : s.length ≤ length_most = rw (← is) at (rw (pieces-all a) at (shown-taken c (length a) (map piece_in a) taken)) in
+    let asked : x ≡ ask s.verdict s.length (charged c (piece_at a i)) =
     x-is ∙ (ap (ask_within s.verdict s.length) charge
-    ∙ ask-held s.verdict s.length (charged c (record_at a i)) (charged-ranged c taken.costs (record_at a i) count) near) in
+    ∙ ask-held s.verdict s.length (charged c (piece_at a i)) (charged-ranged c taken.costs (piece_at a i) count) near) in
     cc (here, asked, title-is)

@@ -15,15 +15,13 @@
 --   why_row p q            what is answered for core q, from 0, of the plan p
 --   why_stuck p k          for the last core, where the task at place k, from 0, found no room: with the whole task added
 --   why_of p k core        for a core, from 1: 1 where the machine has no such; k is 0, or the place, from 1, of the task that found no room
-use Rattle.std.specs.Prelude.{cond, ◌&&◌, List, [], ◌∷◌, ◌++◌, map, ℕ, zero, suc, ◌+◌, ◌-◌, leb, length, take}
+use Rattle.std.specs.Prelude.{cond, ◌&&◌, List, [], ◌∷◌, ◌++◌, map, ℕ, zero, suc, ◌+◌, ◌-◌, leb, length, take, Err, Ok, Result, ⊤}
 use Rattle.demand.specs.declared.Kind.{Kind}
 use Rattle.demand.specs.declared.Piece.{Piece}
 use Rattle.demand.specs.declared.Costs.{Costs}
 use Rattle.demand.specs.declared.Verdict.{Verdict}
 use Rattle.demand.specs.declared.Verdict.TheVariants.{Passes, Overloaded, Undecided}
 use Rattle.demand.specs.declared.Refusal.TheVariants.{TooMany, BadCosts, BadRecord}
-use Rattle.demand.specs.declared.Check.{Check}
-use Rattle.demand.specs.declared.Check.TheVariants.{Fine, Bad}
 use Rattle.demand.specs.declared.Ask.{Ask}
 use Rattle.demand.specs.declared.Shown.{Shown}
 use Rattle.demand.specs.Charge.{charged}
@@ -40,6 +38,7 @@ use Rattle.lines.specs.Lines.{bytes_of}
 use Rattle.listing.specs.Text.{text_line, decimal}
 use Rattle.listing.specs.Listing.{spelling, kind_word, row_pieces}
 use Rattle.listing.specs.Papers.{Paper, refused, written}
+use Rattle.demand.specs.declared.Refusal.{Refusal}
 
 pub record Titled : Type 0 where
   pub title : List ℕ
@@ -88,11 +87,11 @@ why_text c ls = why_head (shown_of c (pieces_in ls)) ++ why_body c (shown_of c (
 
 -- ---- what is answered
 
-abbrev pub unless_bad : Check → Paper → Paper
-unless_bad Fine p = p
-unless_bad (Bad TooMany) p = refused 6 0
-unless_bad (Bad BadCosts) p = refused 2 0
-unless_bad (Bad (BadRecord k)) p = refused 3 k
+abbrev pub unless_bad : Result ⊤ Refusal → Paper → Paper
+unless_bad (Ok tt) p = p
+unless_bad (Err TooMany) p = refused 6 0
+unless_bad (Err BadCosts) p = refused 2 0
+unless_bad (Err (BadRecord k)) p = refused 3 k
 
 unfoldable pub why_paper : List ℕ → Costs → ℕ → List Titled → Paper
 why_paper f c n ls = unless_bad (check_run c n (pieces_in ls)) (written (f ++ why_text c (take n ls)))

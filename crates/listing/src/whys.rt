@@ -1,26 +1,22 @@
 // The listing that says why, written into a lent buffer: document 02, E1.
 ghost use Rattle.std.specs.Prelude.{Bool, cond, [], ◌∷◌, ◌++◌, ◌≡◌, ◌+◌, ◌*◌, ◌≤◌, ◌<◌, length, take};
-ghost use Rattle.demand.specs.declared.Check.TheVariants.{Bad};
 ghost use Rattle.demand.specs.Answer.{Taken};
-ghost use Rattle.demand.specs.Records.{records_of};
+ghost use Rattle.demand.specs.Records.{pieces_in};
 ghost use Rattle.demand.specs.Sizes.{run_most, length_most};
 ghost use Rattle.demand.specs.Why.{shown_of};
 ghost use Rattle.listing.specs.Text.{Wrote, ended_by, decimal};
 ghost use Rattle.listing.specs.Listing.{spelling};
-ghost use Rattle.listing.specs.Papers.{note_of, left, written};
-ghost use Rattle.listing.specs.Why.{verdict_word, signed, why_head, ask_line, why_foot, why_text, why_paper, unless_bad};
+ghost use Rattle.listing.specs.Papers.{note, note_of, left};
+ghost use Rattle.listing.specs.Why.{verdict_word, signed, why_head, ask_line, why_foot, why_text, why_paper};
 ghost use Rattle.listing.specs.Ways.SeatArrays.{titled_in, front_of};
 
-use crate::texts::{put_byte, put_bytes, put_name, put_number};
-use crate::{Note, named, put_kind, wide, within};
-use demand::{
-    Ask, Costs, Kind, RUN_MOST, RUN_NUMBERS, Refusal, Showing, Shown, Verdict, charged_piece,
-    record_at,
-};
-use task::{Name, TASKS_MOST, Tasks};
+use crate::texts::{put_byte, put_bytes, put_name, put_number, write_whole};
+use crate::{put_kind, task_in};
+use demand::{Ask, Costs, Kind, RUN_MOST, Record, Shown, Verdict, charged_piece, piece_in};
+use task::{Fault, Name, Refused, Tasks};
 use verdicts::{ask_of, show_records};
 
-// A task that found no room: its place from 1, its name, and how many cores there are. Where there is none, the place is 0.
+// A task that found no room: its place from 1, its name, and how many cores there are.
 #[derive(Clone, Copy)]
 pub struct NoRoom {
     pub place: u64,
@@ -81,7 +77,7 @@ pub fn put_title(buf: &mut [u8], at: usize, by_name: bool, name: Name, i: usize)
     if by_name {
         return put_name(buf, at, name, 9);
     }
-    put_number(buf, at, wide(i + 1), 9)
+    put_number(buf, at, (i + 1) as u64, 9)
 }
 
 // What it asks for, to the line's end.
@@ -114,123 +110,74 @@ pub fn put_asking(
 }
 
 // The line in front, if a task found no room.
-pub fn put_no_room(buf: &mut [u8], stuck: NoRoom) -> usize
-    ensures { (Wrote buf.old 0 (front_of stuck.place (spelling stuck.name) stuck.cores) result buf.new) × (result ≤ 74) }
+pub fn put_no_room(buf: &mut [u8], stuck: Option<NoRoom>) -> usize
+    ensures { (Wrote buf.old 0 (front_of stuck) result buf.new) × (result ≤ 74) }
 {
-    if stuck.place == 0 {
-        return 0;
+    match stuck {
+        None => 0,
+        Some(stuck) => {
+            let a = put_bytes(buf, 0, b"noroom", 9);
+            let b = put_number(buf, a, stuck.place, 9);
+            let c = put_name(buf, b, stuck.name, 9);
+            put_number(buf, c, stuck.cores, 10)
+        }
     }
-    let name = stuck.name;
-    let a = put_bytes(buf, 0, b"noroom", 9);
-    let b = put_number(buf, a, stuck.place, 9);
-    let c = put_name(buf, b, name, 9);
-    put_number(buf, c, stuck.cores, 10)
 }
 
-// The whole listing of the first n records, with what is shown of them; the place behind it.
+// The whole listing of the records, with what is shown of them; the place behind it.
 pub fn put_why<'a>(
     buf: &'a mut [u8],
-    stuck: NoRoom,
+    stuck: Option<NoRoom>,
     costs: Costs,
     by_name: bool,
     tasks: Tasks,
     places: &'a [usize; RUN_MOST],
-    records: &'a [u64; RUN_NUMBERS],
-    n: usize,
+    records: &'a [Record],
     shown: Shown,
 ) -> usize
-    requires { Taken costs n (records_of records.now) × (shown ≡ shown_of costs (take n (records_of records.now))) }
-    ensures { (Wrote buf.old 0 (front_of stuck.place (spelling stuck.name) stuck.cores ++ why_text costs (titled_in by_name tasks.list places.now records.now n)) result buf.new) × (result ≤ 186 + 100 * n) }
+    requires { Taken costs (length records.now) (pieces_in records.now) × (shown ≡ shown_of costs (pieces_in records.now)) }
+    ensures { (Wrote buf.old 0 (front_of stuck ++ why_text costs (titled_in by_name tasks.list places.now records.now (length records.now))) result buf.new) × (result ≤ 186 + 100 * length records.now) }
 {
     let front = put_no_room(buf, stuck);
     let head = put_head(buf, front, shown);
-    if n == 0 {
+    if records.is_empty() {
         return head;
     }
     let verdict = shown.verdict;
     let mut k = head;
-    let mut i: usize = 0;
-    while i < n {
-        let place = places[i];
-        let t = within(place, TASKS_MOST);
-        let task = tasks.list[t];
-        let name = named(place, task.name);
-        let piece = record_at(records, i);
+    for (i, record) in records.iter().enumerate() {
+        let name = task_in(&tasks, places[i]).name;
+        let piece = piece_in(*record);
         let kind = piece.kind;
         let asked = ask_of(charged_piece(costs, piece), verdict, shown.length);
         k = put_asking(buf, k, by_name, name, i, kind, asked);
-        i += 1;
     }
     put_foot(buf, k, shown)
 }
 
-// A refusal of a run of records.
-pub fn refusal_note(why: Refusal) -> Note
-    ensures { result ≡ note_of (unless_bad (Bad why) (written [])) 0 }
-{
-    match why {
-        Refusal::TooMany => Note {
-            number: 6,
-            carries: 0,
-        },
-        Refusal::BadCosts => Note {
-            number: 2,
-            carries: 0,
-        },
-        Refusal::BadRecord(place) => Note {
-            number: 3,
-            carries: place,
-        },
-    }
-}
-
-// The listing of the first n records, written where the buffer is long enough, or why not.
+// The listing of the records, written where the buffer is long enough, or why not.
 pub fn write_why<'a>(
     buf: &'a mut [u8],
-    stuck: NoRoom,
+    stuck: Option<NoRoom>,
     costs: Costs,
     by_name: bool,
     tasks: Tasks,
     places: &'a [usize; RUN_MOST],
-    records: &'a [u64; RUN_NUMBERS],
-    n: usize,
-) -> Note
-    ensures value { (result ≡ note_of (why_paper (front_of stuck.place (spelling stuck.name) stuck.cores) costs n (titled_in by_name tasks.list places.now records.now run_most)) (length buf.old)) × (buf.new ≡ left (why_paper (front_of stuck.place (spelling stuck.name) stuck.cores) costs n (titled_in by_name tasks.list places.now records.now run_most)) buf.old) }
-    ensures number_bound { (result.number ≤ 10) × (result.carries ≤ length_most) }
+    records: &'a [Record],
+) -> Result<u64, Refused>
+    ensures value { (note result ≡ note_of (why_paper (front_of stuck) costs (length records.now) (titled_in by_name tasks.list places.now records.now (length records.now))) (length buf.old)) × (buf.new ≡ left (why_paper (front_of stuck) costs (length records.now) (titled_in by_name tasks.list places.now records.now (length records.now))) buf.old) }
+    ensures number_bound { ((note result).number ≤ 10) × ((note result).carries ≤ length_most) }
 {
-    match show_records(costs, records, n) {
-        Showing::Unshown(why) => refusal_note(why),
-        Showing::Shows(shown) => {
-            // in one go where the buffer has room for any listing of n records
-            if 186 + 100 * n <= buf.len() {
-                let k = put_why(buf, stuck, costs, by_name, tasks, places, records, n, shown);
-                return Note {
-                    number: 0,
-                    carries: k as u64,
-                };
-            }
-            let m = put_why(
-                &mut buf[..0],
-                stuck,
-                costs,
-                by_name,
-                tasks,
-                places,
-                records,
-                n,
-                shown,
-            );
-            if buf.len() < m {
-                return Note {
-                    number: 10,
-                    carries: m as u64,
-                };
-            }
-            let k = put_why(buf, stuck, costs, by_name, tasks, places, records, n, shown);
-            Note {
-                number: 0,
-                carries: k as u64,
-            }
-        }
+    let shown = show_records(costs, records)?;
+    let room = buf.len();
+    let k = write_whole(buf, 186 + 100 * records.len(), |lent: &mut [u8]| {
+        put_why(lent, stuck, costs, by_name, tasks, places, records, shown)
+    });
+    if room < k {
+        return Err(Refused {
+            fault: Fault::TooShort,
+            carries: k as u64,
+        });
     }
+    Ok(k as u64)
 }

@@ -4,25 +4,27 @@
 --   layout-append      one log after another
 --   count-is           the count of pieces
 --   lens-is            a core's length is the number of pieces put there
---   Laying, laying-none, laying-more      the layout of the first i that lie in an array, one more
---   core-room, place-room, row_room       and there is room for it
+--   seat-room, layout-more      of an array of seats, one more: there is room for it where there is for all, and the layout with it
 use mathlib.Core.Path.{◌≡◌, refl, sym, ap, ◌∙◌, subst}
 use mathlib.Core.Bool.{Bool, true, false}
 use mathlib.Core.List.{List, [], ◌∷◌, ◌++◌}
-use Prim.Native.Nat.{ℕ, zero, suc, ◌+◌, ◌<◌}
+use Prim.Native.Nat.{ℕ, zero, suc, ◌+◌, ◌<◌, ◌≤◌}
 use native.Mathlib.Omega.{arith}
-use borrow.Author.Tests.{eqb-true, eqb-false}
+use borrow.Author.Tests.{eqb-true, eqb-false, eq-eqb}
 use lib.Dec.{eqb}
-use lib.ListN.{length, get_or, length-set, replicate}
-use lib.Seq.{get_or-set_other, get_or-set_same}
+use lib.ListN.{length, get_or, length-set, replicate, take, drop, length-append, take-append-drop}
+use lib.Seq.{get_or-set_other, get_or-set_same, drop-cons}
+use Rattle.std.proofs.lemmas.List.{map-append}
 use Rattle.demand.specs.declared.Piece.{Piece}
 use Rattle.demand.specs.Sizes.{Each}
 use Rattle.plan.specs.declared.Layout.{Layout}
 use Rattle.plan.specs.Layout.{put_of, layout_on, none}
 use Rattle.walks.specs.Lists.{keep}
 use Rattle.walks.specs.Way.{Placed, on_core}
-use Rattle.plan.specs.Ways.PlacedArray.{seat_of, placed_at, placed_in, HasRoom}
-use Rattle.plan.proofs.LentLaws.{placed-more, placed-front, core-fits, place-fits, row_fits}
+use Rattle.walks.proofs.SoundLaws.{on-append}
+use Rattle.plan.specs.declared.seats.Seat.{Seat}
+use Rattle.plan.specs.Ways.PlacedArray.{seated_as, placed_in, HasRoom}
+use Rattle.plan.proofs.Lists.{map_more}
 
 pub layout-append : (s : Layout) (k l : List (Placed ℕ)) → layout_on s (k ++ l) ≡ layout_on (layout_on s k) l
 layout-append s [] l = refl
@@ -79,44 +81,53 @@ pub none-count : none.count ≡ 0
 unfolding none
 none-count = refl
 
--- ---- the layout of the first i that lie in an array
+-- ---- there is room for the next, where there is for all
 
-pub record Laying (a : List ℕ) (s : Layout) (i : ℕ) : Type 0 where
-  pub is : s ≡ layout_on none (placed_in a i)
-  pub count : s.count ≡ i
-  pub pieces-size : length s.pieces ≡ 79
-  pub rows-size : length s.rows ≡ 1024
-  pub lens-size : length s.lens ≡ 16
-  pub words_size : length s.words ≡ 16
+each-middle : {A : Type 0} (P : A → Type 0) (l : List A) (a : A) (rest : List A) → Each P (l ++ (a ∷ rest)) → Each P l × P a
+each-middle P [] a rest ok = (tt, ok.0)
+each-middle P (b ∷ l) a rest ok = let more = each-middle P l a rest ok.1 in ((ok.0, more.0), more.1)
 
-pub laying-none : (a : List ℕ) → Laying a none 0
-unfolding none
-laying-none a = record { is = refl; count = refl; pieces-size = refl; rows-size = refl; lens-size = refl; words_size = refl }
+module _ (l : List (Placed ℕ)) (e : Placed ℕ) (rest : List (Placed ℕ)) (fits : HasRoom (l ++ (e ∷ rest))) where
+  row_short : length (on_core e.on l) < 64
+  row_short =
+      let own : length (on_core e.on (e ∷ rest)) ≡ length (on_core e.on rest) + 1 = rw (eq-eqb e.on e.on refl) (omega arith) in
+      omega (arith, fits.rows e.on, ap length (on-append e.on l (e ∷ rest)), length-append (on_core e.on l) (on_core e.on (e ∷ rest)), own)
 
-module _ (a : List ℕ) (s : Layout) (i : ℕ) (laid : Laying a s i) (p k : ℕ) (q : Piece) (seat : seat_of p k q ≡ placed_at a i) where
-  pub laying-more : (t : Layout) → t ≡ put_of s p k q → Laying a t (i + 1)
-  unfolding put_of
-  laying-more t e = record {
-    is = e ∙ (rw (placed-more a i, layout-append none (placed_in a i) (placed_at a i ∷ []), ← laid.is, ← seat));
-    count = ap (λ (z : Layout). z.count) e ∙ omega (arith, laid.count);
-    pieces-size = ap (λ (z : Layout). length z.pieces) e ∙ simp length-set laid.pieces-size;
-    rows-size = ap (λ (z : Layout). length z.rows) e ∙ simp length-set laid.rows-size;
-    lens-size = ap (λ (z : Layout). length z.lens) e ∙ simp length-set laid.lens-size;
-    words_size = ap (λ (z : Layout). length z.words) e ∙ simp length-set laid.words_size;
-  }
+  next-room : length (l ++ (e ∷ rest)) ≤ 79 → (s : Layout) → s ≡ layout_on none l
+      → (s.count < 79) × (e.on < 16) × (e.item < 64) × (get_or s.lens e.on 0 < 64)
+  next-room few s is =
+      let cores = each-middle (λ e. e.on < 16) l e rest fits.cores in
+      let len : get_or s.lens e.on 0 ≡ get_or none.lens e.on 0 + length (on_core e.on l) =
+      ap (λ (z : Layout). get_or z.lens e.on 0) is ∙ lens-is l none none-size cores.0 e.on in
+      let count : s.count ≡ none.count + length l = ap (λ (z : Layout). z.count) is ∙ count-is none l in (
+        omega (arith, count, none-count, few, length-append l (e ∷ rest)),
+        cores.1,
+        (each-middle (λ e. e.item < 64) l e rest fits.places).1,
+        omega (arith, len, none-zero e.on, row_short),
+      )
 
-  -- there is room for the next, where there is for all
-  module _ (n : ℕ) (fits : HasRoom (placed_in a n)) (low : i < n) where
-    pub core-room : p < 16
-    core-room = rw (ap (λ (e : Placed ℕ). e.on) seat) (core-fits a n fits i low)
+-- ---- an array of seats, at one of them
 
-    pub place-room : k < 64
-    place-room = rw (ap (λ (e : Placed ℕ). e.item) seat) (place-fits a n fits i low)
+module _ (seats : List Seat) (i : ℕ) (d : Seat) (low : i < length seats) where
+  abbrev Before : List (Placed ℕ)
+  Before = placed_in (take i seats)
 
-    pub row_room : get_or s.lens p 0 < 64
-    row_room =
-        let on : p ≡ (placed_at a i).on = ap (λ (e : Placed ℕ). e.on) seat in
-        let len : get_or s.lens p 0 ≡ get_or none.lens p 0 + length (on_core p (placed_in a i)) =
-        ap (λ (z : Layout). get_or z.lens p 0) laid.is
-        ∙ lens-is (placed_in a i) none none-size (placed-front (λ e. e.on < 16) a n fits.cores i (omega arith)) p in
-        omega (arith, len, none-zero p, rw (← on) at (row_fits a n fits i low))
+  abbrev Here : Placed ℕ
+  Here = seated_as (get_or seats i d)
+
+  seat-more : placed_in (take (i + 1) seats) ≡ Before ++ (Here ∷ [])
+  seat-more = map_more seated_as seats i d low
+
+  seat-parts : placed_in seats ≡ Before ++ (Here ∷ placed_in (drop (suc i) seats))
+  seat-parts =
+      ap placed_in (sym (take-append-drop i seats) ∙ ap (λ (z : List Seat). take i seats ++ z) (drop-cons seats i d low))
+      ∙ map-append seated_as (take i seats) (get_or seats i d ∷ drop (suc i) seats)
+
+  pub seat-room : {placed : List (Placed ℕ)} → placed_in seats ≡ placed → HasRoom placed → length placed ≤ 79 → {s : Layout} → s ≡ layout_on none Before
+      → (s.count < 79) × (Here.on < 16) × (Here.item < 64) × (get_or s.lens Here.on 0 < 64)
+  seat-room is fits few {s} laid =
+      let parts = sym is ∙ seat-parts in
+      next-room Before Here (placed_in (drop (suc i) seats)) (rw parts at fits) (rw parts at few) s laid
+
+  pub layout-more : (s t : Layout) → s ≡ layout_on none Before → t ≡ put_of s Here.on Here.item Here.piece → t ≡ layout_on none (placed_in (take (i + 1) seats))
+  layout-more s t is put = put ∙ rw (seat-more, layout-append none Before (Here ∷ []), ← is)

@@ -3,11 +3,9 @@ pub mod Lists
 pub mod Ones
 pub mod OrderLaws
 pub mod WalkLaws
-pub mod LentLaws
 pub mod LayoutLaws
 pub mod OverLaws
 pub mod PlanLaws
-pub mod RowLaws
 pub mod GoingLaws
 pub mod JudgeLaws
 pub mod PlaceLaws

@@ -1,67 +1,68 @@
 -- The walk over an order, task by task.
 -- Assumes nothing.
 --
---   Walking             a walk under way that has not stuck
---   land-fits           what it has ready for the next task
---   land-reach          one task more
---   still-walking, walk-ended, begins      the walk goes on, has stuck, has not begun
+--   Walking             a walk under way
+--   core-below, land-fits      what it has ready for the next task
+--   land-walks, land-sticks      one task more: it lands, or the walk sticks at it
+--   walk-ends           the walk has come to its end
 use mathlib.Core.Path.{◌≡◌, refl, sym, ap, ◌∙◌, subst}
-use mathlib.Core.List.{List, [], ◌∷◌, ◌++◌}
+use mathlib.Core.List.{List, [], ◌∷◌, ◌++◌, append_assoc}
 use Prim.Native.Nat.{ℕ, zero, suc, ◌+◌, ◌-◌, ◌<◌, ◌≤◌}
 use native.Mathlib.Numerals.{add-one}
 use native.Mathlib.Omega.{arith}
-use lib.ListN.{length, take, drop, get_or, length-take, length-map}
-use lib.Seq.{take-suc, take-add}
+use lib.ListN.{length, take, drop, get_or, length-take, length-map, take-append-drop}
+use lib.Seq.{take-suc, drop-cons}
+use Rattle.std.specs.Prelude.{Option, None, Some}
 use Rattle.demand.specs.declared.Piece.{Piece}
 use Rattle.demand.specs.declared.Costs.{Costs}
-use Rattle.demand.specs.Sizes.{Sized, SizedCosts, Each}
+use Rattle.demand.specs.Sizes.{Sized, Each}
 use Rattle.task.specs.declared.Machine.{Machine}
+use Rattle.task.specs.declared.Task.{Task}
+use Rattle.task.specs.Tasks.{task_at}
 use Rattle.walks.specs.Way.{Placed, Landing, lands, refuses, Ending, fine, stuck, behind, landed, Way, walk_over, placed_until, on_core}
 use Rattle.walks.specs.Halves.{Stand, from_core}
-use Rattle.walks.proofs.WayLaws.{until-stuck, walk-snoc, walk-stuck, until-still}
+use Rattle.walks.proofs.WayLaws.{until-fine, until-stuck, walk-snoc, walk-stuck}
 use Rattle.walks.proofs.SoundLaws.{Planned, few-on-core}
-use Rattle.plan.specs.declared.Going.{Going}
-use Rattle.plan.specs.Walk.{way_for}
-use Rattle.plan.specs.Ways.TimesArray.{times_at, whole_in}
-use Rattle.plan.specs.Ways.PlacedArray.{placed_in}
-use Rattle.plan.specs.Ways.WalkGoing.{pieces_of_row, begin_of, LandFits, Reached, Reach, ReachOver}
-use Rattle.plan.proofs.LentLaws.{placed-length}
+use Rattle.plan.specs.declared.walk.Going.{Going}
+use Rattle.plan.specs.Walk.{place_way, whole_at}
+use Rattle.plan.specs.Ways.WalkGoing.{row_from, WalkFits, LandFits, Reached, Reach, stuck_place, EndsOver}
+use Rattle.plan.proofs.GoingLaws.{row-length}
 use Rattle.plan.proofs.WalkLaws.{claims, walk-planned}
 
-pub record Walking (placed records : List ℕ) (g : Going) (o : Ending Stand ℕ) : Type 0 where
+pub record Walking (placed : List (Placed ℕ)) (g : Going) (o : Ending Stand ℕ) : Type 0 where
   pub at : Stand
   pub past : List (Placed ℕ)
   pub is : o ≡ fine at past
-  pub reached : Reached [] placed records g at past
+  pub reached : Reached [] placed g at past
 
-each-front : (P : ℕ → Type 0) (i n : ℕ) (l : List ℕ) → i ≤ n → Each P (take n l) → Each P (take i l)
-each-front P zero n l h ok = tt
-each-front P (suc i) zero l h ok = absurd (omega arith)
-each-front P (suc i) (suc n) [] h ok = tt
-each-front P (suc i) (suc n) (x ∷ l) h ok = (ok.0, each-front P i n l (omega arith) ok.1)
+each-front : (P : ℕ → Type 0) (i : ℕ) (l : List ℕ) → Each P l → Each P (take i l)
+each-front P zero l ok = tt
+each-front P (suc i) [] ok = tt
+each-front P (suc i) (x ∷ l) ok = (ok.0, each-front P i l ok.1)
 
--- behind a log, where what it sticks with is known
-reach-behind : (log until : List (Placed ℕ)) (placed records : List ℕ) (x : Going) (k : ℕ) (o : Landing Stand)
-    → ((n : ℕ) → o ≡ refuses n → log ≡ until)
-    → Reach log log placed records x (landed k o) → Reach [] until placed records x (behind log (landed k o))
-reach-behind log until placed records x k (lands s l) is h = record {
-  still = h.still;
-  core_is = h.core_is;
-  len_is = h.len_is;
-  row_is = h.row_is;
-  placed-is = h.placed-is;
-  placed-size = h.placed-size;
-  records-size = h.records-size;
-  seated = h.seated;
-}
-reach-behind log until placed records x k (refuses n) is h = (h.0, h.1, h.2 ∙ is n refl)
+-- behind a log, where it lands
+more-walking : (log placed : List (Placed ℕ)) (x : Going) (k : ℕ) (o : Landing Stand) → Reach log placed (Some x) (landed k o)
+    → Walking placed x (behind log (landed k o))
+more-walking log placed x k (lands s l) h = record { at = s; past = _; is = refl; reached = record { core_is = h.core_is; begun = h.begun; row_is = h.row_is; placed-is = h.placed-is } }
+more-walking log placed x k (refuses n) h = absurd h
 
-module _ (m : Machine) (c : Costs) (times order : List ℕ) (n : ℕ) (some : 1 ≤ m.cores) (few : m.cores ≤ 16) (costs : SizedCosts c)
-    (sizes : Each (λ k. Sized (whole_in times k)) (take n order)) (i : ℕ) (low : i < n) (in-order : i < length order) (in-tasks : i < 64)
-    (placed records : List ℕ) (g : Going) (walking : Walking placed records g (walk_over (way_for m c (whole_in times)) (take i order))) where
-  planned : Planned (claims m c (times_at times)) (take i order) walking.at walking.past
+-- and where it does not
+refused-there : (log placed : List (Placed ℕ)) (k : ℕ) (o : Landing Stand) → Reach log placed None (landed k o)
+    → (n : ℕ) × (o ≡ refuses n) × (placed ≡ log)
+refused-there log placed k (lands s l) h = absurd h
+refused-there log placed k (refuses n) h = (n, refl, h)
+
+module _ (m : Machine) (c : Costs) (ts : List Task) (order : List ℕ) (fits : WalkFits m c ts order) (i : ℕ) (low : i < length order)
+    (placed : List (Placed ℕ)) (g : Going) (walking : Walking placed g (walk_over (place_way m c ts) (take i order))) where
+  abbrev W : Way ℕ
+  W = place_way m c ts
+
+  abbrev next : ℕ
+  next = get_or order i 0
+
+  planned : Planned (claims m c (λ k. (task_at ts k).times)) (take i order) walking.at walking.past
   planned =
-      walk-planned m c (times_at times) costs some (take i order) (each-front (λ k. Sized (whole_in times k)) i n order (omega arith) sizes)
+      walk-planned m c (λ k. (task_at ts k).times) fits.costs fits.some (take i order) (each-front (λ k. Sized (whole_at ts k)) i order fits.sizes)
       walking.at walking.past walking.is
 
   -- a core's row is no longer than the number of tasks placed
@@ -72,90 +73,66 @@ module _ (m : Machine) (c : Costs) (times order : List ℕ) (n : ℕ) (some : 1 
         arith,
         ap length planned.faithful.here,
         length-map (on_core core walking.past) (λ (e : Placed ℕ). e.piece),
-        few-on-core m.cores (whole_in times) (claims m c (times_at times)).Share core planned.shares,
+        few-on-core m.cores (whole_at ts) (claims m c (λ k. (task_at ts k).times)).Share core planned.shares,
       )
 
-  pub land-fits : get_or order i 0 < 64 → LandFits m.cores c placed records g (get_or order i 0)
-  land-fits below =
+  pub core-below : g.core < m.cores
+  core-below = omega (arith, walking.reached.core_is, planned.faithful.below)
+
+  pub land-fits : LandFits c placed g
+  land-fits =
       let f = planned.faithful in
       let there = walking.reached in
       let size : length (take i order) ≡ i = simp length-take (omega arith) in
-      let count : g.count ≡ length walking.past = sym (placed-length placed g.count) ∙ ap length there.placed-is in
+      let count : length placed ≡ length walking.past = ap length there.placed-is in
+      let row : length placed - g.first ≡ length walking.at.row = sym (row-length g.first placed) ∙ ap length there.row_is in
       record {
-        costs = costs;
-        place = below;
-        core = omega (arith, there.core_is, f.below);
-        cores = few;
+        costs = fits.costs;
         room = omega (arith, count, f.count, there.core_is);
-        free = omega (arith, there.len_is, short);
-        going = there.still;
-        placed-size = there.placed-size;
-        records-size = there.records-size;
-        seated = there.seated;
+        begun = there.begun;
+        free = omega (arith, there.begun, row, short, size, fits.count);
         sizes = rw (there.row_is, ← f.here) (planned.rows walking.at.core).sizes;
       }
 
-  pub land-reach : (q : Piece) → whole_in times (get_or order i 0) ≡ q → (placed' records' : List ℕ) (x : Going) →
-      Reach (placed_in placed g.count) (placed_in placed g.count) placed' records' x
-      (landed (get_or order i 0) (from_core c m.grain q (m.cores - 1 - g.core) g.core (pieces_of_row placed g.row))) →
-      ReachOver m c (whole_in times) placed' records' x (take (i + 1) order)
-  land-reach q e placed' records' x h =
-      let k = walking in
-      let W : Way ℕ = way_for m c (whole_in times) in
-      let next = get_or order i 0 in
-      let longer : take (i + 1) order ≡ take i order ++ (next ∷ []) = ap (λ (j : ℕ). take j order) (add-one i) ∙ take-suc order i 0 in-order in
-      let more : walk_over W (take i order ++ (next ∷ [])) ≡ behind k.past (landed next (W.place k.at next)) =
-      walk-snoc W W.begin k.at (take i order) next k.past k.is in
-      let until = placed_until W W.begin (take i order ++ (next ∷ [])) in
-      subst (ReachOver m c (whole_in times) placed' records' x) (sym longer)
-      (subst (Reach [] until placed' records' x) (sym more) (reach-behind k.past until placed' records' x next (W.place k.at next)
-      (λ j none. sym (until-stuck W W.begin k.at (take i order) [] next j k.past k.is none))
-      (rw (e, ← k.reached.placed-is, ← k.reached.core_is, ← k.reached.row_is) h)))
+  longer : take (i + 1) order ≡ take i order ++ (next ∷ [])
+  longer = ap (λ (j : ℕ). take j order) (add-one i) ∙ take-suc order i 0 low
 
-module _ (placed records : List ℕ) (g : Going) where
-  pub still-walking : (o : Ending Stand ℕ) (until : List (Placed ℕ)) → Reach [] until placed records g o → g.stuck ≡ 0 → Walking placed records g o
-  still-walking (fine s l) until h e = record { at = s; past = l; is = refl; reached = h }
-  still-walking (stuck k n) until h e = absurd (omega (arith, h.0, e))
+  more : walk_over W (take i order ++ (next ∷ [])) ≡ behind walking.past (landed next (W.place walking.at next))
+  more = walk-snoc W W.begin walking.at (take i order) next walking.past walking.is
 
-  module _ (m : Machine) (c : Costs) (w : ℕ → Piece) where
-    -- a walk that stuck stays stuck
-    stays-stuck : (xs ys : List ℕ) → ReachOver m c w placed records g xs → 0 < g.stuck → ReachOver m c w placed records g (xs ++ ys)
-    stays-stuck xs ys h some = by (walk_over W xs) refl h
-      where
-        W : Way ℕ
-        W = way_for m c w
+  module _ (q : Piece) (e : whole_at ts next ≡ q) (placed' : List (Placed ℕ)) where
+    abbrev Lands : Option Going → Type 0
+    Lands x = Reach placed placed' x (landed next (from_core c m.grain q (m.cores - 1 - g.core) g.core (row_from g.first placed)))
 
-        by : (o : Ending Stand ℕ) → walk_over W xs ≡ o → Reach [] (placed_until W W.begin xs) placed records g o → ReachOver m c w placed records g (xs ++ ys)
-        by (fine s l) is there = absurd (omega (arith, there.still))
-        by (stuck k n) is there =
-            rw (walk-stuck W W.begin xs ys k n is) (there.0, there.1, there.2 ∙ sym (until-still W W.begin xs ys k n is))
+    pub land-walks : (x : Going) → Lands (Some x) → Walking placed' x (walk_over W (take (i + 1) order))
+    land-walks x h =
+        let there = walking.reached in
+        subst (λ (l : List ℕ). Walking placed' x (walk_over W l)) (sym longer)
+        (subst (Walking placed' x) (sym more) (more-walking walking.past placed' x next (W.place walking.at next)
+        (rw (e, ← there.placed-is, ← there.core_is, ← there.row_is) h)))
 
-    pub walk-ended : (l : List ℕ) (i n : ℕ) → i ≤ n → ReachOver m c w placed records g (take i l) → 0 < g.stuck
-        → ReachOver m c w placed records g (take n l)
-    walk-ended l i n h there e =
-        let more : n ≡ i + (n - i) = omega arith in
-        subst (ReachOver m c w placed records g) (sym (ap (λ (k : ℕ). take k l) more ∙ take-add i (n - i) l))
-        (stays-stuck (take i l) (take (n - i) (drop i l)) there e)
+    pub land-sticks : Lands None → EndsOver W placed' (Some next) order
+    land-sticks h =
+        let there = walking.reached in
+        let rest = drop (suc i) order in
+        let parts : take i order ++ (next ∷ rest) ≡ order = ap (λ (l : List ℕ). take i order ++ l) (sym (drop-cons order i 0 low)) ∙ take-append-drop i order in
+        let r = refused-there walking.past placed' next (W.place walking.at next) (rw (e, ← there.placed-is, ← there.core_is, ← there.row_is) h) in
+        let ends : walk_over W order ≡ stuck next r.0 =
+        ap (λ (l : List ℕ). walk_over W l) (sym parts ∙ sym (append_assoc (take i order) (next ∷ []) rest))
+        ∙ walk-stuck W W.begin (take i order ++ (next ∷ [])) rest next r.0
+        (more ∙ ap (λ (o : Landing Stand). behind walking.past (landed next o)) r.1) in
+        record {
+          stuck-is = sym (ap stuck_place ends);
+          placed-is =
+              r.2 ∙ (sym (until-stuck W W.begin walking.at (take i order) rest next r.0 walking.past walking.is r.1)
+              ∙ ap (λ (l : List ℕ). placed_until W W.begin l) parts);
+        }
 
-    pub walking-reach : (xs : List ℕ) → Walking placed records g (walk_over (way_for m c w) xs) → ReachOver m c w placed records g xs
-    walking-reach xs k = rw k.is k.reached
-
-pub begins : (m : Machine) (c : Costs) (w : ℕ → Piece) (order placed records : List ℕ) → length placed ≡ 711 → length records ≡ 553
-    → Walking placed records begin_of (walk_over (way_for m c w) (take 0 order))
-unfolding begin_of
-begins m c w order placed records placed-size records-size = record {
-  at = record { core = 0; row = [] };
-  past = [];
-  is = refl;
-  reached =
+module _ (m : Machine) (c : Costs) (ts : List Task) (order : List ℕ) where
+  pub walk-ends : (placed : List (Placed ℕ)) (g : Going) → Walking placed g (walk_over (place_way m c ts) order) → EndsOver (place_way m c ts) placed None order
+  walk-ends placed g walking =
+      let W : Way ℕ = place_way m c ts in
       record {
-        still = refl;
-        core_is = refl;
-        len_is = refl;
-        row_is = refl;
-        placed-is = refl;
-        placed-size = placed-size;
-        records-size = records-size;
-        seated = record { size = refl; below = tt };
-      };
-}
+        stuck-is = sym (ap stuck_place walking.is);
+        placed-is = walking.reached.placed-is ∙ sym (until-fine W W.begin walking.at order walking.past walking.is);
+      }

@@ -1,44 +1,31 @@
 -- From the tasks to the walk's code.
 -- Assumes nothing.
 --
---   small-laid         the products of the tasks' times fit
 --   sized-at           a task at a place below the end is within the sizes
 --   upto-each          what holds of each place below n
 --   walk-fits          the walk over the packing order can begin
---   walk-laid          and is the walk over the tasks
+--   walk-planned-ends  and where it ends, the walk over the tasks does
 --   fault-seven        no fault of a state has the number 7
---   no-fault           what is not refused has no fault
-use mathlib.Core.Path.{◌≡◌, sym, ap, subst, ◌∙◌, fun_ext}
+use mathlib.Core.Path.{◌≡◌, subst}
 use mathlib.Core.Bool.{Bool, true, false}
 use mathlib.Core.List.{List, [], ◌∷◌, ◌++◌}
-use Prim.Native.Nat.{ℕ, zero, suc, ◌<◌}
+use Prim.Native.Nat.{ℕ, zero, suc, ◌<◌, ◌≤◌}
 use native.Mathlib.Nat.{not-suc-le-zero, le_of_suc-le-suc}
-use native.Mathlib.Decide.{dec_lt}
 use native.Mathlib.Omega.{arith}
 use lib.Dec.{eqb, leb}
-use lib.ListN.{length, take, get_or-eq_default}
-use lib.Seq.{length-take-le}
-use Rattle.demand.specs.declared.Piece.{Piece}
+use lib.ListN.{length, take, length-take}
 use Rattle.demand.specs.declared.Costs.{Costs}
 use Rattle.demand.specs.Sizes.{Sized, Each, sized, sized_costs}
 use Rattle.task.specs.declared.Task.{Task}
 use Rattle.task.specs.declared.Machine.{Machine}
-use Rattle.task.specs.Tasks.{whole_piece, past, task_at, place_of, rule, or_else, fault_of, first_fault, state_fault, sized_machine, tasks_most}
+use Rattle.task.specs.Tasks.{whole_piece, place_of, rule, or_else, fault_of, first_fault, state_fault, sized_machine, tasks_most}
 use Rattle.task.specs.Names.{formed}
 use Rattle.task.proofs.TaskLaws.{Sane}
-use Rattle.plan.specs.declared.Going.{Going}
-use Rattle.walks.specs.Order.{pack}
+use Rattle.std.specs.Prelude.{Option}
+use Rattle.walks.specs.Way.{Placed}
 use Rattle.walks.proofs.OrderLaws.{pack-every}
-use Rattle.walks.specs.Halves.{denser}
-use Rattle.plan.specs.Walk.{whole_at, upto, denser_at, walked, walked_until}
-use Rattle.plan.specs.Ways.TimesArray.{Laid, whole_in, denser_in, Small, SmallIn}
-use Rattle.plan.specs.Ways.WalkGoing.{WalkFits, Reach, ReachOver}
-
--- ---- the times of the tasks, where they are laid out
-
-module _ (times : List ℕ) (l : List Task) (laid : Laid times l) where
-  wholes-laid : whole_in times ≡ whole_at l
-  wholes-laid = fun_ext (λ i. ap whole_piece (laid i))
+use Rattle.plan.specs.Walk.{whole_at, upto, denser_at, place_way, packed}
+use Rattle.plan.specs.Ways.WalkGoing.{EndsOver, WalkFits}
 
 -- ---- sizes
 
@@ -46,16 +33,6 @@ pub sized-at : (l : List Task) → Each (λ t. Sized (whole_piece t.times)) l �
 sized-at [] ok i h = absurd (not-suc-le-zero h)
 sized-at (t ∷ l) ok zero h = ok.0
 sized-at (t ∷ l) ok (suc i) h = sized-at l ok.1 i (le_of_suc-le-suc h)
-
-small_at : (l : List Task) → Each (λ t. Sized (whole_piece t.times)) l → (i : ℕ) → Small (task_at l i).times
-unfolding whole_piece
-small_at l ok i = elim (dec_lt i (length l)) [
-  | yes inside ↦ (let s = sized-at l ok i inside in record { worst-fits = omega arith; deadline-fits = omega arith })
-  | no outside ↦ rw (get_or-eq_default l past {n = i} (omega arith)) (record { worst-fits = omega arith; deadline-fits = omega arith })
-]
-
-pub small-laid : (times : List ℕ) (l : List Task) → Laid times l → Each (λ t. Sized (whole_piece t.times)) l → SmallIn times
-small-laid times l laid ok i = rw (laid i) (small_at l ok i)
 
 pub upto-each : (P : ℕ → Type 0) (n : ℕ) → ((i : ℕ) → i < n → P i) → Each P (upto n)
 upto-each P zero h = tt
@@ -65,41 +42,28 @@ upto-each P (suc n) h = behind (upto n) (upto-each P n (λ i less. h i (omega ar
     behind [] ok = (h n (omega arith), tt)
     behind (i ∷ l) ok = (ok.0, behind l ok.1)
 
-module _ (m : Machine) (c : Costs) (n : ℕ) (ts : List Task) (long : length ts ≡ 64) (sane : Sane m c n ts) (times : List ℕ)
-    (laid : Laid times (take n ts)) (order : List ℕ) (packed : take n order ≡ pack (denser_in times) (upto n)) where
-  whole : length (take n ts) ≡ n
-  whole = length-take-le n ts (omega (arith, sane.few))
+module _ (m : Machine) (c : Costs) (n : ℕ) (ts : List Task) (sane : Sane m c n ts) (order : List ℕ)
+    (is : order ≡ packed (take n ts)) (places : Each (λ k. k < length (take n ts)) order) where
+  sizes : Each (λ k. Sized (whole_at (take n ts) k)) order
+  sizes = rw is (pack-every (denser_at (take n ts)) (λ k. Sized (whole_at (take n ts) k)) (upto (length (take n ts)))
+      (upto-each (λ k. Sized (whole_at (take n ts) k)) (length (take n ts)) (sized-at (take n ts) sane.timed)))
 
-  sizes : Each (λ k. Sized (whole_in times k)) (take n order)
-  sizes = rw packed (pack-every (denser_in times) (λ k. Sized (whole_in times k)) (upto n)
-      (upto-each (λ k. Sized (whole_in times k)) n (λ i less. subst (λ (w : ℕ → Piece). Sized (w i))
-      (sym (wholes-laid times (take n ts) laid)) (sized-at (take n ts) sane.timed i (omega (arith, whole))))))
-
-  pub walk-fits : length order ≡ 64 → Each (λ k. k < 64) (take n order) → (placed records : List ℕ) → length placed ≡ 711
-      → length records ≡ 553 → WalkFits m c times n order placed records
-  walk-fits size places placed records placed-size records-size = record {
+  pub walk-fits : length order ≤ 64 → WalkFits m c (take n ts) order
+  walk-fits count = record {
     some = sane.cores-some;
     few = sane.cores-fit;
     costs = sane.costs;
-    count = sane.few;
-    long = size;
+    long = omega (arith, length-take n ts, sane.few);
+    count = count;
     places = places;
     sizes = sizes;
-    placed-size = placed-size;
-    records-size = records-size;
   }
 
-  -- so where the code's walk ends, the definition's does
-  pub walk-laid : (placed records : List ℕ) (g : Going) → ReachOver m c (whole_in times) placed records g (take n order)
-      → Reach [] (walked_until m c (take n ts)) placed records g (walked m c (take n ts))
-  unfolding walked
-  walk-laid placed records g there =
-      subst (λ (k : ℕ). ReachOver m c (whole_at (take n ts)) placed records g (pack (denser_at (take n ts)) (upto k))) (sym whole)
-      (subst (λ (w : ℕ → Piece). ReachOver m c w placed records g (pack (λ i j. denser (w i) (w j)) (upto n))) (wholes-laid times (take n ts) laid)
-      (subst (ReachOver m c (whole_in times) placed records g) packed there))
-
-pub no-fault : (m : Machine) (c : Costs) (n : ℕ) (ts : List Task) (k : ℕ) → k ≡ state_fault m c n ts → k ≡ 0 → state_fault m c n ts ≡ 0
-no-fault m c n ts k e none = sym e ∙ none
+-- so where the code's walk ends, the definition's does
+pub walk-planned-ends : (m : Machine) (c : Costs) (held ts : List Task) → held ≡ ts → (order : List ℕ) → order ≡ packed held
+    → (placed : List (Placed ℕ)) (e : Option ℕ) → EndsOver (place_way m c held) placed e order → EndsOver (place_way m c ts) placed e (packed ts)
+walk-planned-ends m c held ts same order is placed e there =
+    subst (λ (l : List Task). EndsOver (place_way m c l) placed e (packed l)) same (subst (EndsOver (place_way m c held) placed e) is there)
 
 -- ---- no fault has the number 7
 

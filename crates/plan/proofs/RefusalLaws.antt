@@ -23,7 +23,7 @@ use Rattle.task.specs.Refusals.{state_table}
 use Rattle.task.proofs.RefusalLaws.{state-comes, state-kept}
 use Rattle.walks.specs.Way.{Placed, Ending, fine, stuck}
 use Rattle.walks.specs.Halves.{Stand}
-use Rattle.plan.specs.declared.Reply.{Reply}
+use Rattle.plan.specs.Reply.{Reply}
 use Rattle.plan.specs.Walk.{walked}
 use Rattle.plan.specs.Plan.{refused, finished, plan_of}
 use Rattle.plan.specs.Refusals.{walk_table, plan_table}

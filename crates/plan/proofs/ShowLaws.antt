@@ -27,7 +27,8 @@ use Rattle.walks.proofs.ListLaws.{each-middle}
 use Rattle.walks.proofs.SoundLaws.{on-here, on-other, on-append}
 use Rattle.plan.specs.Layout.{put_of, layout_on, none, blank, kept_piece}
 use Rattle.plan.specs.Shows.{stored_of, numbers_on, LayoutShows}
-use Rattle.plan.proofs.Lists.{take_put, map_snoc}
+use Rattle.std.proofs.lemmas.List.{take_more_set}
+use Rattle.plan.proofs.Lists.{map_snoc}
 use Rattle.plan.proofs.LayoutLaws.{put_count, zeros}
 use Rattle.plan.proofs.GoingLaws.{piece-stored}
 
@@ -80,7 +81,7 @@ put-pieces : (s : Layout) (e : Placed ℕ) → s.count < length s.pieces
     → take (put_of s e.on e.item e.piece).count (put_of s e.on e.item e.piece).pieces
     ≡ take s.count s.pieces ++ (stored_of e ∷ [])
 unfolding put_of
-put-pieces s e room = take_put s.pieces s.count (stored_of e) room
+put-pieces s e room = take_more_set s.pieces s.count (stored_of e) room
 
 module _ (s : Layout) (z : Size s) (e : Placed ℕ) (d : Stored) (room : s.count < 79) (low : e.on < 16) where
   -- the core that it is put on

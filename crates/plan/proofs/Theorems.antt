@@ -66,7 +66,7 @@ use Rattle.walks.proofs.WayLaws.{until-fine, stuck-where, Reaches, until-reaches
 use Rattle.walks.proofs.SoundLaws.{Planned, Has, Divided, share-of, spots-within, few-on-core, apart-on, pieces-each}
 use Rattle.walks.proofs.HalvesLaws.{refused-last, shared-firsts, shares-firsts, shared-jitters, shared-free}
 use Rattle.plan.specs.declared.Plan.{Plan}
-use Rattle.plan.specs.declared.Reply.{Reply}
+use Rattle.plan.specs.Reply.{Reply}
 use Rattle.plan.specs.Walk.{whole_at, place_way, upto, denser_at, packed, walked, walked_until}
 use Rattle.plan.specs.Layout.{layout_on, none, blank}
 use Rattle.plan.specs.Plan.{refused, plan_placed, finished, unless_fault, plan_of, reaching, reached_of}

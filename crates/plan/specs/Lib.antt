@@ -2,6 +2,7 @@
 pub mod Sizes
 pub mod Walk
 pub mod Layout
+pub mod Reply
 pub mod Plan
 pub mod Refusals
 pub mod Places

@@ -1,23 +1,19 @@
-// A core's row of piece numbers, as the records that the verdict judges.
-ghost use Rattle.std.specs.Prelude.{◌≡◌, ◌<◌, ◌≤◌, ◌*◌, take, length};
-ghost use Rattle.demand.specs.Sizes.{Each, run_most};
-ghost use Rattle.plan.specs.Ways.WalkGoing.{pieces_of_row, first_records};
-ghost use Rattle.plan.specs.Sizes.{pieces_most, row_most};
+// A core's row, as the records that the verdict judges.
+ghost use Rattle.std.specs.Prelude.{◌≡◌, [], ◌∷◌, ◌++◌, ◌+◌, ◌<◌, length, map, take};
+ghost use Rattle.demand.specs.Records.{record_for};
+ghost use Rattle.demand.specs.Sizes.{run_most};
 
-use crate::seats::seat_at;
-use crate::{PLACED_NUMBERS, Row};
-use demand::{RUN_NUMBERS, put_record};
+use crate::seats::Seat;
+use demand::{Piece, RUN_MOST, Record};
 
-// The pieces of a row, in placement order.
-pub fn lay_row<'a>(records: &'a mut [u64; RUN_NUMBERS], placed: &'a [u64; PLACED_NUMBERS], row: Row)
-    requires { (row.len ≤ row_most) × Each (λ i. i < pieces_most) (take row.len row.numbers) × (length records.old ≡ 7 * run_most) }
-    ensures { (first_records records.new row.len ≡ pieces_of_row placed.now row) × (length records.new ≡ 7 * run_most) }
+// A row, in placement order, and one piece more behind it.
+pub fn lay_row<'a>(records: &'a mut [Record; RUN_MOST], row: &'a [Seat], piece: Piece)
+    requires { length row.now < run_most }
+    ensures row { take (length row.now) records.new ≡ map (λ s. record_for s.piece) row.now }
+    ensures behind { take (length row.now + 1) records.new ≡ map (λ s. record_for s.piece) row.now ++ (record_for piece ∷ []) }
 {
-    let mut i: usize = 0;
-    while i < row.len {
-        let number = row.numbers[i];
-        let seat = seat_at(placed, number);
-        put_record(records, i, seat.piece);
-        i += 1;
+    for (place, seat) in row.iter().enumerate() {
+        records[place] = Record::from(seat.piece);
     }
+    records[row.len()] = Record::from(piece);
 }

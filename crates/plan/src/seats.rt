@@ -1,65 +1,69 @@
-// What the walk placed, in one lent array of numbers, nine to a piece, in placement order.
-ghost use Rattle.std.specs.Prelude.{◌≡◌, ◌<◌, ◌*◌, length};
-ghost use Rattle.plan.specs.Ways.PlacedArray.{seat_of, placed_at, Put};
+// What the walk places: at most 79 pieces, in placement order.
+ghost use Rattle.std.specs.Prelude.{◌≡◌, [], ◌∷◌, ◌++◌, ◌<◌, ◌≤◌, length};
+ghost use Rattle.plan.specs.Ways.PlacedArray.{seated_as, placed_in};
 ghost use Rattle.plan.specs.Sizes.{pieces_most};
 
-use crate::{PLACED_NUMBERS, Seat};
-use demand::{Piece, kind_number, kind_of};
+use crate::PIECES_MOST;
+use demand::{Piece, outside};
+use std::marker::Model;
 
-fn wide(n: usize) -> u64
-    ensures { result ≡ n }
-{
-    n as u64
+// A placed piece: its core, from 0, its task's place, from 0, and the piece.
+#[derive(Clone, Copy, PartialEq, Eq)]
+pub struct Seat {
+    pub core: usize,
+    pub task: usize,
+    pub piece: Piece,
 }
 
-fn narrow(n: u64) -> usize
-    ensures { result ≡ n }
-{
-    n as usize
+// What was placed: the first `count` of the seats. Contracts see it as that list.
+#[derive(Drop)]
+pub struct Seats {
+    count: usize,
+    seats: [Seat; PIECES_MOST],
 }
 
-// The piece with the number i, with its core and its task's place.
-pub fn seat_at(placed: &[u64; PLACED_NUMBERS], i: usize) -> Seat
-    requires { i < pieces_most }
-    ensures { seat_of result.core result.task result.piece ≡ placed_at placed.now i }
-{
-    let at = 9 * i;
-    let core = narrow(placed[at]);
-    let task = narrow(placed[at + 1]);
-    let kind = kind_of(placed[at + 2]);
-    let piece = Piece {
-        kind: kind,
-        budget: placed[at + 3],
-        window: placed[at + 4],
-        period: placed[at + 5],
-        jitter: placed[at + 6],
-        preempt: placed[at + 7],
-        migrate: placed[at + 8],
-    };
-    Seat {
-        core: core,
-        task: task,
-        piece: piece,
+impl Model for Seats {
+    ghost use Rattle.std.specs.Prelude.{List, ℕ, ◌≤◌, take};
+    ghost use Rattle.walks.specs.Way.{Placed};
+    ghost use Rattle.plan.specs.Ways.PlacedArray.{placed_in};
+    ghost use Rattle.plan.specs.Sizes.{pieces_most};
+
+    ghost Value = { List (Placed ℕ) };
+
+    ghost view = { λ s. placed_in (take s.count s.seats) };
+
+    ghost invariant = { λ s. s.count ≤ pieces_most };
+}
+
+impl Seats {
+    pub fn new() -> Seats
+        ensures { result ≡ [] }
+    {
+        let none = Seat {
+            core: 0,
+            task: 0,
+            piece: outside(),
+        };
+        Seats {
+            count: 0,
+            seats: [none; PIECES_MOST],
+        }
     }
-}
 
-// The piece q of the task at place k, on the core p, goes behind the first n.
-pub fn put_seat(placed: &mut [u64; PLACED_NUMBERS], n: usize, p: usize, k: usize, q: Piece)
-    requires { (n < pieces_most) × (length placed.old ≡ 9 * pieces_most) }
-    ensures { Put placed.old n (seat_of p k q) placed.new }
-{
-    let at = 9 * n;
-    let kind = q.kind;
-    let core = wide(p);
-    let task = wide(k);
-    let number = kind_number(kind);
-    placed[at] = core;
-    placed[at + 1] = task;
-    placed[at + 2] = number;
-    placed[at + 3] = q.budget;
-    placed[at + 4] = q.window;
-    placed[at + 5] = q.period;
-    placed[at + 6] = q.jitter;
-    placed[at + 7] = q.preempt;
-    placed[at + 8] = q.migrate;
+    // Those that are placed.
+    pub fn seats(&self) -> &[Seat]
+        ensures seats { placed_in result.now ≡ self.now }
+        ensures few { length self.now ≤ pieces_most }
+    {
+        &self.seats[..self.count]
+    }
+
+    // One more, behind them.
+    pub fn push(&mut self, seat: Seat)
+        requires { length self.old < pieces_most }
+        ensures { self.new ≡ self.old ++ (seated_as seat ∷ []) }
+    {
+        self.seats[self.count] = seat;
+        self.count += 1;
+    }
 }

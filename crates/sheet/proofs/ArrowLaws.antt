@@ -8,17 +8,18 @@ use mathlib.Core.Path.{◌≡◌, refl, sym, ap, ◌∙◌}
 use mathlib.Core.Bool.{true}
 use mathlib.Core.List.{List, [], ◌∷◌, ◌++◌, append_assoc}
 use Prim.Native.Nat.{ℕ}
+use Rattle.std.proofs.Common.{Option, Some, None}
 use Rattle.demand.specs.Sizes.{Each}
 use Rattle.demand.proofs.Sums.{each_snoc}
+use Rattle.task.specs.declared.Name.{Name}
 use Rattle.task.specs.declared.Part.{Part}
 use Rattle.task.specs.declared.Task.{Task}
 use Rattle.task.specs.Tasks.{task_of, list_of}
-use Rattle.lines.specs.declared.Word.{Word}
 use Rattle.lines.specs.declared.Line.{Line}
 use Rattle.lines.specs.Lines.{bytes_of, fields, name_of, is_name}
 use Rattle.lines.specs.Forms.{times_of, values, line_of}
 use Rattle.lines.proofs.SaysLaws.{says-part, says-fit, name-exact}
-use Rattle.sheet.specs.Sheet.{Above, line_fault, part_named, word_after, after, whole, outcome_of, read_of}
+use Rattle.sheet.specs.Sheet.{Above, line_fault, part_named, after, whole, outcome_of, read_of}
 use Rattle.sheet.specs.Fitted.{lines_of, Fitted}
 use Rattle.sheet.proofs.FaultLaws.{line-fit}
 use Rattle.sheet.proofs.WholeLaws.{read_keeps, read_whole, read-tasks, Found, found}
@@ -86,9 +87,9 @@ record Arrows (ls : List (List ℕ)) (a : Above) : Type 0 where
   parts-stand : Each (Stands ls) a.parts
   tasks-fitted : Each (Fitted ls) a.tasks
 
-part-stands : (ls : List (List ℕ)) (l : List ℕ) → (line_of l).word ≡ Word.Part → Stands (ls ++ (l ∷ [])) (line_of l).part
-part-stands ls l word =
-    let s = says-part l word in
+part-stands : (ls : List (List ℕ)) (l : List ℕ) (p : Part) → line_of l ≡ Some (Line.Part p) → Stands (ls ++ (l ∷ [])) p
+part-stands ls l p says =
+    let s = says-part l p says in
     record {
       above = ls;
       below = [];
@@ -98,17 +99,17 @@ part-stands ls l word =
       order = refl;
       reads = s.reads;
       good = s.named;
-      named = ap (λ (k : Line). k.part.name) s.line;
-      timed = ap (λ (k : Line). k.part.times) s.line;
+      named = ap (λ (k : Part). k.name) s.part;
+      timed = ap (λ (k : Part). k.times) s.part;
     }
 
 -- the part that a fit line names has its very bytes
-task-fitted : (ls : List (List ℕ)) (l : List ℕ) (parts : List Part) → (line_of l).word ≡ Word.Fit → Found (Stands ls) (line_of l).part.name parts
-    → Fitted (ls ++ (l ∷ [])) (task_of (line_of l).task (part_named (line_of l).part.name parts))
-task-fitted ls l parts word f =
-    let s = says-fit l word in
+task-fitted : (ls : List (List ℕ)) (l : List ℕ) (parts : List Part) (t n : Name) → line_of l ≡ Some (Line.Fit t n) → Found (Stands ls) n parts
+    → Fitted (ls ++ (l ∷ [])) (task_of t (part_named n parts))
+task-fitted ls l parts t n says f =
+    let s = says-fit l t n says in
     let p = f.holds in
-    let same : name_of s.name ≡ name_of p.name = sym (ap (λ (k : Line). k.part.name) s.line) ∙ f.same ∙ p.named in
+    let same : name_of s.name ≡ name_of p.name = sym s.part-is ∙ f.same ∙ p.named in
     let bytes : s.name ≡ p.name = name-exact s.name p.name s.named p.good same in
     record {
       above = p.above;
@@ -122,13 +123,13 @@ task-fitted ls l parts word f =
       order = ap (λ (k : List (List ℕ)). k ++ (l ∷ [])) p.order ∙ append_assoc p.above (p.line ∷ p.below) (l ∷ []);
       part-reads = p.reads;
       fit-reads = s.reads ∙ rw bytes;
-      named = ap (λ (k : Line). k.task) s.line;
+      named = s.task-is;
       timed = ap (λ (k : Part). k.times) f.is ∙ p.timed;
     }
 
 arrows-step : (ls : List (List ℕ)) (a : Above) (l : List ℕ) → Arrows ls a → line_fault a (line_of l) ≡ 0 → Arrows (ls ++ (l ∷ [])) (after a (line_of l))
 unfolding after
-arrows-step ls a l so_far none = by_word (line_of l).word refl
+arrows-step ls a l so_far none = by_form (line_of l) refl none
   where
     parts : Each (Stands (ls ++ (l ∷ []))) a.parts
     parts = each_on (Stands ls) (Stands (ls ++ (l ∷ []))) (stands_on ls l) a.parts so_far.parts-stand
@@ -136,21 +137,20 @@ arrows-step ls a l so_far none = by_word (line_of l).word refl
     tasks : Each (Fitted (ls ++ (l ∷ []))) a.tasks
     tasks = each_on (Fitted ls) (Fitted (ls ++ (l ∷ []))) (fitted-on ls l) a.tasks so_far.tasks-fitted
 
-    by_word : (w : Word) → (line_of l).word ≡ w → Arrows (ls ++ (l ∷ [])) (word_after w a (line_of l))
-    by_word Word.Machine word = record { parts-stand = parts; tasks-fitted = tasks }
-    by_word Word.Cost word = record { parts-stand = parts; tasks-fitted = tasks }
-    by_word Word.Part word = record {
-      parts-stand = each_snoc (Stands (ls ++ (l ∷ []))) a.parts (line_of l).part parts (part-stands ls l word);
+    by_form : (o : Option Line) → line_of l ≡ o → line_fault a o ≡ 0 → Arrows (ls ++ (l ∷ [])) (after a o)
+    by_form (Some (Line.Machine m)) says good = record { parts-stand = parts; tasks-fitted = tasks }
+    by_form (Some (Line.Cost c)) says good = record { parts-stand = parts; tasks-fitted = tasks }
+    by_form (Some (Line.Part p)) says good = record {
+      parts-stand = each_snoc (Stands (ls ++ (l ∷ []))) a.parts p parts (part-stands ls l p says);
       tasks-fitted = tasks;
     }
-    by_word Word.Fit word =
-        let known = (line-fit a (line_of l) none word).known in
-        let one = task-fitted ls l a.parts word (found (Stands ls) 1 (line_of l).part.name a.parts so_far.parts-stand known) in
+    by_form (Some (Line.Fit t n)) says good =
+        let one = task-fitted ls l a.parts t n says (found (Stands ls) 1 n a.parts so_far.parts-stand (line-fit a t n good).known) in
         record {
           parts-stand = parts;
-          tasks-fitted = each_snoc (Fitted (ls ++ (l ∷ []))) a.tasks (task_of (line_of l).task (part_named (line_of l).part.name a.parts)) tasks one;
+          tasks-fitted = each_snoc (Fitted (ls ++ (l ∷ []))) a.tasks (task_of t (part_named n a.parts)) tasks one;
         }
-    by_word Word.Other word = record { parts-stand = parts; tasks-fitted = tasks }
+    by_form None says good = record { parts-stand = parts; tasks-fitted = tasks }
 
 -- ---- the whole sheet
 

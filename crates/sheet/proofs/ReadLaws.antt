@@ -1,24 +1,32 @@
 -- Laws of reading a sheet from the top, line by line.
 -- Assumes nothing.
 --
---   Fits a                   what stands above has at most 64 parts and 64 tasks
---   Reached bytes a at n     the lines above line n say a, and line n starts at `at`
---   read-long                over 16,384 bytes
---   reached-top, -cut, -bad, -line, -missing, -whole
+--   Fits a                      what stands above has at most 64 parts and 64 tasks
+--   after-fits                  so it has below a good line
+--   Reading bytes d l ls n      the lines above line n are good, the draft d holds what they say, and the runs l and ls are left
+--   reading-top, -bad, -on      at the first line; a bad line; below a good one
+--   reading-cut, -missing, -whole, read-long     where no line is left; over 16,384 bytes
+--   refused-at, read-fine       a refusal with its line, and a line that is not refused
 use mathlib.Core.Path.{◌≡◌, refl, sym, ap, ◌∙◌}
+use mathlib.Core.Bool.{Bool, true, false, cond}
 use mathlib.Core.List.{List, [], ◌∷◌}
 use Prim.Native.Nat.{ℕ, zero, suc, ◌+◌, ◌≤◌, ◌<◌}
 use native.Mathlib.Omega.{arith}
 use borrow.Author.Tests.{le-leb, lt-leb}
-use lib.ListN.{length, take, length-append, drop_of_length-le}
+use lib.Dec.{eqb}
+use lib.ListN.{length, length-append}
+use Rattle.std.proofs.Common.{Option, Some, None, Result, Ok, Err}
+use Rattle.std.specs.Result.{MatchResult, IsErrAnd}
+use Rattle.task.specs.declared.faults.Fault.{Fault}
+use Rattle.task.specs.declared.faults.Refused.{Refused}
 use Rattle.task.specs.Tasks.{tasks_most}
-use Rattle.lines.specs.declared.Word.{Word}
 use Rattle.lines.specs.declared.Line.{Line}
 use Rattle.lines.specs.Lines.{newline, up_to, beyond}
 use Rattle.lines.specs.Forms.{line_of}
-use Rattle.sheet.specs.Sheet.{Above, top, among_parts, line_fault, word_after, after, Outcome, refused, whole}
+use Rattle.sheet.specs.declared.drafts.Draft.{Draft}
+use Rattle.sheet.specs.Sheet.{Above, top, among_parts, line_fault, after, Outcome, refused}
 use Rattle.sheet.specs.Sheet.{ending, next, read_from, sheet_most, outcome_of, shown, read_of}
-use Rattle.lines.proofs.LineLaws.{rest, rest-drop, rest-length, rest-rest, run-le, run_take, run-whole, run-last, run_more}
+use Rattle.sheet.specs.Ways.ReaderHolds.{stage_number, Carries}
 use Rattle.sheet.proofs.FaultLaws.{line-part, line-fit}
 
 -- ---- a good line leaves room for what it adds
@@ -27,18 +35,15 @@ pub record Fits (a : Above) : Type 0 where
   pub parts-fit : length a.parts ≤ tasks_most
   pub tasks-fit : length a.tasks ≤ tasks_most
 
-pub after-fits : (a : Above) (l : Line) → line_fault a l ≡ 0 → Fits a → Fits (after a l)
+pub after-fits : (a : Above) (l : Option Line) → line_fault a l ≡ 0 → Fits a → Fits (after a l)
 unfolding after
-after-fits a l none fits = by_word l.word refl
-  where
-    by_word : (w : Word) → l.word ≡ w → Fits (word_after w a l)
-    by_word Word.Machine word = record { parts-fit = fits.parts-fit; tasks-fit = fits.tasks-fit }
-    by_word Word.Cost word = record { parts-fit = fits.parts-fit; tasks-fit = fits.tasks-fit }
-    by_word Word.Part word =
-        record { parts-fit = rw length-append (omega (arith, (line-part a l none word).space)); tasks-fit = fits.tasks-fit }
-    by_word Word.Fit word =
-        record { parts-fit = fits.parts-fit; tasks-fit = rw length-append (omega (arith, (line-fit a l none word).space)) }
-    by_word Word.Other word = fits
+after-fits a (Some (Line.Machine m)) none fits = record { parts-fit = fits.parts-fit; tasks-fit = fits.tasks-fit }
+after-fits a (Some (Line.Cost c)) none fits = record { parts-fit = fits.parts-fit; tasks-fit = fits.tasks-fit }
+after-fits a (Some (Line.Part p)) none fits =
+    record { parts-fit = rw length-append (omega (arith, (line-part a p none).space)); tasks-fit = fits.tasks-fit }
+after-fits a (Some (Line.Fit n p)) none fits =
+    record { parts-fit = fits.parts-fit; tasks-fit = rw length-append (omega (arith, (line-fit a n p none).space)) }
+after-fits a None none fits = fits
 
 -- ---- the lines
 
@@ -50,66 +55,92 @@ next-bad : (k n : ℕ) (others : Outcome) → (k ≡ 0 → ⊥) → next k n oth
 next-bad zero n others bad = absurd (bad refl)
 next-bad (suc k) n others bad = refl
 
-pub record Reached (bytes : List ℕ) (a : Above) (at n : ℕ) : Type 0 where
-  pub on : at ≤ length bytes
-  pub near : n ≤ at + 1
-  pub fits : Fits a
-  pub so_far : outcome_of bytes ≡ read_from a n (up_to newline (rest bytes at)) (beyond newline (rest bytes at))
+pub beyond-few : (b : ℕ) (s : List ℕ) → length (beyond b s) ≤ length s
+unfolding beyond
+beyond-few b [] = omega arith
+beyond-few b (x ∷ s) = by (eqb x b) (beyond-few b s)
+  where
+    by : (t : Bool) → length (beyond b s) ≤ length s → length (cond t (up_to b s ∷ beyond b s) (beyond b s)) ≤ suc (length s)
+    by true h = omega arith
+    by false h = omega arith
 
-pub reached-top : (bytes : List ℕ) → length bytes ≤ sheet_most → Reached bytes top 0 1
+pub record Reading (bytes : List ℕ) (d : Draft) (l : List ℕ) (ls : List (List ℕ)) (n : ℕ) : Type 0 where
+  pub above : Above
+  pub held : Carries above d
+  pub near : n + length ls ≤ sheet_most + 1
+  pub so_far : outcome_of bytes ≡ read_from above n l ls
+
+pub reading-top : (bytes : List ℕ) (d : Draft) (l : List ℕ) (ls : List (List ℕ)) → length bytes ≤ sheet_most → Carries top d
+    → l ≡ up_to newline bytes → beyond newline bytes ≡ ls → Reading bytes d l ls 1
 unfolding outcome_of
-reached-top bytes short =
+reading-top bytes d l ls short held first others =
     record {
-      on = omega arith;
-      near = omega arith;
-      fits = record { parts-fit = omega arith; tasks-fit = omega arith };
-      so_far = rw (rest-drop bytes 0, le-leb (length bytes) sheet_most short);
+      above = top;
+      held = held;
+      near = rw (← others) (omega (arith, beyond-few newline bytes));
+      so_far = rw (le-leb (length bytes) sheet_most short, first, others);
     }
 
-module _ (bytes : List ℕ) (a : Above) (at n : ℕ) (r : Reached bytes a at n) where
+nothing : (l : List ℕ) → length l ≡ 0 → l ≡ []
+nothing [] none = refl
+nothing (b ∷ l) none = absurd (omega arith)
+
+module _ (bytes : List ℕ) (d : Draft) (l : List ℕ) (ks : List (List ℕ)) (n : ℕ) (r : Reading bytes d l ks n) where
+  -- one line, with others behind it
+  module _ (m : List ℕ) (ls : List (List ℕ)) (more : ks ≡ m ∷ ls) where
+    one_line : outcome_of bytes ≡ next (line_fault r.above (line_of l)) n (read_from (after r.above (line_of l)) (n + 1) m ls)
+    unfolding read_from
+    one_line = r.so_far ∙ rw more
+
+    pub reading-bad : (fault : ℕ) → fault ≡ line_fault r.above (line_of l) → (fault ≡ 0 → ⊥) → shown (refused fault n) ≡ read_of bytes
+    unfolding read_of
+    reading-bad fault judged bad = rw (one_line, ← judged) (ap shown (sym (next-bad fault n _ bad)))
+
+    pub reading-on : (e : Draft) → 0 ≡ line_fault r.above (line_of l) → Carries (after r.above (line_of l)) e → Reading bytes e m ls (n + 1)
+    reading-on e none held =
+        let fewer : length ks ≡ suc (length ls) = ap length more in
+        record { above = after r.above (line_of l); held = held; near = omega (arith, r.near); so_far = one_line ∙ rw (← none) }
+
   -- no line is left
-  at-end : length bytes ≤ at → outcome_of bytes ≡ ending a n []
-  unfolding read_from up_to beyond
-  at-end end = r.so_far ∙ rw (rest-drop bytes at, drop_of_length-le bytes {i = at} end)
+  module _ (last : ks ≡ []) where
+    at-end : outcome_of bytes ≡ ending r.above n l
+    unfolding read_from
+    at-end = r.so_far ∙ rw last
 
-  pub reached-missing : length bytes ≤ at → a.stage < among_parts → shown (refused 8 n) ≡ read_of bytes
-  unfolding read_of
-  reached-missing end early = rw (at-end end, lt-leb among_parts a.stage early)
-
-  pub reached-whole : length bytes ≤ at → among_parts ≤ a.stage → shown (whole a) ≡ read_of bytes
-  unfolding read_of
-  reached-whole end late = rw (at-end end, le-leb among_parts a.stage late)
-
-  module _ (e : ℕ) (run : e ≡ length (up_to newline (rest bytes at))) where
     -- a line without its newline
-    pub reached-cut : at < length bytes → e ≡ length (rest bytes at) → shown (refused 8 n) ≡ read_of bytes
-    unfolding read_of read_from
-    reached-cut more cut =
-        rw (r.so_far, run-last newline (rest bytes at) e run (omega arith), run-whole newline (rest bytes at) e run (omega arith))
-        (some_left (rest bytes at) (omega (arith, rest-length bytes at)))
+    pub reading-cut : (l ≡ [] → ⊥) → shown (refused 8 n) ≡ read_of bytes
+    unfolding read_of
+    reading-cut some = rw at-end (some_left l some)
       where
-        some_left : (l : List ℕ) → 0 < length l → shown (refused 8 n) ≡ shown (ending a n l)
-        some_left [] some = absurd (omega arith)
+        some_left : (l : List ℕ) → (l ≡ [] → ⊥) → shown (refused 8 n) ≡ shown (ending r.above n l)
+        some_left [] some = absurd (some refl)
         some_left (b ∷ l) some = refl
 
-    module _ (ended : e ≡ length (rest bytes at) → ⊥) (line : Line) (says : line ≡ line_of (take e (rest bytes at))) where
-      one_line : outcome_of bytes ≡ next (line_fault a line) n
-          (read_from (after a line) (n + 1) (up_to newline (rest bytes (at + e + 1))) (beyond newline (rest bytes (at + e + 1))))
-      unfolding read_from
-      one_line =
-          let more = run_more newline (rest bytes at) e run (omega (arith, run-le newline (rest bytes at) e run)) in
-          r.so_far ∙ rw (more, rest-rest bytes at e, ← run_take newline (rest bytes at) e run, ← says)
+    module _ (none : length l ≡ 0) where
+      ends : outcome_of bytes ≡ ending r.above n []
+      ends = at-end ∙ ap (ending r.above n) (nothing l none)
 
-      pub reached-bad : (fault : ℕ) → fault ≡ line_fault a line → (fault ≡ 0 → ⊥) → shown (refused fault n) ≡ read_of bytes
+      pub reading-missing : stage_number d.stage < among_parts → shown (refused 8 n) ≡ read_of bytes
       unfolding read_of
-      reached-bad fault judged bad = rw (one_line, ← judged) (ap shown (sym (next-bad fault n _ bad)))
+      reading-missing early = rw (ends, lt-leb among_parts r.above.stage (omega (arith, r.held.stage_is)))
 
-      pub reached-line : (fault : ℕ) → fault ≡ line_fault a line → fault ≡ 0 → Reached bytes (after a line) (at + e + 1) (n + 1)
-      reached-line fault judged good =
-          let none : line_fault a line ≡ 0 = sym judged ∙ good in
-          record {
-            on = omega (arith, r.on, rest-length bytes at, run-le newline (rest bytes at) e run);
-            near = omega (arith, r.near);
-            fits = after-fits a line none r.fits;
-            so_far = one_line ∙ rw none;
-          }
+      pub reading-whole : among_parts ≤ stage_number d.stage
+          → record { number = 0; carries = 0; sheet = record { machine = d.machine; costs = d.costs; tasks = record { count = d.tasks.count; list = d.tasks.list } } } ≡ read_of bytes
+      unfolding read_of
+      reading-whole late = rw (ends, le-leb among_parts r.above.stage (omega (arith, r.held.stage_is)), r.held.machine_is, r.held.costs_are, r.held.tasks_are)
+
+-- ---- a refusal with its line, as `map_err` gives it
+
+abbrev pub At : Result (Unit {0}) Fault → Result (Unit {0}) Refused → ℕ → Type 0
+At r m n = MatchResult r (λ x. m ≡ Ok x) (λ e. IsErrAnd m (λ x. x ≡ record { fault = e; carries = n }))
+
+pub refused-at : (r : Result (Unit {0}) Fault) (m : Result (Unit {0}) Refused) (n : ℕ) → At r m n → (x : Refused) → m ≡ Err x
+    → (r ≡ Err x.fault) × (x.carries ≡ n)
+refused-at (Ok done) m n h x e = absurd (let z : ◌≡◌ {A = ℕ} 0 1 = cc in omega arith)
+refused-at (Err f) (Ok done) n h x e = absurd (let z : ◌≡◌ {A = ℕ} 0 1 = cc in omega arith)
+refused-at (Err f) (Err y) n h x e = let same : y ≡ x = cc in (rw (← same, h), rw (← same, h))
+
+pub read-fine : (r : Result (Unit {0}) Fault) (m : Result (Unit {0}) Refused) (n : ℕ) → At r m n → (x : Unit {0}) → m ≡ Ok x → r ≡ Ok x
+read-fine (Ok done) m n h x e = refl
+read-fine (Err f) (Ok done) n h x e = absurd h
+read-fine (Err f) (Err y) n h x e = absurd (let z : ◌≡◌ {A = ℕ} 0 1 = cc in omega arith)

@@ -15,6 +15,7 @@ use mathlib.Core.List.{List, [], ◌∷◌, ◌++◌, append_assoc, map, drop_la
 use Prim.Native.Nat.{ℕ, zero, suc, ◌+◌, ◌≤◌, ◌<◌}
 use native.Mathlib.Omega.{arith}
 use lib.Dec.{leb, ltb, eqb}
+use Rattle.std.proofs.Common.{Option, Some, None}
 use lib.ListN.{length}
 use Rattle.demand.specs.Sizes.{sized, sized_costs}
 use Rattle.demand.specs.Tables.{Rule, ◌if◌carrying◌, Not, Gives, Kept, down_each, below}
@@ -25,14 +26,13 @@ use Rattle.task.specs.declared.Part.{Part}
 use Rattle.task.specs.declared.Task.{Task}
 use Rattle.task.specs.Tasks.{tasks_most, whole_piece, tasks_of, list_of, sized_machine}
 use Rattle.task.proofs.RefusalLaws.{comes-rule, place-breaks, machine-breaks}
-use Rattle.lines.specs.declared.Word.{Word}
 use Rattle.lines.specs.declared.Line.{Line}
 use Rattle.lines.specs.Lines.{newline, up_to, beyond}
 use Rattle.lines.specs.Forms.{line_of}
 use Rattle.lines.specs.Says.{says_of}
-use Rattle.lines.proofs.MeansLaws.{word_said, says-line}
+use Rattle.lines.proofs.MeansLaws.{said, says-line}
 use Rattle.sheet.specs.Sheet.{Above, at_top, below_machine, among_parts, top, task_free, part_free, machine_fault, cost_fault, part_fault}
-use Rattle.sheet.specs.Sheet.{fit_fault, word_fault, line_fault, word_after, after, Outcome, refused, whole, ending, next, read_from}
+use Rattle.sheet.specs.Sheet.{fit_fault, line_fault, after, Outcome, refused, whole, ending, next, read_from}
 use Rattle.sheet.specs.Sheet.{sheet_most, outcome_of, shown, read_of}
 use Rattle.sheet.specs.Fitted.{lines_of}
 use Rattle.sheet.specs.Refusals.{Said, unsaid, line_table, line_below, said_by, lines_table, read_table}
@@ -45,46 +45,45 @@ use Rattle.sheet.proofs.StageLaws.{Staged, breaks-at, breaks-early, comes-among,
 abbrev pub said_of : Above → Said
 said_of a = record { machine = a.machine; costs = a.costs; parts = a.parts; tasks = a.tasks }
 
-word-comes : (w : Word) (a : Above) (n : ℕ) (l : Line) → Staged a n → Comes (line_table (said_of a) n (word_said w l)) (word_fault w a l) n
-unfolding machine_fault cost_fault part_fault fit_fault
-word-comes Word.Machine a n l s =
+form-comes : (a : Above) (n : ℕ) (l : Option Line) → Staged a n → Comes (line_table (said_of a) n (said l)) (line_fault a l) n
+unfolding line_fault machine_fault cost_fault part_fault fit_fault
+form-comes a n (Some (Line.Machine m)) s =
     comes-rule (eqb a.stage at_top) (breaks-at a n s at_top (omega arith)) 7
-    (comes-rule (sized_machine l.machine) (machine-breaks l.machine) 0
+    (comes-rule (sized_machine m) (machine-breaks m) 0
     none)
-word-comes Word.Cost a n l s =
+form-comes a n (Some (Line.Cost c)) s =
     comes-rule (eqb a.stage below_machine) (breaks-at a n s below_machine (omega arith)) 7
-    (comes-rule (sized_costs l.costs) (costs-break l.costs) 1
+    (comes-rule (sized_costs c) (costs-break c) 1
     none)
-word-comes Word.Part a n l s =
+form-comes a n (Some (Line.Part p)) s =
     comes-among a n s
-    (comes-rule (sized (whole_piece l.part.times)) (sized-breaks (whole_piece l.part.times)) 2
-    (comes-rule (part_free l.part.name a.parts) (place-breaks (λ (p : Part). p.name) l.part.name a.parts) 3
+    (comes-rule (sized (whole_piece p.times)) (sized-breaks (whole_piece p.times)) 2
+    (comes-rule (part_free p.name a.parts) (place-breaks (λ (q : Part). q.name) p.name a.parts) 3
     (comes-rule (ltb (length a.parts) tasks_most) (breaks-ltb (length a.parts) tasks_most) 5
     none)))
-word-comes Word.Fit a n l s =
-    let free = part_free l.part.name a.parts in
+form-comes a n (Some (Line.Fit t p)) s =
+    let free = part_free p a.parts in
     comes-rule (leb among_parts a.stage) (breaks-early a n s) 7
-    (comes-rule (task_free l.task a.tasks) (place-breaks (λ (t : Task). t.name) l.task a.tasks) 3
-    (comes-rule (not free) (breaks-negated free (place-breaks (λ (p : Part). p.name) l.part.name a.parts)) 4
+    (comes-rule (task_free t a.tasks) (place-breaks (λ (u : Task). u.name) t a.tasks) 3
+    (comes-rule (not free) (breaks-negated free (place-breaks (λ (q : Part). q.name) p a.parts)) 4
     (comes-rule (ltb (length a.tasks) tasks_most) (breaks-ltb (length a.tasks) tasks_most) 5
     none)))
-word-comes Word.Other a n l s = let fine : Not ⊥ = λ never. never in here fine refl refl
+form-comes a n None s = let fine : Not ⊥ = λ never. never in here fine refl refl
 
 line-comes : (a : Above) (n : ℕ) (l : List ℕ) → Staged a n → Comes (line_table (said_of a) n (says_of l)) (line_fault a (line_of l)) n
-unfolding line_fault
-line-comes a n l s = rw (says-line l) (word-comes (line_of l).word a n (line_of l) s)
+line-comes a n l s = rw (says-line l) (form-comes a n (line_of l) s)
 
 -- what it leaves
-word_below : (w : Word) (a : Above) (l : Line) → said_of (word_after w a l) ≡ line_below (said_of a) (word_said w l)
-word_below Word.Machine a l = refl
-word_below Word.Cost a l = refl
-word_below Word.Part a l = refl
-word_below Word.Fit a l = refl
-word_below Word.Other a l = refl
+form-below : (a : Above) (l : Option Line) → said_of (after a l) ≡ line_below (said_of a) (said l)
+unfolding after
+form-below a (Some (Line.Machine m)) = refl
+form-below a (Some (Line.Cost c)) = refl
+form-below a (Some (Line.Part p)) = refl
+form-below a (Some (Line.Fit t p)) = refl
+form-below a None = refl
 
 line-below : (a : Above) (l : List ℕ) → said_of (after a (line_of l)) ≡ line_below (said_of a) (says_of l)
-unfolding after
-line-below a l = rw (says-line l) (word_below (line_of l).word a (line_of l))
+line-below a l = rw (says-line l) (form-below a (line_of l))
 
 -- ---- the lines from the top
 

@@ -11,20 +11,21 @@ use Prim.Native.Nat.{ℕ, zero, suc, ◌≤◌}
 use native.Mathlib.Omega.{arith}
 use borrow.Author.Tests.{le-leb}
 use lib.ListN.{length}
+use Rattle.std.proofs.Common.{Option, Some, None}
 use Rattle.demand.specs.Sizes.{Each, sized, sized_costs}
 use Rattle.demand.proofs.Sums.{each_snoc}
+use Rattle.task.specs.declared.Name.{Name}
 use Rattle.task.specs.declared.Part.{Part}
 use Rattle.task.specs.declared.Task.{Task}
 use Rattle.task.specs.Tasks.{task_of, tasks_most, sized_machine, whole_piece, or_else, fault_of, first_fault, state_fault, no_task}
 use Rattle.task.specs.Names.{formed}
 use Rattle.task.proofs.TaskLaws.{fault-free}
-use Rattle.lines.specs.declared.Word.{Word}
 use Rattle.lines.specs.declared.Line.{Line}
 use Rattle.lines.specs.Lines.{is_name}
 use Rattle.lines.specs.Forms.{line_of}
 use Rattle.demand.proofs.PaddedLaws.{padded-take}
 use Rattle.lines.proofs.SaysLaws.{says-fit}
-use Rattle.sheet.specs.Sheet.{Above, below_machine, among_parts, line_fault, part_named, word_after, after, whole, outcome_of, read_of}
+use Rattle.sheet.specs.Sheet.{Above, below_machine, among_parts, line_fault, part_named, after, whole, outcome_of, read_of}
 use Rattle.sheet.proofs.FaultLaws.{line-machine, line-cost, line-part, line-fit}
 use Rattle.sheet.proofs.WholeLaws.{read_keeps, read_whole, read_fits, read-shown, found}
 
@@ -52,57 +53,58 @@ record Sound (a : Above) : Type 0 where
   parts-sized : Each SizedPart a.parts
   tasks-good : first_fault [] a.tasks ≡ 0
 
-formed-task : (l : List ℕ) → (line_of l).word ≡ Word.Fit → formed (line_of l).task ≡ true
+formed-task : (l : List ℕ) (t n : Name) → line_of l ≡ Some (Line.Fit t n) → formed t ≡ true
 unfolding is_name
-formed-task l word = let s = says-fit l word in ap (λ (k : Line). formed k.task) s.line ∙ s.called
+formed-task l t n says = let s = says-fit l t n says in ap formed s.task-is ∙ s.called
 
-module _ (a : Above) (l : List ℕ) (so_far : Sound a) (none : line_fault a (line_of l) ≡ 0) where
-  task-good : (line_of l).word ≡ Word.Fit → first_fault [] (a.tasks ++ (task_of (line_of l).task (part_named (line_of l).part.name a.parts) ∷ [])) ≡ 0
+module _ (a : Above) (l : List ℕ) (so_far : Sound a) where
+  task-good : (t n : Name) → line_of l ≡ Some (Line.Fit t n) → line_fault a (Some (Line.Fit t n)) ≡ 0
+      → first_fault [] (a.tasks ++ (task_of t (part_named n a.parts) ∷ [])) ≡ 0
   unfolding SizedPart
-  task-good word =
-      let kept = line-fit a (line_of l) none word in
-      let part = found SizedPart 1 (line_of l).part.name a.parts so_far.parts-sized kept.known in
-      let fits : sized (whole_piece (part_named (line_of l).part.name a.parts).times) ≡ true = rw part.is part.holds in
-      first-snoc a.tasks [] (task_of (line_of l).task (part_named (line_of l).part.name a.parts)) so_far.tasks-good
-      (fault-free a.tasks (task_of (line_of l).task (part_named (line_of l).part.name a.parts)) (formed-task l word) fits kept.new)
+  task-good t n says none =
+      let kept = line-fit a t n none in
+      let part = found SizedPart 1 n a.parts so_far.parts-sized kept.known in
+      let fits : sized (whole_piece (part_named n a.parts).times) ≡ true = rw part.is part.holds in
+      first-snoc a.tasks [] (task_of t (part_named n a.parts)) so_far.tasks-good
+      (fault-free a.tasks (task_of t (part_named n a.parts)) (formed-task l t n says) fits kept.new)
 
-  sound-step : Sound (after a (line_of l))
+  sound-step : line_fault a (line_of l) ≡ 0 → Sound (after a (line_of l))
   unfolding after SizedPart
-  sound-step = by_word (line_of l).word refl
+  sound-step = by_form (line_of l) refl
     where
-      by_word : (w : Word) → (line_of l).word ≡ w → Sound (word_after w a (line_of l))
-      by_word Word.Machine word =
+      by_form : (o : Option Line) → line_of l ≡ o → line_fault a o ≡ 0 → Sound (after a o)
+      by_form (Some (Line.Machine m)) says none =
           record {
-            machine-sized = λ s. (line-machine a (line_of l) none word).1;
+            machine-sized = λ s. (line-machine a m none).1;
             costs-sized = λ s. absurd (omega arith);
             parts-sized = so_far.parts-sized;
             tasks-good = so_far.tasks-good;
           }
-      by_word Word.Cost word =
-          let kept = line-cost a (line_of l) none word in
+      by_form (Some (Line.Cost c)) says none =
+          let kept = line-cost a c none in
           record {
             machine-sized = λ s. so_far.machine-sized (omega (arith, kept.0));
             costs-sized = λ s. kept.1;
             parts-sized = so_far.parts-sized;
             tasks-good = so_far.tasks-good;
           }
-      by_word Word.Part word =
-          let kept = line-part a (line_of l) none word in
+      by_form (Some (Line.Part p)) says none =
+          let kept = line-part a p none in
           record {
             machine-sized = λ s. so_far.machine-sized (omega (arith, kept.order));
             costs-sized = λ s. so_far.costs-sized (omega (arith, kept.order));
-            parts-sized = each_snoc SizedPart a.parts (line_of l).part so_far.parts-sized kept.fits;
+            parts-sized = each_snoc SizedPart a.parts p so_far.parts-sized kept.fits;
             tasks-good = so_far.tasks-good;
           }
-      by_word Word.Fit word =
-          let kept = line-fit a (line_of l) none word in
+      by_form (Some (Line.Fit t n)) says none =
+          let kept = line-fit a t n none in
           record {
             machine-sized = λ s. so_far.machine-sized (omega (arith, kept.order));
             costs-sized = λ s. so_far.costs-sized (omega (arith, kept.order));
             parts-sized = so_far.parts-sized;
-            tasks-good = task-good word;
+            tasks-good = task-good t n says none;
           }
-      by_word Word.Other word = so_far
+      by_form None says none = so_far
 
 -- ---- the whole sheet
 

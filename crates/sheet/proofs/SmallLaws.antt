@@ -12,6 +12,7 @@ use native.Mathlib.Decide.{dec_lt}
 use native.Mathlib.Omega.{arith}
 use borrow.Author.Tests.{le-leb, lt-leb}
 use lib.Dec.{leb, eqb}
+use Rattle.std.proofs.Common.{Option, Some, None}
 use lib.ListN.{length}
 use Rattle.demand.specs.declared.Costs.{Costs}
 use Rattle.demand.specs.Sizes.{sized, sized_costs}
@@ -20,13 +21,13 @@ use Rattle.task.specs.declared.Part.{Part}
 use Rattle.task.specs.declared.Task.{Task}
 use Rattle.task.specs.declared.Machine.{Machine}
 use Rattle.task.specs.Tasks.{rule, sized_machine, whole_piece}
-use Rattle.lines.specs.declared.Word.{Word}
 use Rattle.lines.specs.declared.Line.{Line}
 use Rattle.lines.specs.Lines.{newline, up_to, beyond}
 use Rattle.lines.specs.Forms.{line_of}
 use Rattle.sheet.specs.Sheet.{Above, at_top, below_machine, among_parts, top, task_free, part_free, room, machine_fault}
-use Rattle.sheet.specs.Sheet.{cost_fault, part_fault, fit_fault, word_fault, line_fault, after, Outcome, refused, whole}
+use Rattle.sheet.specs.Sheet.{cost_fault, part_fault, fit_fault, line_fault, after, Outcome, refused, whole}
 use Rattle.sheet.specs.Sheet.{ending, next, read_from, sheet_most, outcome_of, shown, read_of}
+use Rattle.sheet.proofs.ReadLaws.{beyond-few}
 
 -- ---- one line
 
@@ -61,16 +62,13 @@ fit_small stage n p parts tasks =
     rule-small (leb among_parts stage) 8 (rule (task_free n tasks) 4 (rule known 5 (rule (room tasks) 6 0)))
     (omega arith) (rule-small (task_free n tasks) 4 (rule known 5 (rule (room tasks) 6 0)) (omega arith) five)
 
-word_small : (w : Word) (a : Above) (l : Line) → word_fault w a l ≤ 8
-word_small Word.Machine a l = machine-small a.stage l.machine
-word_small Word.Cost a l = cost-small a.stage l.costs
-word_small Word.Part a l = part_small a.stage l.part a.parts
-word_small Word.Fit a l = fit_small a.stage l.task l.part.name a.parts a.tasks
-word_small Word.Other a l = omega arith
-
-line_small : (a : Above) (l : Line) → line_fault a l ≤ 8
+line_small : (a : Above) (l : Option Line) → line_fault a l ≤ 8
 unfolding line_fault
-line_small a l = word_small l.word a l
+line_small a (Some (Line.Machine m)) = machine-small a.stage m
+line_small a (Some (Line.Cost c)) = cost-small a.stage c
+line_small a (Some (Line.Part p)) = part_small a.stage p a.parts
+line_small a (Some (Line.Fit n p)) = fit_small a.stage n p a.parts a.tasks
+line_small a None = omega arith
 
 -- ---- all lines
 
@@ -97,15 +95,6 @@ from-small most a n l [] low = ending-small most a n l (omega arith)
 from-small most a n l (m ∷ ls) low =
     next_small most (line_fault a (line_of l)) n (read_from (after a (line_of l)) (n + 1) m ls)
     (line_small a (line_of l)) (omega arith) (from-small most (after a (line_of l)) (n + 1) m ls (omega arith))
-
-beyond-few : (b : ℕ) (s : List ℕ) → length (beyond b s) ≤ length s
-unfolding beyond
-beyond-few b [] = omega arith
-beyond-few b (x ∷ s) = by (eqb x b) (beyond-few b s)
-  where
-    by : (t : Bool) → length (beyond b s) ≤ length s → length (cond t (up_to b s ∷ beyond b s) (beyond b s)) ≤ suc (length s)
-    by true h = omega arith
-    by false h = omega arith
 
 long-sheet : (bytes : List ℕ) → sheet_most < length bytes → outcome_of bytes ≡ refused 9 0
 unfolding outcome_of

@@ -6,7 +6,7 @@
 --   breaks-early      lines below `cost` are those from line 3 on
 --   comes-among       among the parts, the stage's rule is two rules: not before line 3, and not where a task stands above
 --   staged-top, staged-step     at the top, and after one more good line
-use mathlib.Core.Path.{◌≡◌, refl, sym, ap, ◌∙◌}
+use mathlib.Core.Path.{◌≡◌, refl}
 use mathlib.Core.Bool.{Bool, true, false}
 use mathlib.Core.List.{List, [], ◌∷◌, ◌++◌}
 use Prim.Native.Nat.{ℕ, ◌+◌, ◌≤◌, ◌<◌}
@@ -14,13 +14,13 @@ use native.Mathlib.Decide.{dec_lt}
 use native.Mathlib.Omega.{arith}
 use borrow.Author.Tests.{eqb-true, eqb-false}
 use lib.Dec.{leb, eqb}
+use Rattle.std.proofs.Common.{Option, Some, None}
 use Rattle.demand.specs.Tables.{Rule, ◌if◌carrying◌, Not}
 use Rattle.demand.proofs.TableLaws.{Comes, here, next as go_on, Breaks, breaks-leb, breaks-eqb}
 use Rattle.task.specs.Tasks.{task_of, rule}
-use Rattle.lines.specs.declared.Word.{Word}
 use Rattle.lines.specs.declared.Line.{Line}
-use Rattle.sheet.specs.Sheet.{Above, at_top, below_machine, among_parts, among_fits, top, word_fault, line_fault, part_named, word_after, after}
-use Rattle.sheet.proofs.FaultLaws.{line-machine, line-cost, line-part, line-fit}
+use Rattle.sheet.specs.Sheet.{Above, at_top, below_machine, among_parts, among_fits, top, line_fault, part_named, after}
+use Rattle.sheet.proofs.FaultLaws.{line-machine, line-cost, line-part, line-fit, line-none}
 use Rattle.sheet.proofs.EndLaws.{cons-some}
 
 pub record Staged (a : Above) (n : ℕ) : Type 0 where
@@ -85,43 +85,40 @@ snoc-some : {A : Type 0} (xs : List A) (x : A) → Not (xs ++ (x ∷ []) ≡ [])
 snoc-some [] x e = cons-some x [] e
 snoc-some (y ∷ xs) x e = cons-some y (xs ++ (x ∷ [])) e
 
-pub staged-step : (a : Above) (n : ℕ) (l : Line) → Staged a n → line_fault a l ≡ 0 → Staged (after a l) (n + 1)
-unfolding after line_fault
-staged-step a n l s good = by l.word refl
-  where
-    by : (w : Word) → l.word ≡ w → Staged (word_after w a l) (n + 1)
-    by Word.Machine word =
-        let at = stage-line a n s at_top (omega arith) (line-machine a l good word).0 in
-        record {
-          early = λ few. omega arith;
-          late = λ many. absurd (omega arith);
-          unfitted = λ few. s.unfitted (omega (arith, (line-machine a l good word).0));
-          fitted = λ many. absurd (omega arith);
-        }
-    by Word.Cost word =
-        let at = stage-line a n s below_machine (omega arith) (line-cost a l good word).0 in
-        record {
-          early = λ few. absurd (omega arith);
-          late = λ many. omega arith;
-          unfitted = λ few. s.unfitted (omega (arith, (line-cost a l good word).0));
-          fitted = λ many. absurd (omega arith);
-        }
-    by Word.Part word =
-        let at = (line-part a l good word).order in
-        record {
-          early = λ few. absurd (omega arith);
-          late = λ many. omega (arith, s.late (omega arith));
-          unfitted = λ few. s.unfitted (omega arith);
-          fitted = λ many. absurd (omega arith);
-        }
-    by Word.Fit word =
-        let at = (line-fit a l good word).order in
-        record {
-          early = λ few. absurd (omega arith);
-          late = λ many. omega (arith, s.late at);
-          unfitted = λ few. absurd (omega arith);
-          fitted = λ many. snoc-some a.tasks (task_of l.task (part_named l.part.name a.parts));
-        }
-    by Word.Other word =
-        let z : ◌≡◌ {A = ℕ} 8 0 = ap (λ (w : Word). word_fault w a l) (sym word) ∙ good in
-        absurd (omega arith)
+pub staged-step : (a : Above) (n : ℕ) (l : Option Line) → Staged a n → line_fault a l ≡ 0 → Staged (after a l) (n + 1)
+unfolding after
+staged-step a n (Some (Line.Machine m)) s good =
+    let kept = line-machine a m good in
+    let at = stage-line a n s at_top (omega arith) kept.0 in
+    record {
+      early = λ few. omega arith;
+      late = λ many. absurd (omega arith);
+      unfitted = λ few. s.unfitted (omega (arith, kept.0));
+      fitted = λ many. absurd (omega arith);
+    }
+staged-step a n (Some (Line.Cost c)) s good =
+    let kept = line-cost a c good in
+    let at = stage-line a n s below_machine (omega arith) kept.0 in
+    record {
+      early = λ few. absurd (omega arith);
+      late = λ many. omega arith;
+      unfitted = λ few. s.unfitted (omega (arith, kept.0));
+      fitted = λ many. absurd (omega arith);
+    }
+staged-step a n (Some (Line.Part p)) s good =
+    let at = (line-part a p good).order in
+    record {
+      early = λ few. absurd (omega arith);
+      late = λ many. omega (arith, s.late (omega arith));
+      unfitted = λ few. s.unfitted (omega arith);
+      fitted = λ many. absurd (omega arith);
+    }
+staged-step a n (Some (Line.Fit t p)) s good =
+    let at = (line-fit a t p good).order in
+    record {
+      early = λ few. absurd (omega arith);
+      late = λ many. omega (arith, s.late at);
+      unfitted = λ few. absurd (omega arith);
+      fitted = λ many. snoc-some a.tasks (task_of t (part_named p a.parts));
+    }
+staged-step a n None s good = absurd (line-none a good)

@@ -5,8 +5,9 @@
 --   after a l           what stands after it
 --   read_from a n l ls   the lines from line n on: the first bad one's refusal, or all that stands at the end
 --   outcome_of bytes     the whole sheet; 9 first
---   read_of bytes        the same as the struct that is given back
-use Rattle.std.specs.Prelude.{Bool, cond, not, List, [], ◌∷◌, ◌++◌, ℕ, zero, suc, ◌+◌, leb, ltb, eqb, length}
+--   read_of bytes        the same as a record
+--   read_shown r         what is given back, as that record
+use Rattle.std.specs.Prelude.{Bool, cond, not, List, [], ◌∷◌, ◌++◌, ℕ, zero, suc, ◌+◌, leb, ltb, eqb, length, Option, Some, None, Result, Ok, Err}
 use Rattle.demand.specs.declared.Costs.{Costs}
 use Rattle.demand.specs.Sizes.{sized, sized_costs}
 use Rattle.task.specs.declared.Name.{Name}
@@ -15,10 +16,10 @@ use Rattle.task.specs.declared.Task.{Task}
 use Rattle.task.specs.declared.Machine.{Machine}
 use Rattle.task.specs.Names.{same_name}
 use Rattle.task.specs.Tasks.{tasks_most, no_part, no_machine, task_of, tasks_of, sized_machine, whole_piece, place_of, part_place, rule}
-use Rattle.lines.specs.declared.Word.{Word}
+use Rattle.task.specs.Faults.{number_of}
 use Rattle.lines.specs.declared.Line.{Line}
 use Rattle.sheet.specs.declared.Sheet.{Sheet}
-use Rattle.sheet.specs.declared.Read.{Read}
+use Rattle.task.specs.declared.faults.Refused.{Refused}
 use Rattle.demand.specs.Charge.{no_costs}
 use Rattle.lines.specs.Lines.{newline, up_to, beyond}
 use Rattle.lines.specs.Forms.{line_of}
@@ -89,15 +90,12 @@ fit_fault stage n p parts tasks =
     (rule (room tasks) 6
     0)))
 
-abbrev pub word_fault : Word → Above → Line → ℕ
-word_fault Word.Machine a l = machine_fault a.stage l.machine
-word_fault Word.Cost a l = cost_fault a.stage l.costs
-word_fault Word.Part a l = part_fault a.stage l.part a.parts
-word_fault Word.Fit a l = fit_fault a.stage l.task l.part.name a.parts a.tasks
-word_fault Word.Other a l = 8
-
-unfoldable pub line_fault : Above → Line → ℕ
-line_fault a l = word_fault l.word a l
+unfoldable pub line_fault : Above → Option Line → ℕ
+line_fault a (Some (Line.Machine m)) = machine_fault a.stage m
+line_fault a (Some (Line.Cost c)) = cost_fault a.stage c
+line_fault a (Some (Line.Part p)) = part_fault a.stage p a.parts
+line_fault a (Some (Line.Fit n p)) = fit_fault a.stage n p a.parts a.tasks
+line_fault a None = 8
 
 -- ---- what stands after a good line
 
@@ -118,15 +116,12 @@ with_part a p = record { stage = among_parts; machine = a.machine; costs = a.cos
 abbrev pub with_task : Above → Task → Above
 with_task a t = record { stage = among_fits; machine = a.machine; costs = a.costs; parts = a.parts; tasks = a.tasks ++ (t ∷ []) }
 
-abbrev pub word_after : Word → Above → Line → Above
-word_after Word.Machine a l = with_machine a l.machine
-word_after Word.Cost a l = with_costs a l.costs
-word_after Word.Part a l = with_part a l.part
-word_after Word.Fit a l = with_task a (task_of l.task (part_named l.part.name a.parts))
-word_after Word.Other a l = a
-
-unfoldable pub after : Above → Line → Above
-after a l = word_after l.word a l
+unfoldable pub after : Above → Option Line → Above
+after a (Some (Line.Machine m)) = with_machine a m
+after a (Some (Line.Cost c)) = with_costs a c
+after a (Some (Line.Part p)) = with_part a p
+after a (Some (Line.Fit n p)) = with_task a (task_of n (part_named p a.parts))
+after a None = a
 
 -- ---- the lines from the top
 
@@ -154,7 +149,12 @@ sheet_most = 16384
 unfoldable pub outcome_of : List ℕ → Outcome
 outcome_of bytes = cond (leb (length bytes) sheet_most) (read_from top 1 (up_to newline bytes) (beyond newline bytes)) (refused 9 0)
 
--- ---- the struct: a refusal has the empty sheet
+-- ---- the answer as a record: 0, 0 and the sheet; or a refusal's number, its line, and the empty sheet. 9 carries 0
+
+pub record Read : Type 0 where
+  pub number : ℕ
+  pub carries : ℕ
+  pub sheet : Sheet
 
 abbrev pub sheet_of : Above → Sheet
 sheet_of a = record { machine = a.machine; costs = a.costs; tasks = tasks_of a.tasks }
@@ -165,3 +165,8 @@ shown (whole a) = record { number = 0; carries = 0; sheet = sheet_of a }
 
 unfoldable pub read_of : List ℕ → Read
 read_of bytes = shown (outcome_of bytes)
+
+-- the same of what is given back
+abbrev pub read_shown : Result Sheet Refused → Read
+read_shown (Ok s) = record { number = 0; carries = 0; sheet = s }
+read_shown (Err r) = shown (refused (number_of r.fault) r.carries)

@@ -1,160 +1,195 @@
 // What stands above a line, and what the line makes of it.
-ghost use Rattle.std.specs.Prelude.{not, ◌≡◌, [], leb, ltb, eqb};
-ghost use Rattle.demand.specs.Sizes.{sized};
-ghost use Rattle.task.specs.Tasks.{tasks_most, whole_piece, rule, tasks_of};
-ghost use Rattle.sheet.specs.Sheet.{Above, machine_fault, cost_fault, line_fault, after};
-ghost use Rattle.sheet.specs.Ways.ReaderHolds.{parts_of, head_of, Found};
+ghost use Rattle.std.specs.Prelude.{◌≡◌, ◌+◌, ◌<◌, [], length, min, take, slice_set, OnOk, MatchResult};
+ghost use Rattle.task.specs.Faults.{number_of, fault_number};
+ghost use Rattle.task.specs.Tasks.{tasks_most, task_of};
+ghost use Rattle.lines.specs.Forms.{line_of};
+ghost use Rattle.sheet.specs.Sheet.{Above, top, machine_fault, cost_fault, part_fault, fit_fault, line_fault, part_named, after};
+ghost use Rattle.sheet.specs.Ways.ReaderHolds.{stage_number, list_in, Carries};
 
-use crate::Head;
-use demand::Costs;
-use lines::{Line, Word, no_line};
-use task::{Machine, Parts, TASKS_MOST, Tasks, Times, no_task, whole_piece};
+use demand::{Costs, no_costs};
+use lines::{Line, line_of};
+use task::{
+    Fault, Machine, Name, Part, TASKS_MOST, Task, no_machine, no_name, no_task, no_times,
+    same_name, task_of, whole_piece,
+};
 
-// No task.
-pub fn no_tasks() -> Tasks
-    ensures { result ≡ tasks_of [] }
-{
-    let none = no_task();
-    Tasks {
-        count: 0,
-        list: [none; TASKS_MOST],
+// How far the lines above have come: it says which lines may stand next.
+#[derive(Clone, Copy, PartialEq, Eq, PartialOrd, Ord)]
+pub enum Stage {
+    AtTop,
+    BelowMachine,
+    AmongParts,
+    AmongFits,
+}
+
+// A list that grows within a fixed room: the first `count` of `list`.
+#[derive(Clone, Copy)]
+pub struct Listed<T> {
+    pub count: usize,
+    pub list: [T; TASKS_MOST],
+}
+
+impl<T: Copy> Listed<T> {
+    // The empty list, with `none` in each place.
+    pub fn empty(none: T) -> Listed<T>
+        ensures { result ≡ list_in none [] }
+    {
+        Listed {
+            count: 0,
+            list: [none; TASKS_MOST],
+        }
+    }
+
+    // What the list holds.
+    pub fn held(&self) -> &[T]
+        ensures items { result.now ≡ take self.now.count self.now.list }
+        ensures len { length result.now ≡ min self.now.count tasks_most }
+    {
+        &self.list[..self.count.min(TASKS_MOST)]
+    }
+
+    // One more.
+    pub fn push(&mut self, item: T)
+        requires { self.old.count < tasks_most }
+        ensures count { self.new.count ≡ self.old.count + 1 }
+        ensures list { self.new.list ≡ slice_set self.old.list self.old.count item }
+    {
+        self.list[self.count] = item;
+        self.count += 1;
     }
 }
 
-// No part.
-pub fn no_parts() -> Parts
-    ensures { result ≡ parts_of [] }
-{
-    let line = no_line();
-    let none = line.part;
-    Parts {
-        count: 0,
-        list: [none; TASKS_MOST],
+// What stands above a line.
+#[derive(Clone, Copy)]
+pub struct Draft {
+    pub stage: Stage,
+    pub machine: Machine,
+    pub costs: Costs,
+    pub parts: Listed<Part>,
+    pub tasks: Listed<Task>,
+}
+
+impl Draft {
+    // What stands above the first line: nothing.
+    pub fn top() -> Draft
+        ensures { Carries top result }
+    {
+        let no_part = Part {
+            name: no_name(),
+            times: no_times(),
+        };
+        Draft {
+            stage: Stage::AtTop,
+            machine: no_machine(),
+            costs: no_costs(),
+            parts: Listed::empty(no_part),
+            tasks: Listed::empty(no_task()),
+        }
+    }
+
+    // The next line is read: it is refused, or stands above the next.
+    #[tactic(auto, using(crate::proofs::StandLaws::line_cases), unfolding(crate::specs::Sheet::line_fault, crate::specs::Sheet::after))]
+    pub fn read(&mut self, line: &[u8]) -> Result<(), Fault>
+        ensures fault { (a : Above) → Carries a self.old → fault_number result ≡ line_fault a (line_of line.now) }
+        ensures after { (a : Above) → Carries a self.old → OnOk result (Carries (after a (line_of line.now)) self.new) }
+    {
+        match line_of(line) {
+            Some(Line::Machine(machine)) => {
+                machine_fault(self.stage, machine)?;
+                self.machine = machine;
+                self.stage = Stage::BelowMachine;
+            }
+            Some(Line::Cost(costs)) => {
+                cost_fault(self.stage, costs)?;
+                self.costs = costs;
+                self.stage = Stage::AmongParts;
+            }
+            Some(Line::Part(part)) => {
+                part_fault(self.stage, part, self.parts.held())?;
+                self.parts.push(part);
+            }
+            Some(Line::Fit { task, part }) => {
+                let task = fitted(self.stage, task, part, self.parts.held(), self.tasks.held())?;
+                self.tasks.push(task);
+                self.stage = Stage::AmongFits;
+            }
+            None => return Err(Fault::Form),
+        }
+        Ok(())
     }
 }
 
 // What is wrong with a `machine` line.
-pub fn machine_fault(stage: u64, machine: Machine) -> u64
-    ensures { result ≡ machine_fault stage machine }
+#[tactic(auto, unfolding(crate::specs::Sheet::machine_fault))]
+pub fn machine_fault(stage: Stage, machine: Machine) -> Result<(), Fault>
+    ensures { fault_number result ≡ machine_fault (stage_number stage) machine }
 {
-    if stage != 0 {
-        return 8;
+    if stage != Stage::AtTop {
+        return Err(Fault::Form);
     }
     if !task::machine_within(machine) {
-        return 1;
+        return Err(Fault::Machine);
     }
-    0
+    Ok(())
 }
 
 // What is wrong with a `cost` line.
-pub fn cost_fault(stage: u64, costs: Costs) -> u64
-    ensures { result ≡ cost_fault stage costs }
+#[tactic(auto, unfolding(crate::specs::Sheet::cost_fault))]
+pub fn cost_fault(stage: Stage, costs: Costs) -> Result<(), Fault>
+    ensures { fault_number result ≡ cost_fault (stage_number stage) costs }
 {
-    if stage != 1 {
-        return 8;
+    if stage != Stage::BelowMachine {
+        return Err(Fault::Form);
     }
     if !demand::costs_within(costs) {
-        return 2;
+        return Err(Fault::Costs);
     }
-    0
+    Ok(())
 }
 
-// What is wrong with a `part` line with these times, where its name has that place among so many parts.
-pub fn part_fault(stage: u64, times: Times, twin: usize, parts: usize) -> u64
-    ensures { result ≡ rule (eqb stage 2) 8 (rule (sized (whole_piece times)) 3 (rule (eqb twin 0) 4 (rule (ltb parts tasks_most) 6 0))) }
+// What is wrong with a `part` line below these parts.
+#[tactic(auto, unfolding(crate::specs::Sheet::part_fault))]
+pub fn part_fault(stage: Stage, part: Part, parts: &[Part]) -> Result<(), Fault>
+    ensures { fault_number result ≡ part_fault (stage_number stage) part parts.now }
 {
-    if stage != 2 {
-        return 8;
+    if stage != Stage::AmongParts {
+        return Err(Fault::Form);
     }
-    if !demand::within_sizes(whole_piece(times)) {
-        return 3;
+    if !demand::within_sizes(whole_piece(part.times)) {
+        return Err(Fault::Times);
     }
-    if twin != 0 {
-        return 4;
+    if parts.iter().any(|other| same_name(part.name, other.name)) {
+        return Err(Fault::Twin);
     }
-    if TASKS_MOST <= parts {
-        return 6;
+    if TASKS_MOST <= parts.len() {
+        return Err(Fault::TooMany);
     }
-    0
+    Ok(())
 }
 
-// What is wrong with a `fit` line, where its part has that place, and its task that place among so many tasks.
-pub fn fit_fault(stage: u64, source: usize, twin: usize, tasks: usize) -> u64
-    ensures { result ≡ rule (leb 2 stage) 8 (rule (eqb twin 0) 4 (rule (not (eqb source 0)) 5 (rule (ltb tasks tasks_most) 6 0))) }
+// The task of a `fit` line below these parts and tasks, or what is wrong with it.
+#[tactic(auto, unfolding(crate::specs::Sheet::fit_fault))]
+pub fn fitted(
+    stage: Stage,
+    task: Name,
+    part: Name,
+    parts: &[Part],
+    tasks: &[Task],
+) -> Result<Task, Fault>
+    ensures { MatchResult result (λ t. (0 ≡ fit_fault (stage_number stage) task part parts.now tasks.now) × (t ≡ task_of task (part_named part parts.now)))
+        (λ f. number_of f ≡ fit_fault (stage_number stage) task part parts.now tasks.now) }
 {
-    if stage < 2 {
-        return 8;
+    if stage < Stage::AmongParts {
+        return Err(Fault::Form);
     }
-    if twin != 0 {
-        return 4;
+    if tasks.iter().any(|other| same_name(task, other.name)) {
+        return Err(Fault::Twin);
     }
-    if source == 0 {
-        return 5;
+    let Some(source) = parts.iter().find(|other| same_name(part, other.name)) else {
+        return Err(Fault::Unknown);
+    };
+    if TASKS_MOST <= tasks.len() {
+        return Err(Fault::TooMany);
     }
-    if TASKS_MOST <= tasks {
-        return 6;
-    }
-    0
-}
-
-// What is wrong with a line, or 0: its part has the place `source` among so many parts, and its task the place `twin` among so many tasks.
-pub fn line_fault(
-    stage: u64,
-    line: Line,
-    source: usize,
-    parts: usize,
-    twin: usize,
-    tasks: usize,
-) -> u64
-    ensures { (a : Above) → a.stage ≡ stage → Found a line source parts twin tasks → result ≡ line_fault a line }
-{
-    let word = line.word;
-    let part = line.part;
-    match word {
-        Word::Machine => {
-            let machine = line.machine;
-            machine_fault(stage, machine)
-        }
-        Word::Cost => {
-            let costs = line.costs;
-            cost_fault(stage, costs)
-        }
-        Word::Part => {
-            let times = part.times;
-            part_fault(stage, times, source, parts)
-        }
-        Word::Fit => fit_fault(stage, source, twin, tasks),
-        Word::Other => 8,
-    }
-}
-
-// What stands after a good line, but for the parts and tasks.
-pub fn head_after(head: Head, line: Line) -> Head
-    ensures { (a : Above) → head ≡ head_of a → result ≡ head_of (after a line) }
-{
-    let word = line.word;
-    let mut next = head;
-    match word {
-        Word::Machine => {
-            let machine = line.machine;
-            next.stage = 1;
-            next.machine = machine;
-            next
-        }
-        Word::Cost => {
-            let costs = line.costs;
-            next.stage = 2;
-            next.costs = costs;
-            next
-        }
-        Word::Part => {
-            next.stage = 2;
-            next
-        }
-        Word::Fit => {
-            next.stage = 3;
-            next
-        }
-        Word::Other => head,
-    }
+    Ok(task_of(task, *source))
 }

@@ -20,7 +20,7 @@ use Rattle.task.specs.Tasks.{list_of, cores_most}
 use Rattle.walks.specs.Way.{fine}
 use Rattle.walks.specs.Halves.{Stand}
 use Rattle.plan.specs.declared.Plan.{Plan}
-use Rattle.plan.specs.declared.Reply.{Reply}
+use Rattle.plan.specs.Reply.{Reply}
 use Rattle.plan.specs.Walk.{walked}
 use Rattle.sheet.specs.declared.Sheet.{Sheet}
 use Rattle.sheet.specs.Sheet.{read_of}

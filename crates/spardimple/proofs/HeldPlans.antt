@@ -34,7 +34,7 @@ use Rattle.walks.specs.Halves.{Stand}
 use Rattle.walks.proofs.ListLaws.{each-only}
 use Rattle.plan.specs.declared.Plan.{Plan}
 use Rattle.plan.specs.declared.Layout.{Layout}
-use Rattle.plan.specs.declared.Reply.{Reply}
+use Rattle.plan.specs.Reply.{Reply}
 use Rattle.plan.specs.Walk.{place_way, packed, walked}
 use Rattle.plan.specs.Layout.{none, tasks_on}
 use Rattle.plan.specs.Plan.{no_plan, finished, unless_fault, plan_of}

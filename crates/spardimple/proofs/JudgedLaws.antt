@@ -4,6 +4,7 @@
 --   run-passes, run-overloaded, run-undecided, run-split     of a run of records, where its table is kept
 --   reply-judged          the reply is a verdict exactly where the form is whole and the answer for the records is that verdict
 --   verdict-passes, verdict-overloaded, verdict-undecided
+use Rattle.std.specs.Prelude.{Ok, Option, Result}
 use mathlib.Core.Path.{◌≡◌, refl, sym, ◌∙◌, subst}
 use mathlib.Core.Bool.{Bool, true, false}
 use mathlib.Core.Logic.{◌↔◌}
@@ -18,12 +19,8 @@ use Rattle.demand.specs.declared.Piece.{Piece}
 use Rattle.demand.specs.declared.Costs.{Costs}
 use Rattle.demand.specs.declared.Verdict.{Verdict}
 use Rattle.demand.specs.declared.Verdict.TheVariants.{Passes, Overloaded, Undecided}
-use Rattle.demand.specs.declared.Answer.{Answer}
-use Rattle.demand.specs.declared.Answer.TheVariants.{Judged}
 use Rattle.demand.specs.Charge.{core_of, stall}
 use Rattle.demand.specs.Verdict.{Means, Bounded, KeepsUp, verdict_of}
-use Rattle.demand.specs.declared.Split.{Split}
-use Rattle.demand.specs.declared.Splitting.TheVariants.{Best}
 use Rattle.demand.specs.Split.{Splits}
 use Rattle.demand.specs.Answer.{Taken, told, answer_of, split_of}
 use Rattle.demand.specs.Tables.{Kept}
@@ -36,6 +33,8 @@ use Rattle.spardimple.specs.Bytes.{pieces_of, costs_spelt}
 use Rattle.spardimple.specs.Numbers.{number, said, measured, reply_of, verdict_number}
 use Rattle.spardimple.specs.Refusals.{lent_table}
 use Rattle.spardimple.proofs.NumberLaws.{reply-true, reply-false, reply-formed, reply-carries, number-one, number-reply}
+use Rattle.demand.specs.declared.Refusal.{Refusal}
+use Rattle.demand.specs.declared.Cut.{Cut}
 
 -- ---- a run of records
 
@@ -50,27 +49,27 @@ by-table : (c : Costs) (n : ℕ) (ps : List Piece) {Q M : Type 0} → Q ↔ (Tak
 by-table c n ps h = ((λ q. (let k = h.0 q in (taken-kept c n ps k.0, k.1))), λ k. h.1 (kept-taken c n ps k.0, k.1))
 
 module _ (c : Costs) (n : ℕ) (ps : List Piece) where
-  pub run-passes : (answer_of c n ps ≡ Judged Passes)
+  pub run-passes : (answer_of c n ps ≡ Ok Passes)
       ↔ (Kept (record_table c n ps) × Bounded (core_of c (take n ps)) × KeepsUp (stall c) (core_of c (take n ps)))
   run-passes =
       let a = answer-passes c n ps in
       ((λ is. (let k = a.0 is in (taken-kept c n ps k.0, k.1, k.2))), λ k. a.1 (kept-taken c n ps k.0, k.1, k.2))
 
-  pub run-overloaded : (t : ℕ) → (answer_of c n ps ≡ Judged (Overloaded t))
+  pub run-overloaded : (t : ℕ) → (answer_of c n ps ≡ Ok (Overloaded t))
       ↔ (Kept (record_table c n ps) × Means (stall c) (core_of c (take n ps)) (Overloaded t))
   run-overloaded t = by-table c n ps (answer-overloaded c n ps t)
 
-  pub run-undecided : (answer_of c n ps ≡ Judged Undecided) ↔ (Kept (record_table c n ps) × Means (stall c) (core_of c (take n ps)) Undecided)
+  pub run-undecided : (answer_of c n ps ≡ Ok Undecided) ↔ (Kept (record_table c n ps) × Means (stall c) (core_of c (take n ps)) Undecided)
   run-undecided = by-table c n ps (answer-undecided c n ps)
 
-  pub run-split : (p : Piece) (g : ℕ) (s : Split)
-      → (split_of c n ps p g ≡ Best s) ↔ (Kept (record_table c (n + 1) (take n ps ++ (p ∷ []))) × Splits c g (take n ps) p s)
+  pub run-split : (p : Piece) (g : ℕ) (s : Option Cut)
+      → (split_of c n ps p g ≡ Ok s) ↔ (Kept (record_table c (n + 1) (take n ps ++ (p ∷ []))) × Splits c g (take n ps) p s)
   run-split p g s = by-table c (n + 1) (take n ps ++ (p ∷ [])) (split-best c n ps p g s)
 
 -- ---- lent bytes
 
 module _ (rs cs : List ℕ) where
-  abbrev answered : Answer
+  abbrev answered : Result Verdict Refusal
   answered = answer_of (costs_spelt cs) (length (pieces_of rs)) (pieces_of rs)
 
   -- the bytes are whole records and nine costs
@@ -81,27 +80,27 @@ module _ (rs cs : List ℕ) where
       let costs = eqb (length cs) 36 in
       (eqb-true (length rs % 28) 0 (both_left records costs e), eqb-true (length cs) 36 (both_right records costs e))
 
-  pub reply-judged : (v : Verdict) → (reply_of rs cs ≡ said (Judged v)) ↔ ((length rs % 28 ≡ 0) × (length cs ≡ 36) × (answered ≡ Judged v))
+  pub reply-judged : (v : Verdict) → (reply_of rs cs ≡ said (Ok v)) ↔ ((length rs % 28 ≡ 0) × (length cs ≡ 36) × (answered ≡ Ok v))
   reply-judged v = ((λ is. by is (measured rs cs) refl), λ h. reply-formed rs cs h.0 h.1 ∙ (rw h.2 refl))
     where
-      by : reply_of rs cs ≡ said (Judged v) → (b : Bool) → measured rs cs ≡ b → (length rs % 28 ≡ 0) × (length cs ≡ 36) × (answered ≡ Judged v)
-      by is true e = ((whole e).0, (whole e).1, (let h : said answered ≡ said (Judged v) = sym (reply-true rs cs e) ∙ is in cc))
+      by : reply_of rs cs ≡ said (Ok v) → (b : Bool) → measured rs cs ≡ b → (length rs % 28 ≡ 0) × (length cs ≡ 36) × (answered ≡ Ok v)
+      by is true e = ((whole e).0, (whole e).1, (let h : said answered ≡ said (Ok v) = sym (reply-true rs cs e) ∙ is in cc))
       by is false e = let h = sym (reply-false rs cs e) ∙ is in let z : ◌≡◌ {A = ℕ} 0 1 = cc in absurd (omega arith)
 
   -- a verdict by the number that is given back
-  number-judged : (v : Verdict) → (told (Judged v)).carries < 2 ^ 32 → (verdict_number rs cs ≡ number (told (Judged v)))
-      ↔ ((length rs % 28 ≡ 0) × (length cs ≡ 36) × (answered ≡ Judged v))
+  number-judged : (v : Verdict) → (told (Ok v)).carries < 2 ^ 32 → (verdict_number rs cs ≡ number (told (Ok v)))
+      ↔ ((length rs % 28 ≡ 0) × (length cs ≡ 36) × (answered ≡ Ok v))
   unfolding verdict_number
   number-judged v small = (
-    (λ is. (reply-judged v).0 (number-one (reply_of rs cs) (said (Judged v)) (reply-carries rs cs) small is)),
-    λ h. number-reply rs cs (said (Judged v)) ((reply-judged v).1 h),
+    (λ is. (reply-judged v).0 (number-one (reply_of rs cs) (said (Ok v)) (reply-carries rs cs) small is)),
+    λ h. number-reply rs cs (said (Ok v)) ((reply-judged v).1 h),
   )
 
   -- over all records that the bytes spell
-  meant : (v : Verdict) (M : List Piece → Type 0) → (told (Judged v)).carries < 2 ^ 32
-      → ((answered ≡ Judged v)
+  meant : (v : Verdict) (M : List Piece → Type 0) → (told (Ok v)).carries < 2 ^ 32
+      → ((answered ≡ Ok v)
       ↔ (Kept (record_table (costs_spelt cs) (length (pieces_of rs)) (pieces_of rs)) × M (take (length (pieces_of rs)) (pieces_of rs))))
-      → (verdict_number rs cs ≡ number (told (Judged v))) ↔ (Kept (lent_table rs cs) × M (pieces_of rs))
+      → (verdict_number rs cs ≡ number (told (Ok v))) ↔ (Kept (lent_table rs cs) × M (pieces_of rs))
   unfolding lent_table
   meant v M small means = (
     (λ is. (let h = (number-judged v small).0 is in let k = means.0 h.2 in

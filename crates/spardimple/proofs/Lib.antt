@@ -4,6 +4,7 @@ pub mod ByteLaws
 pub mod NumberLaws
 pub mod SheetLaws
 pub mod WhySteps
+pub mod LentLaws
 pub mod PaperLaws
 pub mod JudgedLaws
 pub mod HeldPlans
@@ -11,7 +12,7 @@ pub mod Agreement
 pub mod RefusalLaws
 pub mod WhyLaws
 pub mod DiffLaws
-pub mod DiffSteps
+pub mod StepLaws
 pub mod WhyHeld
 pub mod DiffHeld
 pub mod Promises

@@ -9,6 +9,7 @@
 --   reply-true, reply-false       by the test of their form
 --   reply-records, reply-costs, reply-formed      8 first, then what is said of the records
 --   reply-carries         every reply to lent bytes carries less than 2^32
+use Rattle.std.specs.Prelude.{Err, Ok, Result}
 use mathlib.Core.Path.{◌≡◌, refl, sym, ap, ◌∙◌}
 use mathlib.Core.Bool.{Bool, true, false, cond}
 use mathlib.Core.List.{List}
@@ -19,36 +20,36 @@ use lib.Dec.{eqb}
 use lib.ListN.{length}
 use Rattle.demand.specs.declared.Verdict.TheVariants.{Passes, Overloaded, Undecided}
 use Rattle.demand.specs.declared.Refusal.TheVariants.{TooMany, BadCosts, BadRecord}
-use Rattle.demand.specs.declared.Answer.{Answer}
-use Rattle.demand.specs.declared.Answer.TheVariants.{Judged, Refused}
 use Rattle.demand.specs.Answer.{Told, told, answer_of}
 use Rattle.demand.proofs.AnswerLaws.{answer-carries}
 use Rattle.spardimple.specs.Bytes.{pieces_of, costs_spelt}
 use Rattle.spardimple.specs.Numbers.{number, Reply, told_reply, measured, reply_of, verdict_number, malformed, said}
+use Rattle.demand.specs.declared.Refusal.{Refusal}
+use Rattle.demand.specs.declared.Verdict.{Verdict}
 
 -- ---- no two answers share a number
 
 abbrev back_from : ℕ → ℕ → Reply
 back_from which carries =
     cond (eqb which 108) malformed
-    (cond (eqb which 0) (said (Judged Passes))
-    (cond (eqb which 1) (said (Judged (Overloaded carries)))
-    (cond (eqb which 2) (said (Judged Undecided))
-    (cond (eqb which 106) (said (Refused TooMany))
-    (cond (eqb which 102) (said (Refused BadCosts))
-    (said (Refused (BadRecord carries))))))))
+    (cond (eqb which 0) (said (Ok Passes))
+    (cond (eqb which 1) (said (Ok (Overloaded carries)))
+    (cond (eqb which 2) (said (Ok Undecided))
+    (cond (eqb which 106) (said (Err TooMany))
+    (cond (eqb which 102) (said (Err BadCosts))
+    (said (Err (BadRecord carries))))))))
 
 unfoldable pub back : ℕ → Reply
 back n = back_from (n / 2 ^ 32) (n % 2 ^ 32)
 
 told_back : (r : Reply) → back_from (told_reply r).which (told_reply r).carries ≡ r
 told_back malformed = refl
-told_back (said (Judged Passes)) = refl
-told_back (said (Judged (Overloaded t))) = refl
-told_back (said (Judged Undecided)) = refl
-told_back (said (Refused TooMany)) = refl
-told_back (said (Refused BadCosts)) = refl
-told_back (said (Refused (BadRecord k))) = refl
+told_back (said (Ok Passes)) = refl
+told_back (said (Ok (Overloaded t))) = refl
+told_back (said (Ok Undecided)) = refl
+told_back (said (Err TooMany)) = refl
+told_back (said (Err BadCosts)) = refl
+told_back (said (Err (BadRecord k))) = refl
 
 number-which : (t : Told) → t.carries < 2 ^ 32 → number t / 2 ^ 32 ≡ t.which
 unfolding number
@@ -75,7 +76,7 @@ number-back r fits = (λ i. back_from (number-which (told_reply r) fits i) (numb
 pub number-one : (r s : Reply) → (told_reply r).carries < 2 ^ 32 → (told_reply s).carries < 2 ^ 32 → number (told_reply r) ≡ number (told_reply s) → r ≡ s
 number-one r s small less e = sym (number-back r small) ∙ (ap back e ∙ number-back s less)
 
-pub answer-one : (a b : Answer) → (told a).carries < 2 ^ 32 → (told b).carries < 2 ^ 32 → number (told a) ≡ number (told b) → a ≡ b
+pub answer-one : (a b : Result Verdict Refusal) → (told a).carries < 2 ^ 32 → (told b).carries < 2 ^ 32 → number (told a) ≡ number (told b) → a ≡ b
 answer-one a b small less e = let same : said a ≡ said b = number-one (said a) (said b) small less e in cc
 
 -- ---- the refusals in their order

@@ -34,7 +34,7 @@ use Rattle.task.specs.Names.{name_most}
 use Rattle.task.specs.Tasks.{tasks_most, list_of, sized_machine, rule, first_fault, state_fault}
 use Rattle.walks.specs.Way.{Placed, Ending, fine, stuck}
 use Rattle.walks.specs.Halves.{Stand}
-use Rattle.plan.specs.declared.Reply.{Reply}
+use Rattle.plan.specs.Reply.{Reply}
 use Rattle.plan.specs.Walk.{walked}
 use Rattle.plan.specs.Plan.{finished, refused as refused_plan}
 use Rattle.plan.specs.Refusals.{walk_table}

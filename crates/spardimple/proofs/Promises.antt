@@ -107,6 +107,7 @@
 --   same_placed        placed-equal
 --
 -- Assumes nothing.
+use Rattle.std.specs.Prelude.{Err, Ok, Option}
 use mathlib.Core.Path.{◌≡◌, refl, ap, ◌∙◌, subst}
 use mathlib.Core.Bool.{true, cond}
 use mathlib.Core.Logic.{◌↔◌, ◌⊎◌}
@@ -119,12 +120,9 @@ use lib.Seq.{take-length}
 use Rattle.demand.specs.declared.Piece.{Piece}
 use Rattle.demand.specs.declared.Costs.{Costs}
 use Rattle.demand.specs.declared.Refusal.{Refusal}
-use Rattle.demand.specs.declared.Split.{Split}
-use Rattle.demand.specs.declared.Splitting.TheVariants.{Best, Denied}
 use Rattle.demand.specs.declared.Verdict.{Verdict}
 use Rattle.demand.specs.declared.Verdict.TheVariants.{Passes, Overloaded, Undecided}
-use Rattle.demand.specs.declared.Answer.TheVariants.{Judged as JudgedAs, Refused}
-use Rattle.demand.specs.Sizes.{SizedCosts, sized_costs, Each, Some, cost_most, time_most, busy_most, length_most}
+use Rattle.demand.specs.Sizes.{SizedCosts, sized_costs, Each, SomeOf, cost_most, time_most, busy_most, length_most}
 use Rattle.demand.specs.Kinds.{arrives}
 use Rattle.demand.specs.Charge.{core_of, stall}
 use Rattle.demand.specs.Demand.{total, demand, Live}
@@ -202,6 +200,7 @@ use Rattle.spardimple.proofs.DiffHeld.{held-diff}
 use Rattle.spardimple.proofs.JudgedLaws.{run-passes, run-overloaded, run-undecided, run-split, verdict-passes, verdict-overloaded, verdict-undecided}
 use Rattle.spardimple.proofs.HeldPlans.{plan-none as nothing-planned, plan-counted as counts-planned, plan-listed as listed-planned}
 use Rattle.spardimple.proofs.HeldPlans.{walk-order as in-packing-order, cores-bounded, held-ones as ones-held, plan-made as made_held, edit-yields as yields-held}
+use Rattle.demand.specs.declared.Cut.{Cut}
 
 -- ---- demand 1: each input answered
 
@@ -219,11 +218,11 @@ listing-comes = some-listing
 pub verdict-refused : (rs cs : List ℕ) (n k : ℕ) → k < 2 ^ 32 → (verdict_number rs cs ≡ 2 ^ 32 * (100 + n) + k) ↔ Gives (lent_table rs cs) n k
 verdict-refused = told-verdict
 
-pub records-refused : (c : Costs) (n : ℕ) (ps : List Piece) (r : Refusal) → (answer_of c n ps ≡ Refused r) ↔ Refuses (record_table c n ps) r
+pub records-refused : (c : Costs) (n : ℕ) (ps : List Piece) (r : Refusal) → (answer_of c n ps ≡ Err r) ↔ Refuses (record_table c n ps) r
 records-refused = answer-refused
 
 pub split-refused : (c : Costs) (n : ℕ) (ps : List Piece) (p : Piece) (g : ℕ) (r : Refusal)
-    → (split_of c n ps p g ≡ Denied r) ↔ Refuses (record_table c (n + 1) (take n ps ++ (p ∷ []))) r
+    → (split_of c n ps p g ≡ Err r) ↔ Refuses (record_table c (n + 1) (take n ps ++ (p ∷ []))) r
 split-refused = split-denied
 
 pub listing-refused : (sheet : List ℕ) (room n k : ℕ) → k < 2 ^ 32 → (listing_number sheet room ≡ 2 ^ 32 * (100 + n) + k) ↔ Gives (sheet_table sheet room) n k
@@ -263,16 +262,16 @@ refused-state e s = gives_back e s
 
 -- on the first n of the records ps, at the costs c, for every asker
 module _ (c : Costs) (n : ℕ) (ps : List Piece) where
-  pub passes : (answer_of c n ps ≡ JudgedAs Passes) ↔ (Kept (record_table c n ps) × Bounded (core_of c (take n ps)) × KeepsUp (stall c) (core_of c (take n ps)))
+  pub passes : (answer_of c n ps ≡ Ok Passes) ↔ (Kept (record_table c n ps) × Bounded (core_of c (take n ps)) × KeepsUp (stall c) (core_of c (take n ps)))
   passes = run-passes c n ps
 
-  pub overloaded : (t : ℕ) → (answer_of c n ps ≡ JudgedAs (Overloaded t)) ↔ (Kept (record_table c n ps) × Means (stall c) (core_of c (take n ps)) (Overloaded t))
+  pub overloaded : (t : ℕ) → (answer_of c n ps ≡ Ok (Overloaded t)) ↔ (Kept (record_table c n ps) × Means (stall c) (core_of c (take n ps)) (Overloaded t))
   overloaded = run-overloaded c n ps
 
-  pub undecided : (answer_of c n ps ≡ JudgedAs Undecided) ↔ (Kept (record_table c n ps) × Means (stall c) (core_of c (take n ps)) Undecided)
+  pub undecided : (answer_of c n ps ≡ Ok Undecided) ↔ (Kept (record_table c n ps) × Means (stall c) (core_of c (take n ps)) Undecided)
   undecided = run-undecided c n ps
 
-  pub split : (p : Piece) (g : ℕ) (s : Split) → (split_of c n ps p g ≡ Best s) ↔ (Kept (record_table c (n + 1) (take n ps ++ (p ∷ []))) × Splits c g (take n ps) p s)
+  pub split : (p : Piece) (g : ℕ) (s : Option Cut) → (split_of c n ps p g ≡ Ok s) ↔ (Kept (record_table c (n + 1) (take n ps ++ (p ∷ []))) × Splits c g (take n ps) p s)
   split p g s = run-split c n ps p g s
 
 -- and on lent bytes, by the number that is given back
@@ -411,7 +410,7 @@ pub overloaded-shows : (c : Costs) (ps : List Piece) (t : ℕ) → Means (stall 
     → Live (core_of c ps) t × (t < demand (stall c) (core_of c ps) t)
 overloaded-shows c ps t means = overloaded-live c ps t ((verdict-exact c ps (Overloaded t)).1 means)
 
-pub split-means : (c : Costs) (g : ℕ) (ps : List Piece) (p : Piece) (s : Split) → (greatest_split c g ps p ≡ s) ↔ Splits c g ps p s
+pub split-means : (c : Costs) (g : ℕ) (ps : List Piece) (p : Piece) (s : Option Cut) → (greatest_split c g ps p ≡ s) ↔ Splits c g ps p s
 split-means = split-exact
 
 pub sheet-sane : (sheet : List ℕ) → Kept (read_table sheet)
@@ -525,7 +524,7 @@ module _ (l k : List (Placed (List ℕ))) where
   pub moved-in-order : Chain (λ m n. comes_before m n ≡ true) (moved_names l k)
   moved-in-order = names-chain l k
 
-  pub moved-exactly : (n : List ℕ) → Some (λ m. m ≡ n) (moved_names l k) ↔ Not (Alike n l k)
+  pub moved-exactly : (n : List ℕ) → SomeOf (λ m. m ≡ n) (moved_names l k) ↔ Not (Alike n l k)
   moved-exactly = unlike-means l k
 
   pub diff-nothing : (t u : ℕ) → (diff_text t u l k ≡ diff_head t u) ↔ ((n : List ℕ) → Alike n l k)

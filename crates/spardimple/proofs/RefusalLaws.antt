@@ -10,6 +10,7 @@
 --   sheet-walks, sheet-sane                the walk over what a sheet says ends well, and it breaks no rule of a state
 --   told-apart                             sheets with one listing place the same names alike
 --   edit-refused-exactly, edit-accepted    an edit of any state
+use Rattle.std.specs.Prelude.{Err, Ok, Result}
 use mathlib.Core.Path.{◌≡◌, refl, sym, ap, subst, ◌∙◌}
 use mathlib.Core.Bool.{Bool, true, false, cond}
 use mathlib.Core.Logic.{◌⊎◌, inl, inr, ◌↔◌}
@@ -21,8 +22,6 @@ use lib.Dec.{leb, eqb}
 use lib.ListN.{length, take, drop}
 use lib.Seq.{take-length}
 use Rattle.demand.specs.declared.Piece.{Piece}
-use Rattle.demand.specs.declared.Answer.{Answer}
-use Rattle.demand.specs.declared.Answer.TheVariants.{Judged, Refused}
 use Rattle.demand.specs.declared.Verdict.TheVariants.{Passes, Overloaded, Undecided}
 use Rattle.demand.specs.declared.Refusal.TheVariants.{TooMany, BadCosts, BadRecord}
 use Rattle.demand.specs.Verdict.{verdict_of}
@@ -52,6 +51,8 @@ use Rattle.spardimple.specs.Refusals.{lent_table, sheet_table}
 use Rattle.spardimple.proofs.NumberLaws.{told-one, reply-records, reply-costs, reply-formed, reply-carries}
 use Rattle.spardimple.proofs.PaperLaws.{walk_in, walks_in, said-sane, paper-cases, told-cases, paper-carries}
 use Rattle.spardimple.proofs.PaperLaws.{paper-seven, text-one, buffer-refused, buffer-written}
+use Rattle.demand.specs.declared.Refusal.{Refusal}
+use Rattle.demand.specs.declared.Verdict.{Verdict}
 
 -- ---- what is told, by a table
 
@@ -97,15 +98,15 @@ reply-forms : (r : Reply) → (told_reply r).carries < 2 ^ 32 → (n : ℕ) × (
     ⊎ (number (told_reply r) ≡ 2 ^ 32 * 2 + 0) ⊎ (number (told_reply r) ≡ 2 ^ 32 * (100 + n) + k))
 unfolding number
 reply-forms malformed fits = (8, 0, fits, inr (inr (inr refl)))
-reply-forms (said (Judged Passes)) fits = (0, 0, fits, inl refl)
-reply-forms (said (Judged (Overloaded t))) fits = (0, t, fits, inr (inl refl))
-reply-forms (said (Judged Undecided)) fits = (0, 0, fits, inr (inr (inl refl)))
-reply-forms (said (Refused TooMany)) fits = (6, 0, fits, inr (inr (inr refl)))
-reply-forms (said (Refused BadCosts)) fits = (2, 0, fits, inr (inr (inr refl)))
-reply-forms (said (Refused (BadRecord k))) fits = (3, k, fits, inr (inr (inr refl)))
+reply-forms (said (Ok Passes)) fits = (0, 0, fits, inl refl)
+reply-forms (said (Ok (Overloaded t))) fits = (0, t, fits, inr (inl refl))
+reply-forms (said (Ok Undecided)) fits = (0, 0, fits, inr (inr (inl refl)))
+reply-forms (said (Err TooMany)) fits = (6, 0, fits, inr (inr (inr refl)))
+reply-forms (said (Err BadCosts)) fits = (2, 0, fits, inr (inr (inr refl)))
+reply-forms (said (Err (BadRecord k))) fits = (3, k, fits, inr (inr (inr refl)))
 
 module _ (rs cs : List ℕ) where
-  abbrev answered : Answer
+  abbrev answered : Result Verdict Refusal
   answered = answer_of (costs_spelt cs) (length (pieces_of rs)) (pieces_of rs)
 
   pub odd-records : Not (length rs % 28 ≡ 0) → Comes (lent_table rs cs) 8 0
@@ -165,7 +166,7 @@ module _ (rs cs : List ℕ) where
   verdict-comes = reply-forms (reply_of rs cs) (reply-carries rs cs)
 
   abbrev judged : Reply
-  judged = said (Judged (verdict_of (costs_spelt cs) (pieces_of rs)))
+  judged = said (Ok (verdict_of (costs_spelt cs) (pieces_of rs)))
 
   pub verdict-judged : (reply_of rs cs ≡ judged) ↔ Kept (lent_table rs cs)
   verdict-judged = lent-cases (λ r. (r ≡ judged) ↔ Kept (lent_table rs cs)) unformed by
@@ -179,8 +180,8 @@ module _ (rs cs : List ℕ) where
       by : length rs % 28 ≡ 0 → length cs ≡ 36 → (said answered ≡ judged) ↔ Kept (lent_table rs cs)
       by records costs =
           let all : take (length (pieces_of rs)) (pieces_of rs) ≡ pieces_of rs = take-length (pieces_of rs) in
-          let kept : (answered ≡ Judged (verdict_of (costs_spelt cs) (pieces_of rs))) ↔ Kept (spelt records costs) =
-          subst (λ (ps : List Piece). (answered ≡ Judged (verdict_of (costs_spelt cs) ps)) ↔ Kept (spelt records costs)) all
+          let kept : (answered ≡ Ok (verdict_of (costs_spelt cs) (pieces_of rs))) ↔ Kept (spelt records costs) =
+          subst (λ (ps : List Piece). (answered ≡ Ok (verdict_of (costs_spelt cs) ps)) ↔ Kept (spelt records costs)) all
           (record-judged (costs_spelt cs) (length (pieces_of rs)) (pieces_of rs)) in (
             (λ e. (lent-kept records costs).0 (kept.0 (let h : said answered ≡ judged = e in cc))),
             (λ so. ap said (kept.1 ((lent-kept records costs).1 so))),

@@ -6,47 +6,42 @@
 --   paper-written        any other, to its plan's listing
 --   plan-small, reply-small          how great the numbers of the plan's refusal are
 --   told-long, told-short                     what is told of a listing, where the buffer is long enough and where not
---   given-refused, given-long, given-short    the number that is given back
---   left-refused, left-written                what the buffer then holds
---   over-length          which keeps its length
+--   over-length          a buffer that is written keeps its length
 use mathlib.Core.Path.{◌≡◌, refl, sym, ap, subst, ◌∙◌}
 use mathlib.Core.Logic.{◌⊎◌, inl, inr}
 use mathlib.Core.Bool.{Bool, true, false, cond}
 use mathlib.Core.List.{List, ◌++◌}
-use Prim.Native.Nat.{ℕ, zero, suc, ◌+◌, ◌*◌, ◌^◌, ◌≤◌, ◌<◌}
+use Prim.Native.Nat.{ℕ, zero, suc, ◌≤◌, ◌<◌}
 use native.Mathlib.Omega.{arith}
 use borrow.Author.Tests.{le-leb, lt-leb, leb-true}
 use lib.Dec.{leb}
 use lib.ListN.{length, take, drop, length-take, length-drop, length-append}
 use Rattle.demand.specs.declared.Costs.{Costs}
-use Rattle.demand.specs.Answer.{Told}
 use Rattle.task.specs.declared.Task.{Task}
 use Rattle.task.specs.declared.Machine.{Machine}
 use Rattle.task.specs.Tasks.{state_fault}
 use Rattle.task.proofs.TaskLaws.{state-sane}
-use Rattle.plan.specs.declared.Reply.{Reply}
+use Rattle.plan.specs.Reply.{Reply}
 use Rattle.walks.specs.Way.{Placed, fine, stuck}
 use Rattle.walks.specs.Halves.{Stand}
 use Rattle.plan.specs.Walk.{walked}
 use Rattle.plan.specs.Plan.{finished, plan_of, refused as refused_plan}
 use Rattle.plan.proofs.Theorems.{plan-or-stuck, no-room-place}
-use Rattle.sheet.specs.declared.Read.{Read}
+use Rattle.sheet.specs.Sheet.{Read}
 use Rattle.sheet.specs.Sheet.{read_of}
 use Rattle.sheet.proofs.RuleLaws.{breaks-no-rule}
 use Rattle.listing.specs.Text.{over}
 use Rattle.listing.specs.Listing.{listing_of}
-use Rattle.spardimple.specs.Numbers.{number}
 use Rattle.listing.specs.Papers.{Paper, refused, written}
 use Rattle.spardimple.specs.Sheets.{unless, plan_sheet, listed, planned, paper_of}
-use Rattle.listing.specs.Papers.{left}
-use Rattle.spardimple.specs.Sheets.{refusal, told_paper, listing_number, listing_left}
+use Rattle.spardimple.specs.Sheets.{refusal, told_paper}
 
-unless-some : (n k : ℕ) (rest : Paper) → (n ≡ 0 → ⊥) → unless n k rest ≡ refused n k
+pub unless-some : (n k : ℕ) (rest : Paper) → (n ≡ 0 → ⊥) → unless n k rest ≡ refused n k
 unless-some zero k rest some = absurd (some refl)
 unless-some (suc n) k rest some = refl
 
 -- the plan of a state that breaks no rule comes, or the walk sticks at one of its tasks
-plan-small : (m : Machine) (c : Costs) (n : ℕ) (ts : List Task) → state_fault m c n ts ≡ 0 → ((plan_of m c n ts).number ≤ 7) × ((plan_of m c n ts).carries ≤ 64)
+pub plan-small : (m : Machine) (c : Costs) (n : ℕ) (ts : List Task) → state_fault m c n ts ≡ 0 → ((plan_of m c n ts).number ≤ 7) × ((plan_of m c n ts).carries ≤ 64)
 plan-small m c n ts good = by (plan-or-stuck m c n ts good)
   where
     by : ((s : Stand) × (l : List (Placed ℕ)) × (walked m c (take n ts) ≡ fine s l) × (plan_of m c n ts ≡ finished m c (take n ts) (fine s l)))
@@ -85,32 +80,6 @@ told-long text room fits = ap (λ (b : Bool). cond b (record { which = 0; carrie
 pub told-short : (text : List ℕ) (room : ℕ) → room < length text → told_paper (written text) room ≡ refusal 10 (length text)
 told-short text room short =
     ap (λ (b : Bool). cond b (record { which = 0; carries = length text }) (refusal 10 (length text))) (lt-leb (length text) room short)
-
-module _ (sheet : List ℕ) (n k : ℕ) (is : paper_of sheet ≡ refused n k) where
-  pub given-refused : (room : ℕ) → 2 ^ 32 * (100 + n) + k ≡ listing_number sheet room
-  unfolding listing_number number
-  given-refused room = ap (λ (p : Paper). number (told_paper p room)) (sym is)
-
-  pub left-refused : (old : List ℕ) → old ≡ listing_left sheet old
-  unfolding listing_left
-  left-refused old = ap (λ (p : Paper). left p old) (sym is)
-
-module _ (sheet text : List ℕ) (is : paper_of sheet ≡ written text) where
-  told : (room : ℕ) (t : Told) → told_paper (written text) room ≡ t → number t ≡ listing_number sheet room
-  unfolding listing_number
-  told room t so = ap number (sym so) ∙ ap (λ (p : Paper). number (told_paper p room)) (sym is)
-
-  pub given-long : (room : ℕ) → length text ≤ room → 2 ^ 32 * 0 + length text ≡ listing_number sheet room
-  unfolding number
-  given-long room fits = told room (record { which = 0; carries = length text }) (told-long text room fits)
-
-  pub given-short : (room : ℕ) → room < length text → 2 ^ 32 * 110 + length text ≡ listing_number sheet room
-  unfolding number
-  given-short room short = told room (refusal 10 (length text)) (told-short text room short)
-
-  pub left-written : (old : List ℕ) → over text old ≡ listing_left sheet old
-  unfolding listing_left
-  left-written old = ap (λ (p : Paper). left p old) (sym is)
 
 -- the buffer keeps its length
 pub over-length : (text old : List ℕ) → length (over text old) ≡ length old

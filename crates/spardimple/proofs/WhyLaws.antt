@@ -6,6 +6,7 @@
 --   records-settled, core-settled       lent records; a sheet and a core
 --   why-records-answered, -left, why-core-answered, -left       so their answers come by their tables
 --   demand-told, demand-untold          g(t) of lent records, where they are judged, and 0 elsewhere
+use Rattle.std.specs.Prelude.{Err, None, Ok, Result, Some, ⊤}
 use mathlib.Core.Path.{◌≡◌, refl, sym, ap, subst, ◌∙◌}
 use mathlib.Core.Bool.{Bool, true, false, cond}
 use mathlib.Core.Logic.{◌⊎◌, inl, inr}
@@ -19,12 +20,7 @@ use lib.ListN.{length, take, length-map, length-append}
 use lib.Seq.{take-length}
 use Rattle.demand.specs.declared.Piece.{Piece}
 use Rattle.demand.specs.declared.Costs.{Costs}
-use Rattle.demand.specs.declared.Check.{Check}
-use Rattle.demand.specs.declared.Check.TheVariants.{Fine, Bad}
-use Rattle.demand.specs.declared.Found.TheVariants.{At, Nothing}
 use Rattle.demand.specs.declared.Refusal.TheVariants.{TooMany, BadCosts, BadRecord}
-use Rattle.demand.specs.declared.Answer.{Answer}
-use Rattle.demand.specs.declared.Answer.TheVariants.{Refused}
 use Rattle.demand.specs.Answer.{check_run, demand_figure, figured, Told, told}
 use Rattle.demand.specs.Charge.{core_of, stall}
 use Rattle.demand.specs.Demand.{demand}
@@ -65,6 +61,8 @@ use Rattle.spardimple.proofs.SheetLaws.{told-long, told-short}
 use Rattle.spardimple.proofs.PaperLaws.{said-sane, machine-said, costs-said, tasks-said, good, walk_read, said-walk, names-short, told-cases}
 use Rattle.spardimple.proofs.RefusalLaws.{Answers, refusal-answers, accepted-answers, number-refuses, odd-records as odd-records-come, odd-costs as odd-costs-come}
 use Rattle.spardimple.proofs.WhySteps.{odd-records, odd-costs, formed-records, unread-core, read-core, demand-odd-records, demand-odd-costs, demand-formed}
+use Rattle.demand.specs.declared.Refusal.{Refusal}
+use Rattle.demand.specs.declared.Verdict.{Verdict}
 
 -- ---- a paper by its rules, and then by 10
 
@@ -203,23 +201,23 @@ module _ (rs cs : List ℕ) where
     formed-settled : Settled (lent_table rs cs) (why_records rs cs) (why_records_text rs cs)
     formed-settled = by (check_run c (length ps) ps) refl
       where
-        comes : (k : Check) → check_run c (length ps) ps ≡ k → Comes (lent_table rs cs) (bad_number k) (bad_carries k)
-        comes k e = subst (λ (x : Check). Comes (lent_table rs cs) (bad_number x) (bad_carries x)) e (lent-comes (check-comes c (length ps) ps))
+        comes : (k : Result ⊤ Refusal) → check_run c (length ps) ps ≡ k → Comes (lent_table rs cs) (bad_number k) (bad_carries k)
+        comes k e = subst (λ (x : Result ⊤ Refusal). Comes (lent_table rs cs) (bad_number x) (bad_carries x)) e (lent-comes (check-comes c (length ps) ps))
 
-        paper : (k : Check) → check_run c (length ps) ps ≡ k → why_records rs cs ≡ unless_bad k (written (why_records_text rs cs))
-        paper k e = formed ∙ ap (λ (x : Check). unless_bad x (written (why_records_text rs cs))) e
+        paper : (k : Result ⊤ Refusal) → check_run c (length ps) ps ≡ k → why_records rs cs ≡ unless_bad k (written (why_records_text rs cs))
+        paper k e = formed ∙ ap (λ (x : Result ⊤ Refusal). unless_bad x (written (why_records_text rs cs))) e
 
-        by : (k : Check) → check_run c (length ps) ps ≡ k → Settled (lent_table rs cs) (why_records rs cs) (why_records_text rs cs)
-        by Fine e = settled-good ((comes-kept (comes Fine e)).0 refl) (small (check-taken c (length ps) ps e).few) (paper Fine e)
+        by : (k : Result ⊤ Refusal) → check_run c (length ps) ps ≡ k → Settled (lent_table rs cs) (why_records rs cs) (why_records_text rs cs)
+        by (Ok tt) e = settled-good ((comes-kept (comes (Ok tt) e)).0 refl) (small (check-taken c (length ps) ps e).few) (paper (Ok tt) e)
           where
             small : length ps ≤ run_most → length (why_records_text rs cs) < 2 ^ 32
             small few = unfold why_records_text in omega (arith, why-few c (by_place 1 ps) (omega (arith, places-long 1 ps)) (places-short 1 ps))
-        by (Bad TooMany) e = settled-bad 6 0 (λ z. omega arith) (omega arith) (comes (Bad TooMany) e) (paper (Bad TooMany) e)
-        by (Bad BadCosts) e = settled-bad 2 0 (λ z. omega arith) (omega arith) (comes (Bad BadCosts) e) (paper (Bad BadCosts) e)
-        by (Bad (BadRecord j)) e =
-            let low : (told (Refused (BadRecord j))).carries ≤ length_most =
-            subst (λ (x : Answer). (told x).carries ≤ length_most) (answer-bad c (length ps) ps (BadRecord j) e) (answer-carries c (length ps) ps) in
-            settled-bad 3 j (λ z. omega arith) (omega (arith, low)) (comes (Bad (BadRecord j)) e) (paper (Bad (BadRecord j)) e)
+        by (Err TooMany) e = settled-bad 6 0 (λ z. omega arith) (omega arith) (comes (Err TooMany) e) (paper (Err TooMany) e)
+        by (Err BadCosts) e = settled-bad 2 0 (λ z. omega arith) (omega arith) (comes (Err BadCosts) e) (paper (Err BadCosts) e)
+        by (Err (BadRecord j)) e =
+            let low : (told (Err (BadRecord j))).carries ≤ length_most =
+            subst (λ (x : Result Verdict Refusal). (told x).carries ≤ length_most) (answer-bad c (length ps) ps (BadRecord j) e) (answer-carries c (length ps) ps) in
+            settled-bad 3 j (λ z. omega arith) (omega (arith, low)) (comes (Err (BadRecord j)) e) (paper (Err (BadRecord j)) e)
 
   -- what a table that is kept says of the bytes
   lent-lengths : Kept (lent_table rs cs) → (length rs % 28 ≡ 0) × (length cs ≡ 36)
@@ -229,19 +227,19 @@ module _ (rs cs : List ℕ) where
     either (length cs) 36 kept.1.0,
   )
 
-  lent-kept : length rs % 28 ≡ 0 → length cs ≡ 36 → check_run c (length ps) ps ≡ Fine → Kept (lent_table rs cs)
+  lent-kept : length rs % 28 ≡ 0 → length cs ≡ 36 → check_run c (length ps) ps ≡ Ok tt → Kept (lent_table rs cs)
   lent-kept whole nine checked =
-      (comes-kept (subst (λ (x : Check). Comes (lent_table rs cs) (bad_number x) (bad_carries x)) checked (lent-comes whole nine (check-comes c (length ps) ps)))).0 refl
+      (comes-kept (subst (λ (x : Result ⊤ Refusal). Comes (lent_table rs cs) (bad_number x) (bad_carries x)) checked (lent-comes whole nine (check-comes c (length ps) ps)))).0 refl
 
-  lent-fine : Kept (lent_table rs cs) → check_run c (length ps) ps ≡ Fine
+  lent-fine : Kept (lent_table rs cs) → check_run c (length ps) ps ≡ Ok tt
   unfolding lent_table
   lent-fine kept = by (check_run c (length ps) ps) ((comes-kept (check-comes c (length ps) ps)).1 kept.1.1)
     where
-      by : (k : Check) → bad_number k ≡ 0 → k ≡ Fine
-      by Fine e = refl
-      by (Bad TooMany) e = absurd (omega arith)
-      by (Bad BadCosts) e = absurd (omega arith)
-      by (Bad (BadRecord j)) e = absurd (omega arith)
+      by : (k : Result ⊤ Refusal) → bad_number k ≡ 0 → k ≡ Ok tt
+      by (Ok tt) e = refl
+      by (Err TooMany) e = absurd (omega arith)
+      by (Err BadCosts) e = absurd (omega arith)
+      by (Err (BadRecord j)) e = absurd (omega arith)
 
   pub records-settled : Settled (lent_table rs cs) (why_records rs cs) (why_records_text rs cs)
   records-settled = by (eqb (length rs % 28) 0) refl
@@ -436,9 +434,9 @@ module _ (rs cs : List ℕ) (t : ℕ) where
       figure = unfold demand_figure in rw (lent-fine rs cs kept, le-leb t length_most low, take-length (pieces_of rs))
 
   -- the figure, by the check
-  abbrev figure_by : Check → ℕ
+  abbrev figure_by : Result ⊤ Refusal → ℕ
   figure_by k = figure_number (figured k
-      (cond (leb t length_most) (At (demand (stall (costs_spelt cs)) (core_of (costs_spelt cs) (take (length (pieces_of rs)) (pieces_of rs))) t)) Nothing))
+      (cond (leb t length_most) (Some (demand (stall (costs_spelt cs)) (core_of (costs_spelt cs) (take (length (pieces_of rs)) (pieces_of rs))) t)) None))
 
   figure-is : figure_by (check_run (costs_spelt cs) (length (pieces_of rs)) (pieces_of rs)) ≡ 0
       → figure_number (demand_figure (costs_spelt cs) (length (pieces_of rs)) (pieces_of rs) t) ≡ 0
@@ -449,12 +447,12 @@ module _ (rs cs : List ℕ) (t : ℕ) where
   pub demand-untold : Not (Kept (lent_table rs cs) × (t ≤ length_most)) → demand_number rs cs t ≡ 0
   demand-untold never = by (eqb (length rs % 28) 0) refl
     where
-      many : length rs % 28 ≡ 0 → length cs ≡ 36 → (k : Check) → check_run (costs_spelt cs) (length (pieces_of rs)) (pieces_of rs) ≡ k → figure_by k ≡ 0
-      many whole nine Fine checked = elim (dec_le t length_most) [
+      many : length rs % 28 ≡ 0 → length cs ≡ 36 → (k : Result ⊤ Refusal) → check_run (costs_spelt cs) (length (pieces_of rs)) (pieces_of rs) ≡ k → figure_by k ≡ 0
+      many whole nine (Ok tt) checked = elim (dec_le t length_most) [
         | yes low ↦ absurd (never (lent-kept rs cs whole nine checked, low))
         | no high ↦ rw (lt-leb t length_most (omega arith))
       ]
-      many whole nine (Bad r) bad = refl
+      many whole nine (Err r) bad = refl
 
       nine-by : length rs % 28 ≡ 0 → (b : Bool) → eqb (length cs) 36 ≡ b → demand_number rs cs t ≡ 0
       nine-by whole true e =

@@ -14,8 +14,8 @@ use Rattle.std.specs.Prelude.{List, map, ℕ, zero, suc, ◌+◌, length}
 use Rattle.task.specs.Tasks.{cores_most}
 use Rattle.walks.specs.Way.{Placed}
 use Rattle.plan.specs.declared.Plan.{Plan}
-use Rattle.plan.specs.declared.Reply.{Reply}
-use Rattle.sheet.specs.declared.Read.{Read}
+use Rattle.plan.specs.Reply.{Reply}
+use Rattle.sheet.specs.Sheet.{Read}
 use Rattle.sheet.specs.Sheet.{read_of}
 use Rattle.listing.specs.Papers.{Paper, refused, written, left}
 use Rattle.listing.specs.Placed.{by_core}

@@ -7,17 +7,18 @@
 --   measured rs cs         records by 28 bytes, and 36 bytes of costs
 --   reply_of rs cs        8 first; then 6, 2 and 3, as they are given for a run of records; else the verdict
 --   verdict_number rs cs  the number of that reply
-use Rattle.std.specs.Prelude.{Bool, ◌&&◌, cond, List, ℕ, ◌+◌, ◌*◌, ◌%◌, ◌^◌, eqb, length}
-use Rattle.demand.specs.declared.Answer.{Answer}
+use Rattle.std.specs.Prelude.{Bool, ◌&&◌, cond, List, ℕ, ◌+◌, ◌*◌, ◌%◌, ◌^◌, eqb, length, Result}
 use Rattle.demand.specs.Answer.{Told, told, answer_of}
 use Rattle.spardimple.specs.Bytes.{pieces_of, costs_spelt}
+use Rattle.demand.specs.declared.Refusal.{Refusal}
+use Rattle.demand.specs.declared.Verdict.{Verdict}
 
 unfoldable pub number : Told → ℕ
 number t = 2 ^ 32 * t.which + t.carries
 
 pub data Reply : Type 0 where
   malformed : Reply
-  said : Answer → Reply
+  said : Result Verdict Refusal → Reply
 
 abbrev pub told_reply : Reply → Told
 told_reply malformed = record { which = 108; carries = 0 }

@@ -17,11 +17,11 @@ use Rattle.task.specs.declared.Task.{Task}
 use Rattle.task.specs.declared.Machine.{Machine}
 use Rattle.walks.specs.Way.{Placed, Ending, fine, stuck}
 use Rattle.walks.specs.Halves.{Stand}
-use Rattle.plan.specs.declared.Reply.{Reply}
+use Rattle.plan.specs.Reply.{Reply}
 use Rattle.plan.specs.Walk.{walked}
 use Rattle.plan.specs.Plan.{plan_of}
 use Rattle.sheet.specs.declared.Sheet.{Sheet}
-use Rattle.sheet.specs.declared.Read.{Read}
+use Rattle.sheet.specs.Sheet.{Read}
 use Rattle.sheet.specs.Sheet.{read_of}
 use Rattle.sheet.specs.Refusals.{said_by}
 use Rattle.listing.specs.Listing.{listing_of}

@@ -1,2 +1,2 @@
--- What no promise rests on: a run that lent records were copied into.
-pub mod CopiedRun
+-- What the steps on the way to an answer promise: no meaning of its own.
+pub mod Steps

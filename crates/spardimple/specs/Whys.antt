@@ -9,22 +9,19 @@
 --   why_core sheet core         what a sheet and a core come to: the sheet's own refusal; 1 where the machine has no such core; else the listing
 --   why_records_number, why_records_left, why_core_number, why_core_left       what is given back for them, and what the buffer then holds
 --   demand_number rs cs t       g(t) of lent records; 0 where they are refused, or t is no length that can be judged
-use Rattle.std.specs.Prelude.{cond, List, [], ◌∷◌, ◌++◌, map, ℕ, ◌+◌, ◌-◌, length}
+use Rattle.std.specs.Prelude.{cond, List, [], ◌∷◌, ◌++◌, map, ℕ, ◌+◌, ◌-◌, length, Err, None, Ok, Option, Result, Some}
 use Rattle.demand.specs.declared.Costs.{Costs}
-use Rattle.demand.specs.declared.Figure.{Figure}
-use Rattle.demand.specs.declared.Figure.TheVariants.{Of, Barred}
-use Rattle.demand.specs.declared.Found.TheVariants.{At, Nothing}
 use Rattle.demand.specs.Answer.{demand_figure}
 use Rattle.task.specs.declared.Task.{Task}
 use Rattle.task.specs.declared.Machine.{Machine}
 use Rattle.task.specs.Tasks.{task_at}
 use Rattle.walks.specs.Way.{Ending, fine, stuck, on_core}
 use Rattle.walks.specs.Halves.{Stand}
-use Rattle.plan.specs.declared.Reply.{Reply}
+use Rattle.plan.specs.Reply.{Reply}
 use Rattle.plan.specs.Walk.{walked, walked_until}
 use Rattle.plan.specs.Plan.{reached_of}
 use Rattle.sheet.specs.declared.Sheet.{Sheet}
-use Rattle.sheet.specs.declared.Read.{Read}
+use Rattle.sheet.specs.Sheet.{Read}
 use Rattle.sheet.specs.Sheet.{read_of}
 use Rattle.listing.specs.Listing.{spelling}
 use Rattle.listing.specs.Papers.{Paper, refused, left}
@@ -32,6 +29,7 @@ use Rattle.listing.specs.Why.{no_room_line, why_text, by_place, why_run, titled_
 use Rattle.spardimple.specs.Bytes.{pieces_of, costs_spelt}
 use Rattle.spardimple.specs.Numbers.{number, measured}
 use Rattle.spardimple.specs.Sheets.{machine_in, costs_in, tasks_in, unless, told_paper}
+use Rattle.demand.specs.declared.Refusal.{Refusal}
 
 -- ---- what is listed
 
@@ -83,10 +81,10 @@ why_core_left sheet core old = left (why_core sheet core) old
 
 -- ---- the demand at a length
 
-abbrev pub figure_number : Figure → ℕ
-figure_number (Of (At n)) = n
-figure_number (Of Nothing) = 0
-figure_number (Barred r) = 0
+abbrev pub figure_number : Result (Option ℕ) Refusal → ℕ
+figure_number (Ok (Some n)) = n
+figure_number (Ok None) = 0
+figure_number (Err r) = 0
 
 unfoldable pub demand_number : (rs cs : List ℕ) → (t : ℕ) → ℕ
 demand_number rs cs t = cond (measured rs cs) (figure_number (demand_figure (costs_spelt cs) (length (pieces_of rs)) (pieces_of rs) t)) 0

@@ -1,25 +1,11 @@
 // Records and costs out of lent bytes: four bytes a number, lowest first.
-ghost use Rattle.std.specs.Prelude.{◌≡◌, ◌+◌, ◌*◌, ◌≤◌, ◌<◌, length};
-ghost use Rattle.demand.specs.Records.{records_of};
+ghost use Rattle.std.specs.Prelude.{◌≡◌, ◌+◌, ◌*◌, ◌≤◌, ◌<◌, length, MatchResult};
+ghost use Rattle.demand.specs.Records.{record_spelt, pieces_in};
+ghost use Rattle.demand.specs.declared.Refusal.TheVariants.{TooMany};
 ghost use Rattle.demand.specs.Sizes.{run_most};
-ghost use Rattle.spardimple.specs.Bytes.{number_at, pieces_of, costs_spelt};
-ghost use Rattle.spardimple.specs.Ways.CopiedRun.{CopiedIn};
+ghost use Rattle.spardimple.specs.Bytes.{number_at, numbers_spelt, pieces_of, costs_spelt};
 
-use demand::{Costs, RUN_MOST, RUN_NUMBERS};
-
-fn wide(b: u8) -> u64
-    ensures { (result ≡ b) × (result < 256) }
-{
-    b as u64
-}
-
-// Four bytes as a number, lowest first.
-fn four(a: u64, b: u64, c: u64, d: u64) -> u64
-    requires { (a < 256) × (b < 256) × (c < 256) × (d < 256) }
-    ensures { result ≡ a + 256 * b + 65536 * c + 16777216 * d }
-{
-    a + 256 * b + 65536 * c + 16777216 * d
-}
+use demand::{Costs, RUN_MOST, Record, Refusal};
 
 // The number at a place from 0, of four bytes each.
 pub fn number_at(s: &[u8], k: usize) -> u64
@@ -27,31 +13,23 @@ pub fn number_at(s: &[u8], k: usize) -> u64
     ensures { result ≡ number_at s.now k }
 {
     let at = 4 * k;
-    four(
-        wide(s[at]),
-        wide(s[at + 1]),
-        wide(s[at + 2]),
-        wide(s[at + 3]),
-    )
+    u64::from(u32::from_le_bytes([s[at], s[at + 1], s[at + 2], s[at + 3]]))
 }
 
-// n, where so many records fit into a run; else none is read.
-pub fn room_for(n: usize) -> usize
-    ensures { (result ≤ run_most) × (result ≤ n) × (n ≤ run_most → result ≡ n) }
+// The record at a place from 0, of seven numbers each.
+pub fn record_in(s: &[u8], i: usize) -> Record
+    requires { 28 * i + 28 ≤ length s.now }
+    ensures { result ≡ record_spelt (numbers_spelt s.now) i }
 {
-    if n <= RUN_MOST { n } else { 0 }
-}
-
-// The numbers of the records that the bytes spell, copied where there is room for all. What the numbers of a record say is for its reader.
-pub fn read_records<'a>(records: &'a mut [u64; RUN_NUMBERS], s: &'a [u8])
-    requires { length records.old ≡ 7 * run_most }
-    ensures { CopiedIn (pieces_of s.now) (records_of records.new) }
-{
-    let most = 7 * room_for(s.len() / 28);
-    let mut i: usize = 0;
-    while i < most {
-        records[i] = number_at(s, i);
-        i += 1;
+    let at = 7 * i;
+    Record {
+        kind: number_at(s, at),
+        budget: number_at(s, at + 1),
+        window: number_at(s, at + 2),
+        period: number_at(s, at + 3),
+        jitter: number_at(s, at + 4),
+        preempt: number_at(s, at + 5),
+        migrate: number_at(s, at + 6),
     }
 }
 
@@ -71,4 +49,18 @@ pub fn read_costs(s: &[u8]) -> Costs
         ipij: number_at(s, 7),
         precision: number_at(s, 8),
     }
+}
+
+// The records that the bytes spell, read into the room for them. More than a run has are refused before any is read.
+pub fn records_in<'a>(room: &'a mut [Record; RUN_MOST], s: &[u8]) -> Result<&'a [Record], Refusal>
+    ensures { MatchResult result (λ rs. pieces_in rs.now ≡ pieces_of s.now) (λ why. (why ≡ TooMany) × (run_most < length (pieces_of s.now))) }
+{
+    let count = s.len() / 28;
+    if RUN_MOST < count {
+        return Err(Refusal::TooMany);
+    }
+    for i in 0..count {
+        room[i] = record_in(s, i);
+    }
+    Ok(&room[..count])
 }

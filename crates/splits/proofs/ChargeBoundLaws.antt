@@ -5,9 +5,9 @@
 --   bounds-as, caps-as                  both from the code's own figures
 --   beside_snoc, demand-same            the demand with q behind, and beside
 --   unsettled-from, passes-settles      what no busy length and a pass tell of the charge
---   charge-ranged                       q with another charge
---   stalled-rest, -jobs, -over, -free, -fits      what fits at one length where the stall counts
---   bound-most, -squeezed, -unsettled, -own, -never, -stands      what the core with q behind tells
+--   stalled-rest, -jobs, -over, -fits      what fits at one length where the stall counts
+--   bound-squeezed, -own, -never, -stands      what the core with q behind tells
+use Rattle.std.specs.Prelude.{None, Option, Some}
 use mathlib.Core.Path.{◌≡◌, refl, sym, ap, ◌∙◌, subst}
 use mathlib.Core.List.{List, [], ◌∷◌, ◌++◌}
 use mathlib.Core.Logic.{◌⊎◌, ⊎_elim}
@@ -18,14 +18,12 @@ use native.Mathlib.Omega.{arith}
 use borrow.Author.Tests.{lt-ltb, le-ltb}
 use lib.ListN.{length, length-append}
 use Rattle.demand.specs.declared.Charged.{Charged}
-use Rattle.demand.specs.declared.Found.{Found}
-use Rattle.demand.specs.declared.Found.TheVariants.{At, Nothing}
 use Rattle.demand.specs.declared.Verdict.{Verdict}
 use Rattle.demand.specs.declared.Verdict.TheVariants.{Passes, Overloaded, Undecided}
 use Rattle.splits.specs.declared.charge_bounds.Bound.{Bound}
 use Rattle.splits.specs.declared.charge_bounds.Bound.TheVariants.{Stands, Falls, AtMost}
 use Rattle.demand.specs.Sizes.{time_most, busy_most, Each}
-use Rattle.demand.specs.Ways.Ranges.{Ranged, charge_most}
+use Rattle.demand.specs.Ways.Ranges.{Ranged}
 use Rattle.demand.specs.Demand.{ceil, total, jobs_due, interrupts, largest_window, blocking, load, demand, Live, least_live}
 use Rattle.demand.specs.Busy.{Least, Finds, busy_load, busy_sum, busy_length}
 use Rattle.demand.specs.Verdict.{Calm, Says, Means, scan, over_span, verdict}
@@ -114,10 +112,10 @@ module _ (qs : List Charged) (q r : Charged) (period : r.period ≡ q.period) (r
   unfolding busy_sum busy_load
   busy-last l = rw (laid, sym period, sym release, sym ipi) (total-snoc (busy_load l) qs r)
 
-  pub unsettled-from : busy_length rs ≡ Nothing → Unsettled qs q r.charge
+  pub unsettled-from : busy_length rs ≡ None → Unsettled qs q r.charge
   unsettled-from none y more settles =
       let l = settles.at in
-      subst (λ (f : Found). Finds (busy_sum rs) busy_most f) none (busy-length-finds rs) l settles.within
+      subst (λ (f : Option ℕ). Finds (busy_sum rs) busy_most f) none (busy-length-finds rs) l settles.within
       (record { some = settles.some; fits = omega (arith, busy-last l, settles.fits, mul-le-mul_left (ceil l q.period) (charges more)) })
     where
       charges : r.charge ≤ y → r.charge + q.release + q.ipi ≤ y + q.release + q.ipi
@@ -134,21 +132,8 @@ module _ (qs : List Charged) (q r : Charged) (period : r.period ≡ q.period) (r
 
 -- ---- q with another charge
 
-pub charge-ranged : (q : Charged) (f : ℕ) → Ranged q → f ≤ charge_most → Ranged (with_charge q f)
-unfolding with_charge
-charge-ranged q f ok fits = record {
-  period-some = ok.period-some;
-  period-fits = ok.period-fits;
-  window-fits = ok.window-fits;
-  jitter-fits = ok.jitter-fits;
-  charge-fits = fits;
-  release-fits = ok.release-fits;
-  ipi-fits = ok.ipi-fits;
-  ipij-fits = ok.ipij-fits;
-}
-
 charge-load : (q : Charged) (f t : ℕ) → load t (with_charge q f) ≡ jobs_due q t * f + interrupts q t
-unfolding with_charge load jobs_due interrupts
+unfolding load jobs_due interrupts
 charge-load q f t = refl
 
 -- ---- the stall
@@ -169,9 +154,6 @@ module _ (qs : List Charged) (q : Charged) (t : ℕ) where
     pub stalled-over : t < b + rest → Stalled b qs q t 0
     stalled-over over = record { less = omega arith; caps = λ y below fits. absurd (omega (arith, fits)) }
 
-    pub stalled-free : jobs ≡ 0 → Stalled b qs q t (q.charge - 1)
-    stalled-free none = record { less = omega arith; caps = λ y below fits. omega arith }
-
     pub stalled-fits : b + rest ≤ t → 0 < jobs → (r : ℕ) → r ≡ min (q.charge - 1) ((t - (b + rest)) / jobs) → Stalled b qs q t r
     stalled-fits room pos r least = record { less = omega arith; caps = λ y below fits. omega (arith, (le-div_iff_mul-le pos).1 (times y fits)) }
       where
@@ -188,24 +170,12 @@ module _ (b : ℕ) (qs rs : List Charged) (q : Charged) (laid : rs ≡ qs ++ (q 
   some-laid : 1 ≤ length rs
   some-laid = rw (laid, length-append) (omega arith)
 
-  pub bound-most : (a r : ℕ) → a ≡ least_live rs → r < q.charge → Caps b qs q q.charge a r → Bounds b qs q (AtMost r)
-  bound-most a r start less caps = (less, λ y le holds settles. caps.caps y le (rw (start, laid) holds))
-
   pub bound-squeezed : (a l r : ℕ) → a ≡ least_live rs → r < q.charge → r ≡ most_fitting b qs q a l q.charge → Bounds b qs q (AtMost r)
   bound-squeezed a l r start less is =
       (less, λ y le holds settles. (squeezed-is b qs q a l q.charge r is).greatest y le (λ u low high. holds u (rw (start, laid) at low)))
 
-  pub bound-unsettled : (r : ℕ) → r < q.charge → Unsettled qs q (r + 1) → Bounds b qs q (AtMost r)
-  bound-unsettled r less none = (
-    less,
-    λ y le holds settles. elim (dec_lt r y) [
-      | yes above ↦ absurd (none y (omega arith) settles)
-      | no below ↦ omega arith
-    ],
-  )
-
-  spanned : (f : Found) → busy_length rs ≡ f → verdict b rs ≡ over_span b rs (least_live rs) f
-  spanned f e = verdict-span b rs some-laid ∙ ap (λ (g : Found). over_span b rs (least_live rs) g) e
+  spanned : (f : Option ℕ) → busy_length rs ≡ f → verdict b rs ≡ over_span b rs (least_live rs) f
+  spanned f e = verdict-span b rs some-laid ∙ ap (λ (g : Option ℕ). over_span b rs (least_live rs) g) e
 
   module _ (recurs : Each Recurs rs) where
     refuted : (t : ℕ) → least_live rs ≤ t → t < demand b rs t → verdict b (qs ++ (q ∷ [])) ≡ Passes → ⊥
@@ -225,7 +195,7 @@ module _ (b : ℕ) (qs rs : List Charged) (q : Charged) (laid : rs ≡ qs ++ (q 
   pub bound-never : (a k t : ℕ) → scan b rs a k ≡ Undecided → Bounds b qs q (Falls t)
   bound-never a k t never = absurd (subst (λ (w : Verdict). Says b rs a k w) never (scan-says b rs a k))
 
-  pub bound-stands : (a l own r : ℕ) → a ≡ least_live rs → busy_length rs ≡ At l → own ≡ max a (largest_window qs) → 1 ≤ q.charge
+  pub bound-stands : (a l own r : ℕ) → a ≡ least_live rs → busy_length rs ≡ Some l → own ≡ max a (largest_window qs) → 1 ≤ q.charge
       → q.charge ≤ r → r ≡ most_fitting b qs q a l q.charge → scan b rs own (q.window - own) ≡ Passes → Bounds b qs q Stands
   bound-stands a l own r start busy is some kept left mine =
       let near = squeezed-is b qs q a l q.charge r left in
@@ -236,4 +206,4 @@ module _ (b : ℕ) (qs rs : List Charged) (q : Charged) (laid : rs ≡ qs ++ (q 
       let beyond : Calm b (qs ++ (q ∷ [])) (max a (largest_window qs)) q.window = λ u low high. rw laid at (over u (omega arith) (omega arith)) in
       let calm : Calm b (qs ++ (q ∷ [])) a (a + l) = calm-whole b qs q a (a + l) fits beyond in
       let whole : Calm b rs a (a + l) = rw laid calm in
-      rw laid at (spanned (At l) busy ∙ sym (rw start at (scan-is b rs a l Passes whole)))
+      rw laid at (spanned (Some l) busy ∙ sym (rw start at (scan-is b rs a l Passes whole)))

@@ -1,5 +1,5 @@
--- Laws that belong to no one function.
-pub mod MonotoneSearchLaws
+pub mod BenchLaws
 pub mod ChargeBoundLaws
-pub mod SplitSearchLaws
+pub mod MonotoneSearchLaws
 pub mod SkipLaws
+pub mod SplitSearchLaws

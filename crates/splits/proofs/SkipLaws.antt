@@ -4,14 +4,14 @@
 --   tight-fits, tight-shorter, tight-full   a tight window holds its sum, is shorter for less, and holds no slack
 --   holding-below             what an allowed split is charged fits beside the core at every live length, in each wider window
 --   step-capped               so a cap of the charge is one of the budget
---   step-stands, falls-here, falls-there    both pieces pass, or one does not
+--   step-stands, falls-here   both pieces pass, or the core's does not
 --   last-falls                an overloaded last piece: so is each longer one, as long as its window gains too little
---   step-last                 what the last piece told of the candidate
 --   misses-lowered            how far down no tight window ends by a top
---   skips-late, -last, -own   so down to there none fits: no window is left, the last piece falls, or the first one's own blocking
+--   skips-last, -own          so down to there none fits: the last piece falls, or the first one's own blocking
 --   step-due                  and where a job of the core is due within the tight window
 --   ends-room, ends-lowered   where the tight windows of allowed splits end
 --   starts_none, starts-capped     where the search starts
+use Rattle.std.specs.Prelude.{Some}
 use mathlib.Core.Path.{◌≡◌, refl, sym, ◌∙◌, subst}
 use mathlib.Core.List.{List, [], ◌∷◌, ◌++◌}
 use mathlib.Core.Logic.{◌⊎◌, ⊎_elim}
@@ -23,14 +23,12 @@ use lib.ListN.{length, length-append}
 use Rattle.demand.specs.declared.Piece.{Piece}
 use Rattle.demand.specs.declared.Costs.{Costs}
 use Rattle.demand.specs.declared.Charged.{Charged}
-use Rattle.demand.specs.declared.Found.TheVariants.{At}
 use Rattle.verdicts.specs.declared.Sum.TheVariants.{Interrupts, Jobs}
-use Rattle.splits.specs.declared.monotone_search.Probe.TheVariants.{Window, Calls, Due}
 use Rattle.demand.specs.declared.Verdict.{Verdict}
 use Rattle.demand.specs.declared.Verdict.TheVariants.{Passes, Overloaded}
 use Rattle.splits.specs.declared.charge_bounds.Bound.TheVariants.{Stands, Falls, AtMost}
 use Rattle.splits.specs.declared.split_search.Step.TheVariants.{Done, Below}
-use Rattle.demand.specs.Sizes.{length_most, Sized, Each, Some}
+use Rattle.demand.specs.Sizes.{length_most, Sized, Each, SomeOf}
 use Rattle.demand.specs.Charge.{charged, ipi_cost, stall}
 use Rattle.demand.specs.Demand.{total, jobs_due, interrupts, largest_window, blocking, load, demand, Live, least_live}
 use Rattle.demand.specs.Verdict.{Means, verdict}
@@ -38,12 +36,13 @@ use Rattle.demand.specs.Split.{late_jitter, piece_of, first_piece, last_piece}
 use Rattle.verdicts.specs.MostFitting.{beside}
 use Rattle.splits.specs.Ways.ChargeBounds.{FitsFrom, Caps, Stalled, Settles, Bounds}
 use Rattle.verdicts.specs.Laid.{term}
-use Rattle.splits.specs.Ways.MonotoneSearch.{ProbeRefuses, Lowered}
-use Rattle.splits.specs.Ways.SplitSearch.{Weighs, Steps, Misses, Skips, Hopeless, Ends, Starts}
+use Rattle.splits.specs.Ways.MonotoneSearch.{NoneHolds, Lowered}
+use Rattle.splits.specs.Ways.Bench.{Weighs}
+use Rattle.splits.specs.Ways.SplitSearch.{Steps, Misses, Skips, Hopeless, Ends, Starts}
 use Rattle.demand.specs.Ways.ChargedSplit.{with_first, last_alone, tight_beside, Tight, Fits, TightIn}
 use Rattle.demand.proofs.SizeLaws.{window-most}
 use Rattle.demand.proofs.Division.{div_mono}
-use Rattle.verdicts.proofs.ChargedArrayLaws.{sum_mono}
+use Rattle.verdicts.proofs.CoreLaws.{sum_mono}
 use Rattle.demand.proofs.Sums.{total-snoc}
 use Rattle.demand.proofs.DemandLaws.{Recurs, jobs-due-none, jobs-due-some, interrupts-mono, demand-below, largest-snoc, live-mono}
 use Rattle.demand.proofs.BusyLaws.{least-le}
@@ -51,7 +50,7 @@ use Rattle.splits.proofs.MonotoneSearchLaws.{late-more}
 use Rattle.demand.proofs.VerdictLaws.{verdict-means, passes-forever}
 use Rattle.verdicts.proofs.MostFittingLaws.{beside_at}
 use Rattle.splits.proofs.ChargeBoundLaws.{beside_snoc, blocking-below, blocking-above, least-live-some, passes-settles}
-use Rattle.demand.proofs.ChargedSplitLaws.{fails-here, fails-there, tight-same, extra, first-charge, last-charge, with_each, calls}
+use Rattle.demand.proofs.ChargedSplitLaws.{fails-here, tight-same, extra, first-charge, last-charge, with_each, calls}
 use Rattle.demand.proofs.ChargedSplitLaws.{calls_mono, tight-parts, first-interrupts, first-recurs, last-recurs}
 use Rattle.splits.proofs.SplitSearchLaws.{step-skips, step-done, calls-with}
 
@@ -100,7 +99,7 @@ due-shorter q r shorter period jitter u = elim (dec_lt (u + q.jitter) q.window) 
       (omega (arith, div_mono q.period {a = u + q.jitter - q.window} {b = u + r.jitter - r.window} (omega arith)))
 ]
 
-some-last : (P : Charged → Type 0) (qs : List Charged) (q r : Charged) → (P q → P r) → Some P (qs ++ (q ∷ [])) → Some P (qs ++ (r ∷ []))
+some-last : (P : Charged → Type 0) (qs : List Charged) (q r : Charged) → (P q → P r) → SomeOf P (qs ++ (q ∷ [])) → SomeOf P (qs ++ (r ∷ []))
 some-last P [] q r step live = ⊎_elim (λ here. ◌⊎◌.inl (step here)) (λ there. ◌⊎◌.inr there) live
 some-last P (p ∷ qs) q r step live = ⊎_elim (λ here. ◌⊎◌.inl here) (λ there. ◌⊎◌.inr (some-last P qs q r step there)) live
 
@@ -190,7 +189,7 @@ module _ (c : Costs) (qs : List Charged) (p : Piece) (recurs : Each Recurs qs) (
 
 -- ---- what the core with the first piece tells
 
-module _ (c : Costs) (qs : List Charged) (p : Piece) (x w : ℕ) (found : TightIn c qs p x (At w)) where
+module _ (c : Costs) (qs : List Charged) (p : Piece) (x w : ℕ) (found : TightIn c qs p x (Some w)) where
   pub step-stands : 1 ≤ x → Bounds (stall c) qs (charged c (first_piece p x w)) Stands → verdict (stall c) (last_alone c p x w) ≡ Passes → Steps c qs p x (Done w)
   unfolding with_first
   step-stands some here there = step-done c qs p x some found.0 w found.1 found.2 found.3 here there
@@ -199,11 +198,6 @@ module _ (c : Costs) (qs : List Charged) (p : Piece) (x w : ℕ) (found : TightI
   pub falls-here : (f : ℕ) → Bounds (stall c) qs (charged c (first_piece p x w)) (Falls f) → (u : ℕ) → Fits c qs p x u → ⊥
   unfolding with_first
   falls-here f bound = fails-here c qs p x found.0 w found.1 found.3 (verdict (stall c) (qs ++ (charged c (first_piece p x w) ∷ []))) refl bound.0
-
-  pub falls-there : (s : ℕ) → Hopeless c p x w s → (u : ℕ) → Fits c qs p x u → ⊥
-  falls-there s hopeless =
-      fails-there c qs p x found.0 w found.1 found.3 (verdict (stall c) (last_alone c p x w)) refl
-      (hopeless x w (omega arith) (omega arith) (omega arith))
 
 -- ---- the last piece alone
 
@@ -301,12 +295,9 @@ module _ (c : Costs) (p : Piece) (ok : Sized p) (x w u : ℕ) (over : verdict (s
 -- ---- how far down the next may stand
 
 module _ (c : Costs) (qs : List Charged) (p : Piece) where
-  pub step-last : (x f w : ℕ) → (f < x) × ((y v : ℕ) → y ≤ x → verdict (stall c) (last_alone c p y v) ≡ Passes → ⊥) → Steps c qs p x (Below f)
-  step-last x f w none = (none.0, λ z u low high fits. none.1 z (p.jitter + u) high fits.there)
-
   -- the high end of the budgets, one less
   pub misses-lowered : (base b k : ℕ) → base ≡ b + k → b ≡ stall c → k ≡ (charged c (first_piece p 0 0)).charge → (rs : List Charged)
-      → rs ≡ with_first c qs p 0 0 → (top x h : ℕ) → 1 ≤ x → Lowered (ProbeRefuses rs (Window base top)) x h → Misses c qs p top (h - 1) x
+      → rs ≡ with_first c qs p 0 0 → (top x h : ℕ) → 1 ≤ x → Lowered (NoneHolds rs base top) x h → Misses c qs p top (h - 1) x
   misses-lowered base b k parts stalled charge rs laid top x h some low = (
     omega (arith, low.most, low.some some),
     λ z u above below tight. elim (dec_lt top u) [
@@ -321,13 +312,9 @@ module _ (c : Costs) (qs : List Charged) (p : Piece) where
     ],
   )
 
-  -- none has a tight window that leaves the last piece one
-  pub skips-late : (top r x : ℕ) → top ≡ p.window - 1 - p.jitter → Misses c qs p top r x → Skips c qs p r x
-  skips-late top r x is misses = (misses.0, λ z u low high fits. omega (arith, misses.1 z u low high fits.tight, fits.room))
-
   -- the last pieces of all are overloaded whose tight window is past the end
   pub skips-last : (x t w s : ℕ) → Tight c qs p x t → w ≡ p.jitter + t → Hopeless c p x w s → (rs : List Charged)
-      → rs ≡ with_first c qs p 0 0 → (i k end r : ℕ) → i ≡ total (term Interrupts t) rs → k ≡ i - s → Lowered (ProbeRefuses rs (Calls k)) t end
+      → rs ≡ with_first c qs p 0 0 → (i k end r : ℕ) → i ≡ total (term Interrupts t) rs → k ≡ i - s → Lowered (λ m. k ≤ total (term Interrupts m) rs) t end
       → Misses c qs p (end - 1) r x → Skips c qs p r x
   skips-last x t w s tight at hopeless rs laid i k end r calls_are few low misses = (
     misses.0,
@@ -361,7 +348,7 @@ unfolding load
 jobs-parts u [] = refl
 jobs-parts u (q ∷ qs) = omega (arith, jobs-parts u qs)
 
-jobs-none : (u : ℕ) (qs : List Charged) → Each Weighs qs → total (term Jobs u) qs ≡ 0 → Some (λ q. 1 ≤ jobs_due q u) qs → ⊥
+jobs-none : (u : ℕ) (qs : List Charged) → Each Weighs qs → total (term Jobs u) qs ≡ 0 → SomeOf (λ q. 1 ≤ jobs_due q u) qs → ⊥
 jobs-none u [] weighs none live = live
 jobs-none u (q ∷ qs) weighs none live =
     ⊎_elim (λ here. omega (arith, mul-le-mul_right q.charge here, weighs.0.some)) (λ there. jobs-none u qs weighs.1 (omega arith) there) live
@@ -380,7 +367,7 @@ first_live : (c : Costs) (qs : List Charged) (p : Piece) (x t : ℕ) → Live (w
 unfolding with_first Live
 first_live c qs p x t = last_some (λ q. 1 ≤ jobs_due q t) qs (charged c (first_piece p x (p.jitter + t))) (omega (arith, first_one c p x t))
   where
-    last_some : (P : Charged → Type 0) (rs : List Charged) (q : Charged) → P q → Some P (rs ++ (q ∷ []))
+    last_some : (P : Charged → Type 0) (rs : List Charged) (q : Charged) → P q → SomeOf P (rs ++ (q ∷ []))
     last_some P [] q h = ◌⊎◌.inl h
     last_some P (r ∷ rs) q h = ◌⊎◌.inr (last_some P rs q h)
 
@@ -438,7 +425,7 @@ module _ (c : Costs) (qs : List Charged) (p : Piece) where
 
     -- what is due within a tight window is charged no more than the stall, or than nothing where the task has jitter
     pub ends-lowered : (most end r : ℕ) → (most ≡ stall c) ⊎ ((1 ≤ p.jitter) × (most ≡ 0)) → end ≡ p.window - p.jitter
-        → Lowered (ProbeRefuses qs (Due most)) end r → Ends c qs p r
+        → Lowered (λ m. most < total (term Jobs m) qs) end r → Ends c qs p r
     ends-lowered most end r side is low x t some fits = elim (dec_lt t r) [
       | yes before ↦ before
       | no after ↦

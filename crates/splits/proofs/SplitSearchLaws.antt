@@ -1,18 +1,15 @@
--- Laws of the split search: the core and the last piece in their arrays, and what one candidate told.
+-- Laws of the split search: sums as the code has them, and what one candidate told.
 -- Assumes nothing.
 --
---   core-weighs               the pieces of a core are charged something
---   ready-laid, ready-kept, kept_same, kept_again, laid-first, laid_kept, laid-charged, laid-alone      the core and the last piece in their arrays
 --   calls-with, least-is      sums as the code has them
 --   judged-last               a verdict on the last piece as the code has it
 --   step-skips, step-done     what one candidate told
 --   none-start                no candidate above the start is allowed
-use mathlib.Core.Path.{◌≡◌, refl, ap, ◌∙◌, subst}
-use mathlib.Core.List.{List, [], ◌∷◌, ◌++◌}
-use Prim.Native.Nat.{ℕ, ◌+◌, ◌*◌, ◌/◌, ◌≤◌, ◌<◌}
+use mathlib.Core.Path.{◌≡◌, refl, ◌∙◌, subst}
+use mathlib.Core.List.{List}
+use Prim.Native.Nat.{ℕ, ◌+◌, ◌*◌, ◌/◌, ◌≤◌}
 use native.Mathlib.Decide.{dec_lt}
 use native.Mathlib.Omega.{arith}
-use lib.ListN.{length}
 use Rattle.demand.specs.declared.Piece.{Piece}
 use Rattle.demand.specs.declared.Costs.{Costs}
 use Rattle.demand.specs.declared.Charged.{Charged}
@@ -20,74 +17,16 @@ use Rattle.verdicts.specs.declared.Sum.TheVariants.{Interrupts}
 use Rattle.demand.specs.declared.Verdict.{Verdict}
 use Rattle.demand.specs.declared.Verdict.TheVariants.{Passes}
 use Rattle.splits.specs.declared.split_search.Step.TheVariants.{Done, Below}
-use Rattle.demand.specs.Sizes.{run_most, SizedCosts, Sized, Each}
-use Rattle.demand.specs.Charge.{charge, charged, core_of, stall}
+use Rattle.demand.specs.Charge.{charge, charged, stall}
 use Rattle.demand.specs.Demand.{total, interrupts}
 use Rattle.demand.specs.Busy.{tight_sum}
 use Rattle.demand.specs.Verdict.{verdict}
-use Rattle.demand.specs.Split.{first_piece, last_piece}
-use Rattle.splits.specs.Ways.SplitSearch.{Weighs, Ready, SameCore, Steps, Skips, Starts}
+use Rattle.demand.specs.Split.{first_piece}
+use Rattle.splits.specs.Ways.SplitSearch.{Steps, Skips, Starts}
 use Rattle.demand.specs.Ways.ChargedSplit.{with_first, last_alone, tight_beside, Tight, Fits, NoneAbove}
-use Rattle.verdicts.specs.ChargedArray.{charged_in, charged_at}
 use Rattle.verdicts.specs.Laid.{term}
 use Rattle.demand.proofs.ChargedSplitLaws.{calls, rounded, first-interrupts}
-use Rattle.demand.proofs.Sums.{total-snoc, each_map}
-use Rattle.demand.proofs.ChargeLaws.{core-ranged, all-countable}
-use Rattle.verdicts.proofs.ChargedArrayLaws.{charged-in-kept, charged-at-put}
-
-charged-weighs : (c : Costs) (p : Piece) → Sized p → Weighs (charged c p)
-unfolding charged charge
-charged-weighs c p ok = record { some = omega arith }
-
-core-weighs : (c : Costs) (ps : List Piece) → Each Sized ps → Each Weighs (core_of c ps)
-unfolding core_of
-core-weighs c ps each = each_map Sized Weighs (charged c) (charged-weighs c) ps each
-
--- ---- in the array
-
-pub ready-laid : (c : Costs) (n : ℕ) (ps : List Piece) → SizedCosts c → n < run_most → Each Sized ps → (a : List ℕ)
-    → charged_in a n ≡ core_of c ps → length a ≡ 7 * run_most → Ready a n
-ready-laid c n ps costs room each a laid long = record {
-  room = room;
-  ranged = rw laid (core-ranged c costs ps (all-countable ps each));
-  weighs = rw laid (core-weighs c ps each);
-  long = long;
-}
-
-pub ready-kept : (a b : List ℕ) (n : ℕ) → Ready a n → SameCore a b n → Ready b n
-ready-kept a b n ready kept = record {
-  room = ready.room;
-  ranged = rw kept.same ready.ranged;
-  weighs = rw kept.same ready.weighs;
-  long = kept.long;
-}
-
-pub kept_same : (a : List ℕ) (n : ℕ) → Ready a n → SameCore a a n
-kept_same a n ready = record { same = refl; long = ready.long }
-
-pub kept_again : (a b d : List ℕ) (n : ℕ) → SameCore a b n → SameCore b d n → SameCore a d n
-kept_again a b d n one two = record { same = two.same ∙ one.same; long = two.long }
-
--- the first piece written behind the others
-module _ (a b : List ℕ) (n : ℕ) (q : Charged) (written : charged_in b (n + 1) ≡ charged_in a n ++ (q ∷ [])) where
-  pub laid_kept : length b ≡ 7 * run_most → SameCore a b n
-  laid_kept long = record { same = charged-in-kept a b n q written; long = long }
-
-  pub laid-first : (c : Costs) (p : Piece) (x w : ℕ) → q ≡ charged c (first_piece p x w) → charged_in b (n + 1) ≡ with_first c (charged_in a n) p x w
-  unfolding with_first
-  laid-first c p x w is = written ∙ ap (λ (r : Charged). charged_in a n ++ (r ∷ [])) is
-
--- and then it lies there
-pub laid-charged : (c : Costs) (p : Piece) (x w : ℕ) (a b : List ℕ) (n : ℕ) → charged_in b (n + 1) ≡ with_first c (charged_in a n) p x w
-    → charged_at b n ≡ charged c (first_piece p x w)
-unfolding with_first
-laid-charged c p x w a b n row = charged-at-put a b n (charged c (first_piece p x w)) row
-
--- the last piece written alone
-pub laid-alone : (c : Costs) (p : Piece) (x w : ℕ) (a b : List ℕ) (q : Charged) → charged_in b 1 ≡ charged_in a 0 ++ (q ∷ [])
-    → q ≡ charged c (last_piece c p x w) → charged_in b 1 ≡ last_alone c p x w
-unfolding last_alone
-laid-alone c p x w a b q written is = written ∙ ap (λ (r : Charged). r ∷ []) is
+use Rattle.demand.proofs.Sums.{total-snoc}
 
 -- ---- sums
 

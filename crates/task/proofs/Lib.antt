@@ -1,4 +1,5 @@
 -- Laws that belong to no one function.
+pub mod FaultLaws
 pub mod NameLaws
 pub mod TaskLaws
 pub mod RefusalLaws

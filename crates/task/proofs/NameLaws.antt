@@ -3,19 +3,19 @@
 --
 --   formed-exact          the test of a name's form holds exactly where the name has its form
 --   same-bytes-exact, same-name-exact     the test of two names holds exactly where they are equal: lengths and all bytes
---   spelt-step, spelt-bad, spelt-end, spelt-long    a name's form, byte by byte
---   same_step, same-differ, same_end                two names, byte by byte
-use mathlib.Core.Path.{◌≡◌, refl, sym, ap, subst, ◌∙◌}
-use mathlib.Core.Bool.{true, false, and-false}
+--   spelt-long, spelt-tested                        a length past the bytes; the form as two tests, of the name bytes and of the zeros
+--   pointwise_same                                  std's test of two lists is that of two names' bytes
+use mathlib.Core.Path.{◌≡◌, refl, sym, subst, ◌∙◌}
+use mathlib.Core.Bool.{true, false, ◌&&◌, and-false, and_assoc}
 use mathlib.Core.Logic.{◌↔◌}
 use mathlib.Core.List.{List, [], ◌∷◌}
 use Prim.Native.Nat.{ℕ, zero, suc, ◌+◌, ◌≤◌, ◌<◌}
-use native.Mathlib.Numerals.{add-one}
 use native.Mathlib.Omega.{arith}
-use borrow.Author.Tests.{eq-eqb, ne_eqb, eqb-true, leb-true, le-leb, lt-leb, lt-ltb, le-ltb}
+use borrow.Author.Tests.{eq-eqb, eqb-true, leb-true, le-leb, lt-leb, lt-ltb, le-ltb}
 use lib.Dec.{leb, eqb}
-use lib.ListN.{length, take, drop, get_or, drop_of_length-le}
-use lib.Seq.{drop-cons}
+use lib.Pointwise.{pointwise}
+use lib.ListN.{length, take, drop}
+use Rattle.std.specs.List.{list_all}
 use Rattle.demand.specs.Sizes.{Each}
 use Rattle.demand.proofs.Tests.{both_left, both_right}
 use Rattle.task.specs.declared.Name.{Name}
@@ -29,16 +29,6 @@ spelt-more n i (b ∷ bs) h = rw (spelt-more n (i + 1) bs (omega arith)) (and-fa
 
 pub spelt-long : (n : ℕ) (bs : List ℕ) → length bs < n → spelt n bs ≡ false
 spelt-long n bs h = spelt-more n 0 bs (omega arith)
-
-module _ (bs : List ℕ) (i : ℕ) (room : i < length bs) (n : ℕ) where
-  pub spelt-step : fits_at (get_or bs i 0) i n ≡ true → spelt_from n i (drop i bs) ≡ spelt_from n (i + 1) (drop (i + 1) bs)
-  spelt-step good = rw (drop-cons bs i 0, good) (ap (λ (k : ℕ). spelt_from n (i + 1) (drop k bs)) (sym (add-one i)))
-
-  pub spelt-bad : fits_at (get_or bs i 0) i n ≡ false → spelt_from n i (drop i bs) ≡ false
-  spelt-bad bad = rw (drop-cons bs i 0, bad)
-
-pub spelt-end : (n i : ℕ) (bs : List ℕ) → length bs ≤ i → n ≤ i → spelt_from n i (drop i bs) ≡ true
-spelt-end n i bs short h = rw (drop_of_length-le bs {i = i} short) (le-leb n i h)
 
 -- past the length only zeros stand
 zeros-exact : (n i : ℕ) → n ≤ i → (bs : List ℕ) → (spelt_from n i bs ≡ true) ↔ Each (λ b. b ≡ 0) bs
@@ -81,17 +71,30 @@ formed-exact n =
       λ f. rw (le-leb 1 n.len f.some) (spelling.1 (f.few, f.spells, f.zeros)),
     )
 
+-- the name bytes, and then zeros, as two tests
+zeros-tested : (n i : ℕ) (bs : List ℕ) → n ≤ i → spelt_from n i bs ≡ list_all (λ b. eqb b 0) bs
+zeros-tested n i [] h = le-leb n i h
+zeros-tested n i (b ∷ bs) h = rw (le-ltb i n h, zeros-tested n (i + 1) bs (omega arith))
+
+parts-tested : (n k i : ℕ) (bs : List ℕ) → n ≡ i + k → k ≤ length bs
+    → (list_all name_byte (take k bs) && list_all (λ b. eqb b 0) (drop k bs)) ≡ spelt_from n i bs
+parts-tested n zero i bs is few = sym (zeros-tested n i bs (omega arith))
+parts-tested n (suc k) i [] is few = absurd (omega arith)
+parts-tested n (suc k) i (b ∷ bs) is few =
+    rw (lt-ltb i n (omega arith), ← parts-tested n k (i + 1) bs (omega arith) (omega arith))
+    (and_assoc (name_byte b) (list_all name_byte (take k bs)) (list_all (λ b. eqb b 0) (drop k bs)))
+
+pub spelt-tested : (n : ℕ) (bs : List ℕ) → n ≤ length bs → (list_all name_byte (take n bs) && list_all (λ b. eqb b 0) (drop n bs)) ≡ spelt n bs
+spelt-tested n bs few = parts-tested n n 0 bs (omega arith) few
+
 -- ---- equality
 
-module _ (as' bs : List ℕ) (i : ℕ) (room : i < length as') (other : i < length bs) where
-  pub same_step : get_or as' i 0 ≡ get_or bs i 0 → same_bytes (drop i as') (drop i bs) ≡ same_bytes (drop (i + 1) as') (drop (i + 1) bs)
-  same_step e = rw (add-one, drop-cons as' i 0 room, drop-cons bs i 0 other, eq-eqb (get_or as' i 0) (get_or bs i 0) e)
-
-  pub same-differ : (get_or as' i 0 ≡ get_or bs i 0 → ⊥) → same_bytes (drop i as') (drop i bs) ≡ false
-  same-differ e = rw (drop-cons as' i 0 room, drop-cons bs i 0 other, ne_eqb (get_or as' i 0) (get_or bs i 0) e)
-
-pub same_end : (as' bs : List ℕ) (i : ℕ) → length as' ≤ i → length bs ≤ i → same_bytes (drop i as') (drop i bs) ≡ true
-same_end as' bs i short shorter = rw (drop_of_length-le as' {i = i} short, drop_of_length-le bs {i = i} shorter)
+-- std's test of two lists
+pub pointwise_same : (a b : List ℕ) → pointwise eqb a b ≡ same_bytes a b
+pointwise_same [] [] = refl
+pointwise_same [] (y ∷ b) = refl
+pointwise_same (x ∷ a) [] = refl
+pointwise_same (x ∷ a) (y ∷ b) = rw (pointwise_same a b)
 
 bytes-equal : (a b : List ℕ) → same_bytes a b ≡ true → a ≡ b
 bytes-equal [] [] e = refl

@@ -16,7 +16,7 @@ use borrow.Author.Tests.{ne_eqb}
 use lib.Dec.{eqb, leb}
 use lib.ListN.{take}
 use Rattle.demand.specs.declared.Costs.{Costs}
-use Rattle.demand.specs.Sizes.{sized, sized_costs, Some}
+use Rattle.demand.specs.Sizes.{sized, sized_costs, SomeOf}
 use Rattle.demand.specs.Tables.{Rule, ◌if◌carrying◌, Not, Gives, Kept, down_each}
 use Rattle.demand.proofs.RefusalLaws.{sized-breaks, costs-break}
 use Rattle.demand.proofs.TableLaws.{Comes, none, here, next, comes-kept, comes-refused, comes-front, comes-behind}
@@ -53,7 +53,7 @@ machine-breaks m = breaks-exact (sized_machine m) (machine-exact m)
 
 module _ {A : Type 0} (key : A → Name) (n : Name) where
   abbrev Named : List A → Type 0
-  Named xs = Some (λ x. key x ≡ n) xs
+  Named xs = SomeOf (λ x. key x ≡ n) xs
 
   named-from : (k : ℕ) (xs : List A) → 1 ≤ k → Breaks (Named xs) (eqb (place_by key k n xs) 0)
   named-from k [] some = record { breaks = λ e. absurd (true≢false e); fails = λ never. absurd never }

@@ -1,127 +1,96 @@
 -- Laws of lists of tasks: the search for a name and for a fault, one task on.
 -- Assumes nothing.
 --
---   by-other, by-here, by_end             the place of a name among the first m of things that have one
---   fault-none, fault-here, fault-end
---   run-other, run-here, run_end          the same of tasks
---   run-twin, run-fault, run-good, run-fault-end     the first fault among them: at a task with a twin above it, at one without, none there, none at all
+--   position-place, any-place             the place of a name among things that have one, as std's `position` and `any` answer it
+--   fault-own, fault-below                the fault of a task: its own, and where it has none, a name that one above it has
 --   fault-form, fault-free      a task with a bad name; a good one
 --   rule-fine, or-else-fine     a rule that gives no number is kept
---   tasks-none, tasks-listed, tasks-at      a list in its array
+--   tasks-listed, tasks-at      a list in its array
 --   machine-exact               a machine is within its sizes exactly where its test says so
 --   Good, Sane, state-sane      what is known of tasks, and of a machine with costs and tasks, that break no rule
-use mathlib.Core.Path.{◌≡◌, refl, sym, ap, ◌∙◌}
-use mathlib.Core.Bool.{Bool, true, false}
+use mathlib.Core.Path.{◌≡◌, refl, ap, ◌∙◌}
+use mathlib.Core.Bool.{Bool, true, false, cond, not, ◌||◌}
 use mathlib.Core.Logic.{◌↔◌}
 use mathlib.Core.List.{List, [], ◌∷◌, ◌++◌}
 use Prim.Native.Nat.{ℕ, zero, suc, ◌+◌, ◌≤◌, ◌<◌}
-use native.Mathlib.Nat.{le_of_lt}
-use native.Mathlib.Numerals.{add-one}
 use native.Mathlib.Omega.{arith}
 use borrow.Author.Rules.{rules}
 use borrow.Author.Tests.{eq-eqb, ne_eqb, eqb-true, leb-true}
-use lib.Dec.{eqb, leb}
-use lib.ListN.{length, take, drop, get_or, replicate, length-take, drop_of_length-le, get_or-append}
-use Rattle.demand.proofs.PaddedLaws.{padded-none, padded-take, padded-append}
-use lib.Seq.{drop-cons, take-suc, take-take, get_or-take}
+use lib.Dec.{eqb, leb, ltb}
+use lib.ListN.{length, take, get_or-append}
+use Rattle.demand.proofs.PaddedLaws.{padded-take, padded-append}
+use Rattle.std.specs.declared.option.Option.TheVariants.{None, Some}
+use Rattle.std.specs.List.{list_any, position, position_or_len}
 use Rattle.task.specs.declared.Name.{Name}
+use Rattle.task.specs.declared.faults.Fault.{Fault}
+use Rattle.task.specs.Faults.{number_of}
 use Rattle.task.specs.declared.Task.{Task}
 use Rattle.task.specs.declared.Machine.{Machine}
 use Rattle.demand.specs.declared.Costs.{Costs}
 use Rattle.demand.specs.Sizes.{sized, sized_costs, Sized, SizedCosts, Each, time_most}
 use Rattle.demand.proofs.SizeLaws.{tells-exact, Bounds, tells-bounds, sized-exact, costs-exact}
+use Rattle.task.proofs.FaultLaws.{number-some}
 use Rattle.task.specs.Names.{formed, same_name}
-use Rattle.task.specs.Tasks.{whole_piece, place_by, place_of, fault_of, first_fault, or_else, past, task_at, no_task}
+use Rattle.task.specs.Tasks.{whole_piece, place_by, place_of, place_number, own_fault, fault_of, first_fault, or_else, past, task_at, no_task}
 use Rattle.task.specs.Tasks.{tasks_of, list_of, rule, state_fault, SizedMachine, sized_machine, cores_most, tasks_most}
 
 -- ---- the place of a name, among things that have one
 
+search-step : (b : Bool) (p m k rest : ℕ) → cond (ltb p m) (k + 1 + p) 0 ≡ rest
+    → cond (ltb (cond (not b) (1 + p) 0) (suc m)) (k + cond (not b) (1 + p) 0) 0 ≡ cond b k rest
+search-step true p m k rest e = grind arith
+search-step false p m k rest e = grind (arith, e)
+
+counted : (b : Bool) (p : ℕ) → place_number (cond b (Some p) None) ≡ cond b (1 + p) 0
+counted true p = omega arith
+counted false p = refl
+
+any-step : (b rest : Bool) (k place : ℕ) → rest ≡ not (eqb place 0) → (b || rest) ≡ not (eqb (cond b (k + 1) place) 0)
+any-step true rest k place e = rw (ne_eqb (k + 1) 0 (λ e. omega arith))
+any-step false rest k place e = e
+
 module _ {A : Type 0} (key : A → Name) where
-  module _ (n : Name) (xs : List A) (i : ℕ) (d : A) (room : i < length xs) where
-    place_other : same_name n (key (get_or xs i d)) ≡ false → place_by key (i + 1) n (drop i xs) ≡ place_by key (i + 1 + 1) n (drop (i + 1) xs)
-    place_other e = rw (add-one, drop-cons xs i d, e)
+  -- the same search in std's words, from the k-th place on
+  search-place : (n : Name) (k : ℕ) (xs : List A)
+      → cond (ltb (position_or_len (λ x. same_name n (key x)) xs) (length xs)) (k + position_or_len (λ x. same_name n (key x)) xs) 0 ≡ place_by key k n xs
+  search-place n k [] = refl
+  search-place n k (x ∷ xs) =
+      search-step (same_name n (key x)) (position_or_len (λ x. same_name n (key x)) xs) (length xs) k (place_by key (k + 1) n xs) (search-place n (k + 1) xs)
 
-    place_here : same_name n (key (get_or xs i d)) ≡ true → place_by key (i + 1) n (drop i xs) ≡ i + 1
-    place_here e = rw (drop-cons xs i d, e)
+  pub position-place : (n : Name) (xs : List A) → place_number (position (λ x. same_name n (key x)) xs) ≡ place_by key 1 n xs
+  position-place n xs =
+      counted (ltb (position_or_len (λ x. same_name n (key x)) xs) (length xs)) (position_or_len (λ x. same_name n (key x)) xs) ∙ search-place n 1 xs
 
-  -- among the first m of a list
-  module _ (n : Name) (m : ℕ) (xs : List A) (i : ℕ) (d : A) (low : i < m) (room : i < length xs) where
-    pub by-other : same_name n (key (get_or xs i d)) ≡ false → place_by key (i + 1) n (drop i (take m xs)) ≡ place_by key (i + 1 + 1) n (drop (i + 1) (take m xs))
-    by-other e = place_other n (take m xs) i d (omega (arith, length-take m xs)) (rw (get_or-take m xs i d low) e)
+  pub any-place : (n : Name) (k : ℕ) (xs : List A) → list_any (λ x. same_name n (key x)) xs ≡ not (eqb (place_by key (k + 1) n xs) 0)
+  any-place n k [] = refl
+  any-place n k (x ∷ xs) = any-step (same_name n (key x)) (list_any (λ x. same_name n (key x)) xs) k (place_by key (k + 1 + 1) n xs) (any-place n (k + 1) xs)
 
-    pub by-here : same_name n (key (get_or xs i d)) ≡ true → place_by key (i + 1) n (drop i (take m xs)) ≡ i + 1
-    by-here e = place_here n (take m xs) i d (omega (arith, length-take m xs)) (rw (get_or-take m xs i d low) e)
+-- the fault of a task: its own, and then a name that one above it has
+own-step : (a b : Bool) (n rest : ℕ) → (n ≡ 0 → ⊥) → n ≡ rule a 8 (rule b 3 0) → n ≡ rule a 8 (rule b 3 rest)
+own-step true true n rest some e = absurd (some e)
+own-step true false n rest some e = e
+own-step false b n rest some e = e
 
-  pub by_end : (k : ℕ) (n : Name) (m : ℕ) (xs : List A) (i : ℕ) → length (take m xs) ≤ i → place_by key k n (drop i (take m xs)) ≡ 0
-  by_end k n m xs i short = rw (drop_of_length-le (take m xs) {i = i} short)
+below-step : (a b : Bool) (rest : ℕ) → 0 ≡ rule a 8 (rule b 3 0) → rest ≡ rule a 8 (rule b 3 rest)
+below-step true true rest e = refl
+below-step true false rest e = absurd (omega arith)
+below-step false b rest e = absurd (omega arith)
 
--- the same of tasks
-module _ (n : Name) (m : ℕ) (ts : List Task) (i : ℕ) (d : Task) (low : i < m) (room : i < length ts) where
-  pub run-other : same_name n (get_or ts i d).name ≡ false → place_of (i + 1) n (drop i (take m ts)) ≡ place_of (i + 1 + 1) n (drop (i + 1) (take m ts))
-  run-other e = by-other (λ (t : Task). t.name) n m ts i d low room e
+module _ (above : List Task) (t : Task) where
+  pub fault-own : (f : Fault) → number_of f ≡ own_fault t → number_of f ≡ fault_of above t
+  unfolding fault_of
+  fault-own f e =
+      own-step (formed t.name) (sized (whole_piece t.times)) (number_of f) (rule (eqb (place_of 1 t.name above) 0) 4 0) (number-some f) e
 
-  pub run-here : same_name n (get_or ts i d).name ≡ true → place_of (i + 1) n (drop i (take m ts)) ≡ i + 1
-  run-here e = by-here (λ (t : Task). t.name) n m ts i d low room e
-
-pub run_end : (k : ℕ) (n : Name) (m : ℕ) (ts : List Task) (i : ℕ) → length (take m ts) ≤ i → place_of k n (drop i (take m ts)) ≡ 0
-run_end k n m ts i short = by_end (λ (t : Task). t.name) k n m ts i short
-
-module _ (ts : List Task) (i : ℕ) (d : Task) (room : i < length ts) where
-  pub fault-none : fault_of (take i ts) (get_or ts i d) ≡ 0 → first_fault (take i ts) (drop i ts) ≡ first_fault (take (i + 1) ts) (drop (i + 1) ts)
-  fault-none e = rw (add-one, drop-cons ts i d, take-suc ts i d, e)
-
-  pub fault-here : (fault_of (take i ts) (get_or ts i d) ≡ 0 → ⊥) → first_fault (take i ts) (drop i ts) ≡ fault_of (take i ts) (get_or ts i d)
-  fault-here h = rw (drop-cons ts i d) (first (fault_of (take i ts) (get_or ts i d)) h)
+  pub fault-below : 0 ≡ own_fault t → (found : Bool) → found ≡ not (eqb (place_of 1 t.name above) 0) → cond found 4 0 ≡ fault_of above t
+  unfolding fault_of
+  fault-below e found is =
+      below (eqb (place_of 1 t.name above) 0) found is
+      ∙ below-step (formed t.name) (sized (whole_piece t.times)) (rule (eqb (place_of 1 t.name above) 0) 4 0) e
     where
-      first : (k : ℕ) → (k ≡ 0 → ⊥) → or_else k (first_fault (take i ts ++ (get_or ts i d ∷ [])) (drop (suc i) ts)) ≡ k
-      first zero g = absurd (g refl)
-      first (suc k) g = refl
-
-pub fault-end : (above ts : List Task) (i : ℕ) → length ts ≤ i → first_fault above (drop i ts) ≡ 0
-fault-end above ts i short = rw (drop_of_length-le ts {i = i} short)
-
--- the fault of one task, by whether one above it has its name
-abbrev told : Task → ℕ → ℕ
-told t twins = rule (formed t.name) 8 (rule (sized (whole_piece t.times)) 3 twins)
-
-told-twin : (above : List Task) (t : Task) → (place_of 1 t.name above ≡ 0 → ⊥) → fault_of above t ≡ told t 4
-unfolding fault_of
-told-twin above t twin = rw (ne_eqb (place_of 1 t.name above) 0 twin)
-
-told-alone : (above : List Task) (t : Task) → place_of 1 t.name above ≡ 0 → fault_of above t ≡ told t 0
-unfolding fault_of
-told-alone above t alone = rw (eq-eqb (place_of 1 t.name above) 0 alone)
-
-twin-some : (a b : Bool) → rule a 8 (rule b 3 4) ≡ 0 → ⊥
-twin-some true true e = absurd (omega arith)
-twin-some true false e = absurd (omega arith)
-twin-some false b e = absurd (omega arith)
-
--- the same among the first m of a list
-module _ (m : ℕ) (ts : List Task) (i : ℕ) (low : i < m) (room : i < length ts) where
-  run-here-is : fault_of (take i (take m ts)) (task_at (take m ts) i) ≡ fault_of (take i ts) (task_at ts i)
-  run-here-is = rw (take-take i m ts (le_of_lt low), get_or-take m ts i past low)
-
-  run-first : (fault_of (take i ts) (task_at ts i) ≡ 0 → ⊥) → first_fault (take i (take m ts)) (drop i (take m ts)) ≡ fault_of (take i ts) (task_at ts i)
-  run-first h = fault-here (take m ts) i past (omega (arith, length-take m ts)) (λ none. h (sym run-here-is ∙ none)) ∙ run-here-is
-
-  pub run-twin : (place_of 1 (task_at ts i).name (take i ts) ≡ 0 → ⊥) → first_fault (take i (take m ts)) (drop i (take m ts)) ≡ told (task_at ts i) 4
-  run-twin twin =
-      let is = told-twin (take i ts) (task_at ts i) twin in
-      run-first (λ none. twin-some (formed (task_at ts i).name) (sized (whole_piece (task_at ts i).times)) (sym is ∙ none)) ∙ is
-
-  pub run-fault : place_of 1 (task_at ts i).name (take i ts) ≡ 0 → (told (task_at ts i) 0 ≡ 0 → ⊥)
-      → first_fault (take i (take m ts)) (drop i (take m ts)) ≡ told (task_at ts i) 0
-  run-fault alone some =
-      let is = told-alone (take i ts) (task_at ts i) alone in
-      run-first (λ none. some (sym is ∙ none)) ∙ is
-
-  pub run-good : place_of 1 (task_at ts i).name (take i ts) ≡ 0 → told (task_at ts i) 0 ≡ 0
-      → first_fault (take i (take m ts)) (drop i (take m ts)) ≡ first_fault (take (i + 1) (take m ts)) (drop (i + 1) (take m ts))
-  run-good alone none = fault-none (take m ts) i past (omega (arith, length-take m ts)) (run-here-is ∙ (told-alone (take i ts) (task_at ts i) alone ∙ none))
-
-pub run-fault-end : (m : ℕ) (ts : List Task) (i : ℕ) → length (take m ts) ≤ i → first_fault (take i (take m ts)) (drop i (take m ts)) ≡ 0
-run-fault-end m ts i short = fault-end (take i (take m ts)) (take m ts) i short
+      below : (b found : Bool) → found ≡ not b → cond found 4 0 ≡ rule b 4 0
+      below true found is = rw is
+      below false found is = rw is
 
 -- ---- the fault of one task
 
@@ -205,9 +174,6 @@ state-sane m c n ts e =
     }
 
 -- ---- a list in its array
-
-pub tasks-none : (t : Task) → t ≡ no_task → record { count = 0; list = replicate tasks_most t } ≡ tasks_of []
-tasks-none t e = rw (e, padded-none no_task tasks_most)
 
 pub tasks-listed : (ts : List Task) → length ts ≤ tasks_most → list_of (tasks_of ts) ≡ ts
 tasks-listed ts few = padded-take no_task tasks_most ts few

@@ -7,7 +7,7 @@
 --   state_table m c n ts                all
 use Rattle.std.specs.Prelude.{◌≡◌, List, [], ◌∷◌, ◌++◌, ℕ, ◌<◌, take}
 use Rattle.demand.specs.declared.Costs.{Costs}
-use Rattle.demand.specs.Sizes.{Sized, SizedCosts, Some}
+use Rattle.demand.specs.Sizes.{Sized, SizedCosts, SomeOf}
 use Rattle.demand.specs.Tables.{Rule, ◌if◌carrying◌, Not, down_each}
 use Rattle.task.specs.declared.Name.{Name}
 use Rattle.task.specs.declared.Part.{Part}
@@ -17,10 +17,10 @@ use Rattle.task.specs.Names.{Formed}
 use Rattle.task.specs.Tasks.{tasks_most, whole_piece, SizedMachine}
 
 abbrev pub TaskNamed : Name → List Task → Type 0
-TaskNamed n ts = Some (λ t. t.name ≡ n) ts
+TaskNamed n ts = SomeOf (λ t. t.name ≡ n) ts
 
 abbrev pub PartNamed : Name → List Part → Type 0
-PartNamed n ps = Some (λ p. p.name ≡ n) ps
+PartNamed n ps = SomeOf (λ p. p.name ≡ n) ps
 
 abbrev pub task_table : List Task → Task → List Rule
 task_table above t =

@@ -6,14 +6,16 @@
 --   task_of n p         the task n fitted with the part p: every task is made so
 --   place_by key k n xs the place of the first of xs with the name n, counted from k, or 0
 --   place_of k n ts     of the first task named n
+--   place_number p      the place p, from 0, counted from 1; no place is 0
 --   part_place k n ps   of the first part named n
 --   tasks_of ts         the tasks ts in an array of 64, with zeros past their end
 --   list_of q           the tasks that q holds: the first `count`, whatever stands past them
 --   task_at ts i        the task at place i, from 0
+--   own_fault t         what is wrong with the task t by itself: 8, then 3, or 0
 --   fault_of above t    what is wrong with the task t below others: 8, then 3, then 4, or 0
 --   first_fault above ts   the first such fault down the list
 --   state_fault m c n ts   1, then 2, then 6, then the first bad task's
-use Rattle.std.specs.Prelude.{Bool, true, false, cond, ◌&&◌, List, [], ◌∷◌, ◌++◌, ℕ, zero, suc, ◌+◌, ◌≤◌, leb, eqb, take, length, get_or}
+use Rattle.std.specs.Prelude.{Bool, true, false, cond, ◌&&◌, List, [], ◌∷◌, ◌++◌, Option, None, Some, ℕ, zero, suc, ◌+◌, ◌≤◌, leb, eqb, take, length, get_or}
 use Rattle.demand.specs.declared.Kind.TheVariants.{Whole}
 use Rattle.demand.specs.declared.Piece.{Piece}
 use Rattle.demand.specs.declared.Costs.{Costs}
@@ -73,6 +75,10 @@ place_by key k n (x ∷ xs) = cond (same_name n (key x)) k (place_by key (k + 1)
 abbrev pub place_of : ℕ → Name → List Task → ℕ
 place_of k n ts = place_by (λ t. t.name) k n ts
 
+abbrev pub place_number : Option ℕ → ℕ
+place_number None = 0
+place_number (Some i) = suc i
+
 abbrev pub part_place : ℕ → Name → List Part → ℕ
 part_place k n ps = place_by (λ p. p.name) k n ps
 
@@ -81,15 +87,15 @@ abbrev pub rule : Bool → ℕ → ℕ → ℕ
 rule true n rest = rest
 rule false n rest = n
 
--- what a list of tasks, and one of parts, is said to hold past its end, and the task at a place, from 0
+-- what a list of tasks is said to hold past its end, and the task at a place, from 0
 abbrev pub past : Task
 past = record { name = record { len = 0; bytes = [] }; times = no_times }
 
-abbrev pub past_part : Part
-past_part = record { name = record { len = 0; bytes = [] }; times = no_times }
-
 abbrev pub task_at : List Task → ℕ → Task
 task_at ts i = get_or ts i past
+
+abbrev pub own_fault : Task → ℕ
+own_fault t = rule (formed t.name) 8 (rule (sized (whole_piece t.times)) 3 0)
 
 unfoldable pub fault_of : List Task → Task → ℕ
 fault_of above t = rule (formed t.name) 8 (rule (sized (whole_piece t.times)) 3 (rule (eqb (place_of 1 t.name above) 0) 4 0))

@@ -1,13 +1,16 @@
 // Names, times, tasks and the machine, and the rules that they keep: document 01, "Sizes" and "Refusal numbers".
 #![tactic(auto)]
 
+mod faults;
 mod names;
 
 ghost use Rattle.std.specs.Prelude.{◌≡◌, take};
 ghost use Rattle.task.specs.Names.{no_name, formed, same_name};
-ghost use Rattle.task.specs.Tasks.{no_times, no_task, no_machine, task_of, whole_piece, sized_machine, place_of, state_fault};
+ghost use Rattle.task.specs.Faults.{fault_number};
+ghost use Rattle.task.specs.Tasks.{no_times, no_task, no_machine, task_of, whole_piece, sized_machine, list_of, place_of, place_number, own_fault, fault_of, state_fault};
 
 use demand::{Costs, Kind, Piece};
+pub use faults::{Fault, Refused};
 
 /// The most bytes that a name has.
 pub const NAME_MOST: usize = 24;
@@ -19,14 +22,14 @@ pub const TASKS_MOST: usize = 64;
 pub const CORES_MOST: usize = 16;
 
 /// A name: its length, its bytes, and zeros to 24.
-#[derive(Clone, Copy)]
+#[derive(Clone, Copy, PartialEq, Eq)]
 pub struct Name {
     pub len: usize,
     pub bytes: [u8; NAME_MOST],
 }
 
 /// The times of a part or a task: C, D, T, J, P and M.
-#[derive(Clone, Copy)]
+#[derive(Clone, Copy, PartialEq, Eq)]
 pub struct Times {
     pub worst: u64,
     pub deadline: u64,
@@ -37,21 +40,17 @@ pub struct Times {
 }
 
 /// A part: a name, and the times that a task fitted with it has.
-#[derive(Clone, Copy)]
+#[derive(Clone, Copy, PartialEq, Eq)]
 pub struct Part {
     pub name: Name,
     pub times: Times,
 }
 
-/// A list of parts: the first `count` of `list`.
-#[derive(Clone, Copy)]
-pub struct Parts {
-    pub count: usize,
-    pub list: [Part; TASKS_MOST],
-}
+// A list is a count beside an array: document 01's plan is one plain struct of a fixed size, and one made by hand may have any count. What reads a list of
+// tasks takes the slice that `Tasks::held` gives.
 
 /// A task: a name with its times.
-#[derive(Clone, Copy)]
+#[derive(Clone, Copy, PartialEq, Eq)]
 pub struct Task {
     pub name: Name,
     pub times: Times,
@@ -65,11 +64,13 @@ pub struct Tasks {
 }
 
 /// m cores, and the grain of splits.
-#[derive(Clone, Copy)]
+#[derive(Clone, Copy, PartialEq, Eq)]
 pub struct Machine {
     pub cores: usize,
     pub grain: u64,
 }
+
+// What is not said has a name of its own here, as it has in the definitions: `Default` would say no more.
 
 /// No name: no byte, and 24 zeros.
 pub fn no_name() -> Name
@@ -99,9 +100,10 @@ pub fn no_times() -> Times
 pub fn no_task() -> Task
     ensures exact { result ≡ no_task }
 {
-    let name = no_name();
-    let times = no_times();
-    Task { name, times }
+    Task {
+        name: no_name(),
+        times: no_times(),
+    }
 }
 
 /// No machine: no core, and a grain of 0.
@@ -115,35 +117,30 @@ pub fn no_machine() -> Machine
 pub fn task_of(name: Name, part: Part) -> Task
     ensures exact { result ≡ task_of name part }
 {
-    let times = part.times;
-    Task { name, times }
+    Task {
+        name,
+        times: part.times,
+    }
 }
 
 /// Whether a name has its form: 1 to 24 letters, digits, hyphens and full stops, and zeros behind them.
+#[tactic(auto, unfolding(crate::specs::Names::formed))]
 pub fn well_formed(name: Name) -> bool
     ensures exact { result ≡ formed name }
 {
-    let len = name.len;
-    if len < 1 {
-        return false;
-    }
-    let bytes = name.bytes;
-    names::spelt(bytes, len)
+    1 <= name.len && names::spelt(name.bytes, name.len)
 }
 
 /// Whether two names are equal: their lengths and all their bytes are.
+#[tactic(auto, using(crate::proofs::NameLaws::pointwise_same), unfolding(crate::specs::Names::same_name))]
 pub fn same_name(a: Name, b: Name) -> bool
     ensures exact { result ≡ same_name a b }
 {
-    if a.len != b.len {
-        return false;
-    }
-    let these = a.bytes;
-    let those = b.bytes;
-    names::same_bytes(these, those)
+    a == b
 }
 
 /// The whole piece of a task with these times.
+#[tactic(auto, unfolding(crate::specs::Tasks::whole_piece))]
 pub fn whole_piece(times: Times) -> Piece
     ensures exact { result ≡ whole_piece times }
 {
@@ -158,55 +155,71 @@ pub fn whole_piece(times: Times) -> Piece
     }
 }
 
-/// The place, from 1, of the task of that name, or 0.
-pub fn place_of(name: Name, tasks: Tasks) -> usize
-    ensures exact { result ≡ place_of 1 name (take tasks.count tasks.list) }
-{
-    let mut i: usize = 0;
-    while i < tasks.count {
-        if TASKS_MOST <= i {
-            return 0;
-        }
-        let task = tasks.list[i];
-        i += 1;
-        if same_name(name, task.name) {
-            return i;
-        }
+impl Tasks {
+    /// The tasks that it holds: the first `count`, or all of them where it says more.
+    pub fn held(&self) -> &[Task]
+        ensures exact { result.now ≡ list_of self.now }
+    {
+        &self.list[..self.count.min(TASKS_MOST)]
     }
-    0
 }
 
-/// What is wrong with a machine, costs and a list of tasks: 1, 2, 6, then at the first bad task 8, 3 or 4; or 0.
-pub fn state_fault(machine: Machine, costs: Costs, tasks: Tasks) -> u64
-    ensures exact { result ≡ state_fault machine costs tasks.count tasks.list }
+/// The place, from 0, of the task of that name.
+pub fn place_of(name: Name, tasks: Tasks) -> Option<usize>
+    ensures exact { place_number result ≡ place_of 1 name (take tasks.count tasks.list) }
+{
+    tasks
+        .held()
+        .iter()
+        .position(|task| same_name(name, task.name))
+}
+
+/// What is wrong with a task by itself: its name's form, then its times' sizes.
+pub fn own_fault(task: Task) -> Result<(), Fault>
+    ensures exact { fault_number result ≡ own_fault task }
+{
+    if !well_formed(task.name) {
+        return Err(Fault::Form);
+    }
+    if !demand::within_sizes(whole_piece(task.times)) {
+        return Err(Fault::Times);
+    }
+    Ok(())
+}
+
+/// What is wrong with a task below others: what is wrong with it by itself, then a name that one of them has.
+pub fn task_fault(above: &[Task], task: Task) -> Result<(), Fault>
+    ensures exact { fault_number result ≡ fault_of above.now task }
+{
+    own_fault(task)?;
+    if above.iter().any(|other| same_name(task.name, other.name)) {
+        return Err(Fault::Twin);
+    }
+    Ok(())
+}
+
+/// What is wrong with a machine, costs and a list of tasks: a bad machine, bad costs, over 64 tasks, then at the first bad task its form, its times or
+/// a name that one above it has.
+#[tactic(auto, unfolding(crate::specs::Tasks::state_fault))]
+pub fn state_fault(machine: Machine, costs: Costs, tasks: Tasks) -> Result<(), Fault>
+    ensures exact { fault_number result ≡ state_fault machine costs tasks.count tasks.list }
 {
     if !machine_within(machine) {
-        return 1;
+        return Err(Fault::Machine);
     }
     if !demand::costs_within(costs) {
-        return 2;
+        return Err(Fault::Costs);
     }
     if TASKS_MOST < tasks.count {
-        return 6;
+        return Err(Fault::TooMany);
     }
-    names::first_fault(tasks)
+    names::first_fault(tasks.held())
 }
 
 /// Whether m and the grain are within their sizes.
+#[tactic(auto, unfolding(crate::specs::Tasks::sized_machine))]
 pub fn machine_within(machine: Machine) -> bool
     ensures exact { result ≡ sized_machine machine }
 {
-    if machine.cores < 1 {
-        return false;
-    }
-    if CORES_MOST < machine.cores {
-        return false;
-    }
-    if machine.grain < 1 {
-        return false;
-    }
-    if demand::TIME_MOST < machine.grain {
-        return false;
-    }
-    true
+    (1..=CORES_MOST).contains(&machine.cores) && (1..=demand::TIME_MOST).contains(&machine.grain)
 }

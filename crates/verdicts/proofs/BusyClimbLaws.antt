@@ -3,7 +3,7 @@
 --
 --   flow-share, flow-work         the pass over one piece: every length asks for its share, or for the jobs it has by l
 --   flow-none, flow-more          the pass over a core, one piece more
---   reach-part, -over, -full      how far a length must reach, where the shares leave time, are more than all time, or are all
+--   reach-part                    how far a length must reach, where the shares leave time
 --   clear-leap                    a leap passes nothing over
 use mathlib.Core.Path.{◌≡◌, ap}
 use mathlib.Core.List.{List, []}
@@ -11,15 +11,15 @@ use Prim.Native.Nat.{ℕ, ◌+◌, ◌*◌, ◌-◌, ◌/◌, ◌≤◌, ◌<◌
 use native.Mathlib.Nat.{div-mul-le_self, div-lt_iff_lt-mul, mul-le-mul_left, mul-le-mul_right, mul_comm, mul_assoc, mul_left_comm}
 use native.Mathlib.Decide.{dec_lt}
 use native.Mathlib.Omega.{arith}
+use lib.ListN.{length, take, get_or}
 use Rattle.demand.specs.declared.Charged.{Charged}
 use Rattle.verdicts.specs.declared.busy_climb.Flow.{Flow}
 use Rattle.demand.specs.Busy.{busy_load, busy_sum, Clear}
 use Rattle.demand.specs.Demand.{ceil}
-use Rattle.verdicts.specs.ChargedArray.{charged_in, charged_at}
 use Rattle.verdicts.specs.Ways.BusyClimb.{all_time, Flows, Reaches}
 use Rattle.demand.proofs.DemandLaws.{Recurs, busy-load-mono}
 use Rattle.demand.proofs.Division.{ceil-covers}
-use Rattle.verdicts.proofs.ChargedArrayLaws.{total-more}
+use Rattle.verdicts.proofs.CoreLaws.{total-more}
 
 -- ---- one piece
 
@@ -57,13 +57,14 @@ pub flow-none : (v : Flow) (l : ℕ) → v.asked ≡ 0 → v.share ≡ 0 → v.w
 unfolding busy_sum
 flow-none v l asked share work = record { exact = asked; below = λ m h. omega (arith, ap (λ (s : ℕ). m * s) share, work) }
 
-pub flow-more : (a : List ℕ) (i l : ℕ) (u v w : Flow) → Flows (busy_sum (charged_in a i)) l u → Flows (λ m. busy_load m (charged_at a i)) l v
-    → w.asked ≡ u.asked + v.asked → w.share ≡ u.share + v.share → w.work ≡ u.work + v.work → Flows (busy_sum (charged_in a (i + 1))) l w
+pub flow-more : (qs : List Charged) (i : ℕ) (d : Charged) → i < length qs → (l : ℕ) (u v w : Flow) → Flows (busy_sum (take i qs)) l u
+    → Flows (λ m. busy_load m (get_or qs i d)) l v → w.asked ≡ u.asked + v.asked → w.share ≡ u.share + v.share → w.work ≡ u.work + v.work
+    → Flows (busy_sum (take (i + 1) qs)) l w
 unfolding busy_sum
-flow-more a i l u v w before here asked share work =
+flow-more qs i d low l u v w before here asked share work =
     record {
-      exact = omega (arith, total-more (busy_load l) a i, before.exact, here.exact);
-      below = λ m h. omega (arith, ap (λ (s : ℕ). m * s) share, total-more (busy_load m) a i, before.below m h, here.below m h);
+      exact = omega (arith, total-more qs i d low (busy_load l), before.exact, here.exact);
+      below = λ m h. omega (arith, ap (λ (s : ℕ). m * s) share, total-more qs i d low (busy_load m), before.below m h, here.below m h);
     }
 
 -- ---- how far
@@ -76,12 +77,6 @@ module _ (v : Flow) where
       left d pos rest =
           let below : v.work * all_time / d < m + 1 = (div-lt_iff_lt-mul {k = d} pos).1 (omega (arith, ap (λ (s : ℕ). m * s) rest)) in
           omega arith
-
-  pub reach-over : all_time < v.share → Reaches v 100000001
-  reach-over over m some room = absurd (omega (arith, mul-le-mul_left m over))
-
-  pub reach-full : v.share ≡ all_time → 0 < v.work → Reaches v 100000001
-  reach-full full much m some room = absurd (omega (arith, ap (λ (s : ℕ). m * s) full))
 
 -- ---- the climb
 

@@ -1,6 +1,7 @@
 -- Laws that belong to no one function.
-pub mod ChargedArrayLaws
+pub mod CoreLaws
 pub mod LaidLaws
+pub mod LaidRunLaws
 pub mod BusyClimbLaws
 pub mod ReleaseSumLaws
 pub mod MostFittingLaws

@@ -10,15 +10,14 @@ use Prim.Native.Nat.{ℕ, zero, suc, ◌+◌, ◌*◌, ◌-◌, ◌≤◌, ◌<�
 use native.Mathlib.Nat.{suc-mul}
 use native.Mathlib.Decide.{dec_lt, ℕ_discrete}
 use native.Mathlib.Omega.{arith}
-use lib.ListN.{length, get_or, set, replicate, length-set}
+use lib.ListN.{length, take, get_or, set, replicate, length-set}
 use lib.Seq.{get_or-set_same, get_or-set_other}
 use Rattle.demand.specs.declared.Charged.{Charged}
 use Rattle.demand.specs.Busy.{busy_load, busy_sum, Clear}
 use Rattle.demand.specs.Demand.{ceil}
-use Rattle.verdicts.specs.ChargedArray.{charged_in, charged_at}
 use Rattle.verdicts.specs.Ways.ReleaseSums.{Under, Marked, Marks}
 use Rattle.demand.proofs.Division.{ceil-covers, ceil-near, ceil-between, ceil-whole}
-use Rattle.verdicts.proofs.ChargedArrayLaws.{total-more}
+use Rattle.verdicts.proofs.CoreLaws.{total-more}
 
 -- ---- one piece, of the cost c and the period k
 
@@ -116,11 +115,11 @@ pub marks-none : (d : List ℕ) (l : ℕ) → Under 0 d → Marks (busy_sum []) 
 unfolding busy_sum
 marks-none d l none j h = omega (arith, none j)
 
-pub marks-more : (a : List ℕ) (i l : ℕ) (d e : List ℕ) → Marks (busy_sum (charged_in a i)) l d → Marked (charged_at a i) l d e
-    → Marks (busy_sum (charged_in a (i + 1))) l e
+pub marks-more : (qs : List Charged) (i : ℕ) (o : Charged) → i < length qs → (l : ℕ) (d e : List ℕ) → Marks (busy_sum (take i qs)) l d
+    → Marked (get_or qs i o) l d e → Marks (busy_sum (take (i + 1) qs)) l e
 unfolding busy_sum
-marks-more a i l d e before here j h =
-    omega (arith, total-more (busy_load (l + j)) a i, total-more (busy_load (l + j + 1)) a i, before j h, here.grows j h)
+marks-more qs i o low l d e before here j h =
+    omega (arith, total-more qs i o low (busy_load (l + j)), total-more qs i o low (busy_load (l + j + 1)), before j h, here.grows j h)
 
 -- ---- the walk
 

@@ -1,7 +1,8 @@
--- A core laid out in an array, and what is asked of it. The first n places of an array hold a core where n is at most 79 and each piece is within its range; then no
--- sum wraps. Where they hold none, or a number of the question is past its bound, the answer is the refusing one: 0, nothing, undecided.
+-- A core, and what is asked of it. Charged pieces are a core where there are at most 79 and each is within its range; then no sum wraps. Where they are none, or a
+-- number of the question is past its bound, the answer is the refusing one: 0, nothing, undecided.
 --
---   laid a n             the core that the first n places of a hold, if they hold one
+--   laid qs              the core that the pieces are, if they are one
+--   held qs              the core of these pieces
 --   term s t q           the figure s of q at t
 --   laid_sum s t c        a figure of its pieces, summed at the length t
 --   laid_busy_length c     its busy length
@@ -10,10 +11,8 @@
 --   laid_span b a l c     the greatest overloaded length among the l from a
 --   laid_verdict b c      the verdict on it
 --   laid_most_fitting b q a l f c      the greatest charge up to f with which q fits beside it at the l lengths from a, or 0
-use Rattle.std.specs.Prelude.{Bool, true, cond, ◌&&◌, List, [], ◌∷◌, ℕ, ◌+◌, ◌*◌, leb}
+use Rattle.std.specs.Prelude.{Bool, true, cond, ◌&&◌, List, [], ◌∷◌, ℕ, ◌+◌, ◌*◌, leb, length, None, Some, Option}
 use Rattle.demand.specs.declared.Charged.{Charged}
-use Rattle.demand.specs.declared.Found.{Found}
-use Rattle.demand.specs.declared.Found.TheVariants.{Nothing}
 use Rattle.demand.specs.declared.Verdict.{Verdict}
 use Rattle.demand.specs.declared.Verdict.TheVariants.{Undecided}
 use Rattle.verdicts.specs.declared.Sum.{Sum}
@@ -24,24 +23,25 @@ use Rattle.demand.specs.Demand.{jobs_due, load, interrupts, total}
 use Rattle.demand.specs.Busy.{busy_load, busy_length, least_holding}
 use Rattle.demand.specs.Verdict.{scan, verdict}
 use Rattle.demand.specs.Answer.{tight_of_last}
-use Rattle.verdicts.specs.ChargedArray.{charged_in}
 use Rattle.verdicts.specs.MostFitting.{most_fitting}
 
-pub data LaidCore : Type 0 where
-  held : List Charged → LaidCore
-  unlaid : LaidCore
+abbrev pub LaidCore : Type 0
+LaidCore = Option (List Charged)
+
+abbrev pub held : List Charged → LaidCore
+held qs = Some qs
 
 abbrev pub all_ranged : List Charged → Bool
 all_ranged [] = true
 all_ranged (q ∷ qs) = ranged q && all_ranged qs
 
-unfoldable pub laid : List ℕ → ℕ → LaidCore
-laid a n = cond (leb n run_most && all_ranged (charged_in a n)) (held (charged_in a n)) unlaid
+unfoldable pub laid : List Charged → LaidCore
+laid qs = cond (leb (length qs) run_most && all_ranged qs) (held qs) None
 
 -- what f tells of the core, or `none` where there is none
 abbrev pub answer : {A : Type 0} → A → (List Charged → A) → LaidCore → A
-answer none f (held qs) = f qs
-answer none f unlaid = none
+answer none f (Some qs) = f qs
+answer none f None = none
 
 -- ---- sums
 
@@ -56,18 +56,18 @@ laid_sum s t c = cond (leb t length_most) (answer 0 (total (term s t)) c) 0
 
 -- ---- lengths
 
-unfoldable pub laid_busy_length : LaidCore → Found
-laid_busy_length c = answer Nothing busy_length c
+unfoldable pub laid_busy_length : LaidCore → Option ℕ
+laid_busy_length c = answer None busy_length c
 
-unfoldable pub laid_tight_window : ℕ → LaidCore → Found
-laid_tight_window b c = cond (leb b stall_most) (answer Nothing (λ qs. tight_of_last b qs qs) c) Nothing
+unfoldable pub laid_tight_window : ℕ → LaidCore → Option ℕ
+laid_tight_window b c = cond (leb b stall_most) (answer None (λ qs. tight_of_last b qs qs) c) None
 
 -- what no such base is above
 abbrev pub wait_most : ℕ
 wait_most = 10000000
 
-unfoldable pub laid_wait : ℕ → ℕ → LaidCore → Found
-laid_wait k e c = cond (leb k wait_most && leb e busy_most) (answer Nothing (λ qs. least_holding (λ t. k + total (term Interrupts t) qs) e) c) Nothing
+unfoldable pub laid_wait : ℕ → ℕ → LaidCore → Option ℕ
+laid_wait k e c = cond (leb k wait_most && leb e busy_most) (answer None (λ qs. least_holding (λ t. k + total (term Interrupts t) qs) e) c) None
 
 -- ---- verdicts
 

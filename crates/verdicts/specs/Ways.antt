@@ -1,4 +1,5 @@
 -- What no promise rests on.
+pub mod Runs
 pub mod BusyClimb
 pub mod ReleaseSums
 pub mod ChargeWalk

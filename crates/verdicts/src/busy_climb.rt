@@ -3,19 +3,20 @@
 // other for its share of the length. Such a leap is at most about the largest period, so where a long climb gains little by it, a whole stretch of lengths is walked.
 ghost use Rattle.std.specs.Prelude.{◌≡◌, ◌+◌, ◌<◌, ◌≤◌};
 ghost use Rattle.demand.specs.Busy.{busy_load, busy_sum, busy_length, Clear};
-ghost use Rattle.verdicts.specs.ChargedArray.{charged_in};
 ghost use Rattle.verdicts.specs.Ways.BusyClimb.{Flows, Reaches};
 ghost use Rattle.demand.specs.Ways.Ranges.{Ranged};
-ghost use Rattle.demand.specs.Sizes.{Each, busy_most, length_most, run_most};
+ghost use Rattle.demand.specs.Sizes.{busy_most, length_most};
 
-use crate::CORE_NUMBERS;
-use crate::arrays::charged_at;
+use crate::cores::Core;
 use crate::demands::ceil_div;
 use crate::release_sums::held_from;
-use demand::{Charged, Found, greater};
+use demand::{BUSY_MOST, Charged};
 
-// What one pass at l tells: the busy sum there, the shares of the pieces that flow, 2^32 being all time, and the work of the others.
-#[derive(Clone, Copy)]
+// The share that is all time.
+const ALL_TIME: u64 = 1 << 32;
+
+// What one pass at l tells: the busy sum there, the shares of the pieces that flow, and the work of the others.
+#[derive(Clone, Copy, PartialEq, Eq)]
 pub struct Flow {
     pub asked: u64,
     pub share: u64,
@@ -32,121 +33,109 @@ pub fn flow_of(q: Charged, l: u64, edge: u64) -> Flow
     let asked = jobs * cost;
     if jobs * q.period < edge {
         return Flow {
-            asked: asked,
-            share: cost * 4294967296 / q.period,
+            asked,
+            share: cost * ALL_TIME / q.period,
             work: 0,
         };
     }
     Flow {
-        asked: asked,
+        asked,
         share: 0,
         work: asked,
     }
 }
 
-pub fn flow_at(core: &[u64; CORE_NUMBERS], n: usize, l: u64, edge: u64) -> Flow
-    requires n_le_run_most { (n ≤ run_most) × Each Ranged (charged_in core.now n) }
-    requires l_in_bounds { l ≤ length_most }
-    ensures { Flows (busy_sum (charged_in core.now n)) l result × (result.asked ≤ 79000000000000000) }
+pub fn flow_at(core: &Core, l: u64, edge: u64) -> Flow
+    requires { l ≤ length_most }
+    ensures { Flows (busy_sum core.now) l result × (result.asked ≤ 79000000000000000) }
 {
     let mut asked: u64 = 0;
     let mut share: u64 = 0;
     let mut work: u64 = 0;
-    let mut i: usize = 0;
-    while i < n {
-        let f = flow_of(charged_at(core, i), l, edge);
+    for q in core.pieces {
+        let f = flow_of(*q, l, edge);
         asked += f.asked;
         share += f.share;
         work += f.work;
-        i += 1;
     }
-    Flow {
-        asked: asked,
-        share: share,
-        work: work,
-    }
+    Flow { asked, share, work }
 }
 
 // What no length that the pass allows is below: past the limit where the pieces that flow take up all time, or the others more than the limit.
 pub fn reach_of(f: Flow) -> u64
     ensures { Reaches f result × (result ≤ 500000000000000000) }
 {
-    if 100000000 < f.work {
-        return 100000001;
+    if BUSY_MOST < f.work {
+        return BUSY_MOST + 1;
     }
-    if f.share < 4294967296 {
-        return f.work * 4294967296 / (4294967296 - f.share);
+    if f.share < ALL_TIME {
+        return f.work * ALL_TIME / (ALL_TIME - f.share);
     }
-    if 4294967296 < f.share {
-        return 100000001;
+    if ALL_TIME < f.share {
+        return BUSY_MOST + 1;
     }
     if 0 < f.work {
-        return 100000001;
+        return BUSY_MOST + 1;
     }
     0
 }
 
 // Where the climb goes on from l: to `next` where that is far, else through the stretch from l on.
-pub fn leap(core: &[u64; CORE_NUMBERS], n: usize, l: u64, asked: u64, next: u64) -> u64
-    requires n_le_run_most { (n ≤ run_most) × Each Ranged (charged_in core.now n) }
-    requires l_le_busy_most { (l ≤ busy_most) × (asked ≡ busy_sum (charged_in core.now n) l) × (asked ≤ 79000000000000000) × Clear (busy_sum (charged_in core.now n)) (l + 1) }
-    requires clear { Clear (busy_sum (charged_in core.now n)) next }
-    ensures { (l < result) × Clear (busy_sum (charged_in core.now n)) result × (result < l + 256 → busy_sum (charged_in core.now n) result ≤ result) }
+pub fn leap(core: &Core, l: u64, asked: u64, next: u64) -> u64
+    requires l_le_busy_most { (l ≤ busy_most) × (asked ≡ busy_sum core.now l) × (asked ≤ 79000000000000000) × Clear (busy_sum core.now) (l + 1) }
+    requires clear { Clear (busy_sum core.now) next }
+    ensures { (l < result) × Clear (busy_sum core.now) result × (result < l + 256 → busy_sum core.now result ≤ result) }
 {
     if l + 256 <= next {
         return next;
     }
-    held_from(core, n, l, asked)
+    held_from(core, l, asked)
 }
 
 // The climb from l on, where it is long. Each pass looks ahead by the mean of the last look and the last leap. A turn ends the climb or gains 256 lengths, so there are at
 // most 390,626.
-pub fn climb_far(core: &[u64; CORE_NUMBERS], n: usize, from: u64) -> Found
-    requires n_le_run_most { (n ≤ run_most) × Each Ranged (charged_in core.now n) }
-    requires le_from { (1 ≤ from) × Clear (busy_sum (charged_in core.now n)) from }
-    ensures { result ≡ busy_length (charged_in core.now n) }
+pub fn climb_far(core: &Core, from: u64) -> Option<u64>
+    requires { (1 ≤ from) × Clear (busy_sum core.now) from }
+    ensures { result ≡ busy_length core.now }
 {
     let mut l = from;
     let mut ahead: u64 = 0;
-    while l <= 100000000 {
-        let f = flow_at(core, n, l, l + ahead);
+    while l <= BUSY_MOST {
+        let f = flow_at(core, l, l + ahead);
         if f.asked <= l {
-            return Found::At(l);
+            return Some(l);
         }
-        let next = greater(f.asked, reach_of(f));
+        let next = f.asked.max(reach_of(f));
         ahead = (ahead + (next - l)) / 2;
-        let m = leap(core, n, l, f.asked, next);
+        let m = leap(core, l, f.asked, next);
         if m < l + 256 {
-            if 100000000 < m {
-                return Found::Nothing;
+            if BUSY_MOST < m {
+                return None;
             }
-            return Found::At(m);
+            return Some(m);
         }
         l = m;
     }
-    Found::Nothing
+    None
 }
 
-// The busy length of the n pieces, if there is one up to the limit. The first pass lets all pieces flow: where they take up more than all time there is none. While the
+// The busy length of the pieces, if there is one up to the limit. The first pass lets all pieces flow: where they take up more than all time there is none. While the
 // climb is short, the others go by what is asked alone.
-pub fn climb_busy(core: &[u64; CORE_NUMBERS], n: usize) -> Found
-    requires { (n ≤ run_most) × Each Ranged (charged_in core.now n) }
-    ensures { result ≡ busy_length (charged_in core.now n) }
+pub fn climb_busy(core: &Core) -> Option<u64>
+    ensures { result ≡ busy_length core.now }
 {
     let mut l: u64 = 1;
     let mut ahead: u64 = 200000000;
-    let mut plain: u64 = 256;
-    while 0 < plain {
-        if 100000000 < l {
-            return Found::Nothing;
+    for _ in 0..256 {
+        if BUSY_MOST < l {
+            return None;
         }
-        let f = flow_at(core, n, l, l + ahead);
+        let f = flow_at(core, l, l + ahead);
         if f.asked <= l {
-            return Found::At(l);
+            return Some(l);
         }
-        l = greater(f.asked, reach_of(f));
+        l = f.asked.max(reach_of(f));
         ahead = 0;
-        plain -= 1;
     }
-    climb_far(core, n, l)
+    climb_far(core, l)
 }

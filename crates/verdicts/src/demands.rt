@@ -1,15 +1,16 @@
 // Jobs due, interrupts, the sums and the demand g(t), over charged pieces. Nothing wraps: lengths are at most 101,000,000.
-ghost use Rattle.std.specs.Prelude.{◌≡◌, ◌+◌, ◌*◌, ◌-◌, ◌<◌, ◌≤◌, min, max};
+ghost use Rattle.std.specs.Prelude.{◌≡◌, ◌+◌, ◌*◌, ◌-◌, ◌<◌, ◌≤◌};
 ghost use Rattle.demand.specs.Busy.{busy_load};
-ghost use Rattle.demand.specs.Demand.{ceil, jobs_due, interrupts, load, total, largest_window, least_live, demand};
-ghost use Rattle.verdicts.specs.ChargedArray.{charged_in};
+ghost use Rattle.demand.specs.Demand.{ceil, jobs_due, interrupts, load, blocking, total, least_live, demand};
 ghost use Rattle.verdicts.specs.Laid.{term};
 ghost use Rattle.demand.specs.Ways.Ranges.{Ranged, stall_most, release_most};
-ghost use Rattle.demand.specs.Sizes.{Each, length_most, time_most, run_most};
+ghost use Rattle.demand.specs.Sizes.{length_most, time_most};
 
-use crate::arrays::charged_at;
-use crate::{CORE_NUMBERS, Sum};
-use demand::{Charged, greater, less, lesser};
+use crate::Sum;
+use crate::cores::Core;
+use crate::laid::laid_least_live;
+use crate::stalls::StalledCore;
+use demand::Charged;
 
 pub fn ceil_div(a: u64, b: u64) -> u64
     requires { (a ≤ 200000000) × (1 ≤ b) × (b ≤ time_most) }
@@ -91,58 +92,36 @@ pub fn term_of(sum: Sum, q: Charged, t: u64) -> u64
     }
 }
 
-// One of the sums over the first n pieces.
-pub fn sum_at(core: &[u64; CORE_NUMBERS], n: usize, sum: Sum, t: u64) -> u64
-    requires n_le_run_most { (n ≤ run_most) × Each Ranged (charged_in core.now n) }
-    requires t_in_bounds { t ≤ length_most }
-    ensures { (result ≡ total (term sum t) (charged_in core.now n)) × (result ≤ 79000000000000000) }
+// One of the sums over the pieces.
+pub fn sum_at(core: &Core, sum: Sum, t: u64) -> u64
+    requires { t ≤ length_most }
+    ensures { (result ≡ total (term sum t) core.now) × (result ≤ 79000000000000000) }
 {
     let mut so_far: u64 = 0;
-    let mut i: usize = 0;
-    while i < n {
-        let q = charged_at(core, i);
-        so_far += term_of(sum, q, t);
-        i += 1;
+    for q in core.pieces {
+        so_far += term_of(sum, *q, t);
     }
     so_far
 }
 
-pub fn largest_window(core: &[u64; CORE_NUMBERS], n: usize) -> u64
-    requires { n ≤ run_most }
-    ensures { result ≡ largest_window (charged_in core.now n) }
+// t0, or 0 where there is no piece.
+pub fn least_live(core: &Core) -> u64
+    ensures { (result ≡ least_live core.now) × (result ≤ time_most) }
 {
-    let mut widest: u64 = 0;
-    let mut i: usize = 0;
-    while i < n {
-        let q = charged_at(core, i);
-        widest = greater(widest, q.window);
-        i += 1;
-    }
-    widest
+    laid_least_live(core.pieces)
 }
 
-// t0, where there is a piece.
-pub fn least_live(core: &[u64; CORE_NUMBERS], n: usize) -> u64
-    requires { (1 ≤ n) × (n ≤ run_most) }
-    ensures { result ≡ least_live (charged_in core.now n) }
+// b(t).
+pub fn blocking_at(core: &StalledCore, t: u64) -> u64
+    ensures { (result ≡ blocking core.now.stall core.now.pieces.now t) × (result ≤ stall_most) }
 {
-    let head = charged_at(core, 0);
-    let mut soonest = less(head.window, head.jitter);
-    let mut i: usize = 0;
-    while i < n {
-        let q = charged_at(core, i);
-        soonest = lesser(soonest, less(q.window, q.jitter));
-        i += 1;
-    }
-    soonest
+    if t < core.widest { core.stall } else { 0 }
 }
 
-// g(t), for a core with the stall b and the largest window w.
-pub fn demand_at(core: &[u64; CORE_NUMBERS], n: usize, b: u64, w: u64, t: u64) -> u64
-    requires n_le_run_most { (n ≤ run_most) × Each Ranged (charged_in core.now n) }
-    requires b_le_stall_most { (b ≤ stall_most) × (w ≡ largest_window (charged_in core.now n)) × (t ≤ length_most) }
-    ensures { result ≡ demand b (charged_in core.now n) t }
+// g(t).
+pub fn demand_at(core: &StalledCore, t: u64) -> u64
+    requires { t ≤ length_most }
+    ensures { result ≡ demand core.now.stall core.now.pieces.now t }
 {
-    let loads = sum_at(core, n, Sum::Load, t);
-    if t < w { b + loads } else { loads }
+    blocking_at(core, t) + sum_at(core.pieces, Sum::Load, t)
 }

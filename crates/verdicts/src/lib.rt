@@ -1,48 +1,48 @@
 // The engine: the verdict on a core, its busy length, its demand and tight windows. What each of these means stands in `demand`.
 //
-// A run of records is asked about at once (`judge_records` to `tight_window`), and refused as document 01 refuses it. Or a core is laid out in a lent array, once, by
-// `lay_records` and `lay_piece`, and asked about as often as needed by the functions in `laid_`, which refuse an array that holds no core (`specs/Laid.antt`).
+// A run of records is asked about at once (`judge_records` to `tight_window`), and refused as document 01 refuses it. Or charged pieces are looked at once, by
+// `Core::of`, and asked about as often as needed by the methods of `Core`. The functions in `laid_` ask pieces that may be no core, and refuse them (`specs/Laid.antt`).
 //
 // Every public function takes any input, and its contract is an equation with one definition.
 #![tactic(auto)]
 
-mod arrays;
 mod busy_climb;
-mod charges;
+mod cores;
 mod demands;
+mod laid;
 mod lengths;
 mod most_fitting;
 mod queries;
 mod release_sums;
+mod runs;
 mod shows;
 mod slacks;
 mod spans;
+mod stalls;
 mod stretches;
 
-ghost use Rattle.std.specs.Prelude.{◌≡◌};
+ghost use Rattle.std.specs.Prelude.{◌≡◌, length};
 ghost use Rattle.demand.specs.Answer.{answer_of, busy_figure, demand_figure, showing_of, tight_figure};
-ghost use Rattle.demand.specs.Records.{records_of};
+ghost use Rattle.demand.specs.Records.{pieces_in};
 
-use arrays::lay_out;
-pub use arrays::{laid_piece, lay_piece, lay_records};
 use busy_climb::climb_busy;
-use charges::stall_of;
+pub use cores::Core;
 use demand::{
-    Answer, BUSY_MOST, COST_MOST, Check, Costs, Figure, Found, RUN_MOST, RUN_NUMBERS, Run, Showing,
-    TIME_MOST, check_records, records_of,
+    BUSY_MOST, COST_MOST, Costs, RUN_MOST, Record, Refusal, Run, Shown, TIME_MOST, Verdict,
+    records_of,
 };
-use demands::{demand_at, largest_window};
-use lengths::tight_of;
-pub use queries::{
+use demands::demand_at;
+pub use laid::{
     laid_busy_length, laid_largest_window, laid_least_live, laid_most_fitting, laid_span, laid_sum,
     laid_tight_window, laid_verdict, laid_wait,
 };
+use lengths::tight_of;
+pub use runs::lay_records;
+use runs::lay_run;
 pub use shows::ask_of;
 use shows::show_core;
 use spans::judge_core;
-
-/// How many numbers a core that is laid out is, seven to a charged piece. As many as a lent run of records, with other columns.
-pub const CORE_NUMBERS: usize = 7 * RUN_MOST;
+use stalls::stalled;
 
 /// What no judged length reaches: the limit of the busy length and a window.
 pub const LENGTH_MOST: u64 = BUSY_MOST + TIME_MOST;
@@ -66,7 +66,7 @@ pub const MARKS_MOST: usize = 1024;
 pub const MARKS_LAST: usize = MARKS_MOST - 1;
 
 /// Which figure of the pieces is summed: what they ask for within a length, and of that the interrupts and the jobs due alone; or what they ask of it as a busy length.
-#[derive(Clone, Copy)]
+#[derive(Clone, Copy, PartialEq, Eq)]
 pub enum Sum {
     Load,
     Interrupts,
@@ -74,88 +74,71 @@ pub enum Sum {
     Busy,
 }
 
-/// The verdict on the first `count` records of a run that is lent as numbers: 6, then 2, then 3 with the record's place, else the verdict.
-pub fn judge_records(costs: Costs, records: &[u64; RUN_NUMBERS], count: usize) -> Answer
-    ensures exact { result ≡ answer_of costs count (records_of records.now) }
+/// The verdict on a run of records: 6, then 2, then 3 with the record's place, else the verdict.
+pub fn judge_records(costs: Costs, records: &[Record]) -> Result<Verdict, Refusal>
+    ensures exact { result ≡ answer_of costs (length records.now) (pieces_in records.now) }
 {
-    match check_records(costs, records, count) {
-        Check::Bad(why) => Answer::Refused(why),
-        Check::Fine => {
-            let mut core: [u64; CORE_NUMBERS] = [0; CORE_NUMBERS];
-            lay_out(&mut core, costs, records, count);
-            Answer::Judged(judge_core(&core, count, stall_of(costs)))
-        }
-    }
+    let run = lay_run(costs, records)?;
+    let core = Core {
+        pieces: &run.pieces[..records.len()],
+    };
+    Ok(judge_core(&stalled(&core, run.stall)))
 }
 
 /// The same of a run by value.
-pub fn judge(costs: Costs, run: Run) -> Answer
+pub fn judge(costs: Costs, run: Run) -> Result<Verdict, Refusal>
     ensures exact { result ≡ answer_of costs run.count run.pieces }
 {
+    if RUN_MOST < run.count {
+        return Err(Refusal::TooMany);
+    }
     let records = records_of(run);
-    let n = run.count;
-    judge_records(costs, &records, n)
+    judge_records(costs, &records[..run.count])
 }
 
-/// What is shown of the verdict on the first `count` records; refused as that is.
-pub fn show_records(costs: Costs, records: &[u64; RUN_NUMBERS], count: usize) -> Showing
-    ensures exact { result ≡ showing_of costs count (records_of records.now) }
+/// What is shown of the verdict on a run of records; refused as that is.
+pub fn show_records(costs: Costs, records: &[Record]) -> Result<Shown, Refusal>
+    ensures exact { result ≡ showing_of costs (length records.now) (pieces_in records.now) }
 {
-    match check_records(costs, records, count) {
-        Check::Bad(why) => Showing::Unshown(why),
-        Check::Fine => {
-            let mut core: [u64; CORE_NUMBERS] = [0; CORE_NUMBERS];
-            lay_out(&mut core, costs, records, count);
-            Showing::Shows(show_core(&core, count, stall_of(costs)))
-        }
-    }
+    let run = lay_run(costs, records)?;
+    let core = Core {
+        pieces: &run.pieces[..records.len()],
+    };
+    Ok(show_core(&stalled(&core, run.stall)))
 }
 
-/// The busy length L of the first `count` records, if there is one up to the limit; refused as their verdict is.
-pub fn busy_length(costs: Costs, records: &[u64; RUN_NUMBERS], count: usize) -> Figure
-    ensures exact { result ≡ busy_figure costs count (records_of records.now) }
+/// The busy length L of a run of records, if there is one up to the limit; refused as their verdict is.
+pub fn busy_length(costs: Costs, records: &[Record]) -> Result<Option<u64>, Refusal>
+    ensures exact { result ≡ busy_figure costs (length records.now) (pieces_in records.now) }
 {
-    match check_records(costs, records, count) {
-        Check::Bad(why) => Figure::Barred(why),
-        Check::Fine => {
-            let mut core: [u64; CORE_NUMBERS] = [0; CORE_NUMBERS];
-            lay_out(&mut core, costs, records, count);
-            Figure::Of(climb_busy(&core, count))
-        }
-    }
+    let run = lay_run(costs, records)?;
+    let core = Core {
+        pieces: &run.pieces[..records.len()],
+    };
+    Ok(climb_busy(&core))
 }
 
 /// Their demand g(t), for a t that a judged length can be.
-pub fn demand_of(costs: Costs, records: &[u64; RUN_NUMBERS], count: usize, t: u64) -> Figure
-    ensures exact { result ≡ demand_figure costs count (records_of records.now) t }
+pub fn demand_of(costs: Costs, records: &[Record], t: u64) -> Result<Option<u64>, Refusal>
+    ensures exact { result ≡ demand_figure costs (length records.now) (pieces_in records.now) t }
 {
-    match check_records(costs, records, count) {
-        Check::Bad(why) => Figure::Barred(why),
-        Check::Fine => {
-            if LENGTH_MOST < t {
-                return Figure::Of(Found::Nothing);
-            }
-            let mut core: [u64; CORE_NUMBERS] = [0; CORE_NUMBERS];
-            lay_out(&mut core, costs, records, count);
-            let w = largest_window(&core, count);
-            Figure::Of(Found::At(demand_at(&core, count, stall_of(costs), w, t)))
-        }
+    let run = lay_run(costs, records)?;
+    if LENGTH_MOST < t {
+        return Ok(None);
     }
+    let core = Core {
+        pieces: &run.pieces[..records.len()],
+    };
+    Ok(Some(demand_at(&stalled(&core, run.stall), t)))
 }
 
 /// The tight window of the last of them beside those before it, where that is at most its own window.
-pub fn tight_window(costs: Costs, records: &[u64; RUN_NUMBERS], count: usize) -> Figure
-    ensures exact { result ≡ tight_figure costs count (records_of records.now) }
+pub fn tight_window(costs: Costs, records: &[Record]) -> Result<Option<u64>, Refusal>
+    ensures exact { result ≡ tight_figure costs (length records.now) (pieces_in records.now) }
 {
-    match check_records(costs, records, count) {
-        Check::Bad(why) => Figure::Barred(why),
-        Check::Fine => {
-            if count == 0 {
-                return Figure::Of(Found::Nothing);
-            }
-            let mut core: [u64; CORE_NUMBERS] = [0; CORE_NUMBERS];
-            lay_out(&mut core, costs, records, count);
-            Figure::Of(tight_of(&core, count, stall_of(costs)))
-        }
-    }
+    let run = lay_run(costs, records)?;
+    let core = Core {
+        pieces: &run.pieces[..records.len()],
+    };
+    Ok(tight_of(&core, run.stall))
 }

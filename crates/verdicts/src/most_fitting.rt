@@ -1,21 +1,19 @@
 // How much a piece may be charged beside a core: a walk down that lowers its charge wherever it does not fit. One walk so tells of every smaller
 // charge at once, where a verdict tells of one.
 ghost use Rattle.std.specs.Prelude.{◌≡◌, ◌+◌, ◌<◌, ◌≤◌};
-ghost use Rattle.demand.specs.Demand.{largest_window};
-ghost use Rattle.verdicts.specs.ChargedArray.{charged_in};
 ghost use Rattle.verdicts.specs.MostFitting.{most_fitting};
 ghost use Rattle.verdicts.specs.Ways.ChargeWalk.{FitsInto, Levels, Stands, Lowers, last_below};
-ghost use Rattle.demand.specs.Ways.Ranges.{Ranged, stall_most, charge_most};
-ghost use Rattle.demand.specs.Sizes.{Each, length_most, time_most, run_most};
+ghost use Rattle.demand.specs.Ways.Ranges.{Ranged, charge_most};
+ghost use Rattle.demand.specs.Sizes.{length_most};
 
-use crate::CORE_NUMBERS;
-use crate::demands::{demand_at, interrupts_of, jobs_due, largest_window};
+use crate::demands::{demand_at, interrupts_of, jobs_due};
 use crate::spans::next_end;
-use crate::stretches::stretch_start;
-use demand::{Charged, greater, less, lesser};
+use crate::stalls::StalledCore;
+use crate::stretches::{piece_start, stretch_start};
+use demand::Charged;
 
 // What a length told: the greatest charge that fits there, what is asked for beside it, and how many jobs are charged.
-#[derive(Clone, Copy)]
+#[derive(Clone, Copy, PartialEq, Eq)]
 pub struct Look {
     pub charge: u64,
     pub rest: u64,
@@ -24,7 +22,7 @@ pub struct Look {
 
 // Where the walk stands: what is left of the charge, the end from which on that fits, and the length to look at next. Where that is not the last below the end, the charge
 // was lowered at the last, and the rest and the jobs are what is asked for there.
-#[derive(Clone, Copy)]
+#[derive(Clone, Copy, PartialEq, Eq)]
 pub struct Lowering {
     pub charge: u64,
     pub end: u64,
@@ -41,22 +39,13 @@ pub fn fitting(f: u64, jobs: u64, room: u64) -> u64
     if jobs * f <= room { f } else { room / jobs }
 }
 
-// The greatest charge up to f that fits at t; w is the largest window of the n pieces. Where none fits, all is 0.
-pub fn level_at(
-    core: &[u64; CORE_NUMBERS],
-    n: usize,
-    b: u64,
-    w: u64,
-    q: Charged,
-    f: u64,
-    t: u64,
-) -> Look
-    requires n_le_run_most { (n ≤ run_most) × Each Ranged (charged_in core.now n) }
+// The greatest charge up to f that fits at t. Where none fits, all is 0.
+pub fn level_at(core: &StalledCore, q: Charged, f: u64, t: u64) -> Look
     requires ranged { Ranged q }
-    requires b_le_stall_most { (b ≤ stall_most) × (w ≡ largest_window (charged_in core.now n)) × (f ≤ charge_most) × (t ≤ length_most) }
-    ensures { Levels b (charged_in core.now n) q f t result }
+    requires f_le_charge_most { (f ≤ charge_most) × (t ≤ length_most) }
+    ensures { Levels core.now.stall core.now.pieces.now q f t result }
 {
-    let g = demand_at(core, n, b, w, t);
+    let g = demand_at(core, t);
     if t < g {
         return Look {
             charge: 0,
@@ -77,7 +66,7 @@ pub fn level_at(
     Look {
         charge: y,
         rest: g + calls,
-        jobs: jobs,
+        jobs,
     }
 }
 
@@ -86,9 +75,9 @@ pub fn last_below(charge: u64, end: u64) -> Lowering
     ensures { result ≡ last_below charge end }
 {
     Lowering {
-        charge: charge,
-        end: end,
-        look: less(end, 1),
+        charge,
+        end,
+        look: end.saturating_sub(1),
         rest: 0,
         jobs: 0,
     }
@@ -97,35 +86,26 @@ pub fn last_below(charge: u64, end: u64) -> Lowering
 // One look. Where what is left fits at the last length below the end, the walk goes on below what is asked for there. Where less of it fits, the next look is where the
 // demand at that length begins, since a charge fits least there; what that leaves goes on below what is asked for at the last. One call of `level_at` for both looks lets it be
 // compiled into the walk.
-pub fn lower(
-    core: &[u64; CORE_NUMBERS],
-    n: usize,
-    b: u64,
-    w: u64,
-    q: Charged,
-    a: u64,
-    s: Lowering,
-) -> Lowering
-    requires n_le_run_most { (n ≤ run_most) × Each Ranged (charged_in core.now n) }
+pub fn lower(core: &StalledCore, q: Charged, a: u64, s: Lowering) -> Lowering
     requires ranged { Ranged q }
-    requires b_le_stall_most { (b ≤ stall_most) × (w ≡ largest_window (charged_in core.now n)) × (s.charge ≤ charge_most) × (s.end ≤ length_most) }
-    requires a_lt_end { (a < s.end) × Stands b (charged_in core.now n) q a s }
-    ensures { Lowers b (charged_in core.now n) q a s result }
+    requires charge_le_charge_most { (s.charge ≤ charge_most) × (s.end ≤ length_most) }
+    requires a_lt_end { (a < s.end) × Stands core.now.stall core.now.pieces.now q a s }
+    ensures { Lowers core.now.stall core.now.pieces.now q a s result }
 {
-    let v = level_at(core, n, b, w, q, s.charge, s.look);
+    let v = level_at(core, q, s.charge, s.look);
     if v.charge == 0 {
         return last_below(0, 0);
     }
     let t = s.end - 1;
     if s.look < t {
-        let end = next_end(s.rest + s.jobs * v.charge, w, t);
+        let end = next_end(s.rest + s.jobs * v.charge, core.widest, t);
         return last_below(v.charge, end);
     }
     if s.charge <= v.charge {
-        let end = next_end(v.rest + v.jobs * v.charge, w, t);
+        let end = next_end(v.rest + v.jobs * v.charge, core.widest, t);
         return last_below(v.charge, end);
     }
-    let start = lesser(t, greater(a, stretch_start(core, n, q, t)));
+    let start = t.min(stretch_start(core.pieces, a.max(piece_start(q, t)), t));
     Lowering {
         charge: v.charge,
         end: s.end,
@@ -135,26 +115,16 @@ pub fn lower(
     }
 }
 
-// The greatest charge up to f with which q fits beside the n pieces at each of the l lengths from a, or 0: down from the last of them, with f lowered wherever it
+// The greatest charge up to f with which q fits beside the pieces at each of the l lengths from a, or 0: down from the last of them, with f lowered wherever it
 // does not fit.
-pub fn squeeze(
-    core: &[u64; CORE_NUMBERS],
-    n: usize,
-    b: u64,
-    q: Charged,
-    f: u64,
-    a: u64,
-    l: u64,
-) -> u64
-    requires n_le_run_most { (n ≤ run_most) × Each Ranged (charged_in core.now n) }
+pub fn squeeze(core: &StalledCore, q: Charged, f: u64, a: u64, l: u64) -> u64
     requires ranged { Ranged q }
-    requires b_le_stall_most { (b ≤ stall_most) × (f ≤ charge_most) × (a + l ≤ length_most) }
-    ensures { result ≡ most_fitting b (charged_in core.now n) q a l f }
+    requires f_le_charge_most { (f ≤ charge_most) × (a + l ≤ length_most) }
+    ensures { result ≡ most_fitting core.now.stall core.now.pieces.now q a l f }
 {
-    let w = largest_window(core, n);
     let mut s = last_below(f, a + l);
     while a < s.end {
-        s = lower(core, n, b, w, q, a, s);
+        s = lower(core, q, a, s);
     }
     s.charge
 }

@@ -2,14 +2,13 @@
 // are released, and one walk over the marks tells the first length past l that holds the busy sum.
 ghost use Rattle.std.specs.Prelude.{◌≡◌, ℕ, ◌+◌, ◌<◌, ◌≤◌, length};
 ghost use Rattle.demand.specs.Busy.{busy_sum, Clear};
-ghost use Rattle.verdicts.specs.ChargedArray.{charged_in};
 ghost use Rattle.verdicts.specs.Ways.ReleaseSums.{Marked, Marks, Under, marks_most};
 ghost use Rattle.demand.specs.Ways.Ranges.{Ranged};
-ghost use Rattle.demand.specs.Sizes.{Each, busy_most, run_most};
+ghost use Rattle.demand.specs.Sizes.{busy_most};
 
-use crate::arrays::charged_at;
+use crate::cores::Core;
 use crate::demands::ceil_div;
-use crate::{CORE_NUMBERS, MARKS_LAST, MARKS_MOST};
+use crate::{MARKS_LAST, MARKS_MOST};
 use demand::Charged;
 
 // The jobs of q are marked: what one costs, at each place j where l + j is a multiple of the period.
@@ -28,20 +27,12 @@ pub fn mark(marks: &mut [u64; MARKS_MOST], q: Charged, l: u64)
 }
 
 // Over marks that are all 0.
-pub fn mark_all<'a>(
-    marks: &'a mut [u64; MARKS_MOST],
-    core: &'a [u64; CORE_NUMBERS],
-    n: usize,
-    l: u64,
-)
-    requires n_le_run_most { (n ≤ run_most) × Each Ranged (charged_in core.now n) }
-    requires l_le_busy_most { (l ≤ busy_most) × (length marks.old ≡ marks_most) × Under 0 marks.old }
-    ensures { Marks (busy_sum (charged_in core.now n)) l marks.new × Under 200000000 marks.new }
+pub fn mark_all(marks: &mut [u64; MARKS_MOST], core: &Core, l: u64)
+    requires { (l ≤ busy_most) × (length marks.old ≡ marks_most) × Under 0 marks.old }
+    ensures { Marks (busy_sum core.now) l marks.new × Under 200000000 marks.new }
 {
-    let mut i: usize = 0;
-    while i < n {
-        mark(marks, charged_at(core, i), l);
-        i += 1;
+    for q in core.pieces {
+        mark(marks, *q, l);
     }
 }
 
@@ -53,25 +44,22 @@ pub fn first_held(marks: &[u64; MARKS_MOST], l: u64, asked: u64) -> u64
 {
     let mut sum = asked;
     let mut m = l + 1;
-    let mut j: usize = 0;
-    while j < MARKS_LAST {
-        sum += marks[j];
+    for grown in &marks[..MARKS_LAST] {
+        sum += *grown;
         if sum <= m {
             return m;
         }
         m += 1;
-        j += 1;
     }
     m
 }
 
 // The same of the busy sum of a core.
-pub fn held_from(core: &[u64; CORE_NUMBERS], n: usize, l: u64, asked: u64) -> u64
-    requires n_le_run_most { (n ≤ run_most) × Each Ranged (charged_in core.now n) }
-    requires l_le_busy_most { (l ≤ busy_most) × (asked ≡ busy_sum (charged_in core.now n) l) × (asked ≤ 79000000000000000) × Clear (busy_sum (charged_in core.now n)) (l + 1) }
-    ensures { (l < result) × (result ≤ l + marks_most) × Clear (busy_sum (charged_in core.now n)) result × (result < l + marks_most → busy_sum (charged_in core.now n) result ≤ result) }
+pub fn held_from(core: &Core, l: u64, asked: u64) -> u64
+    requires { (l ≤ busy_most) × (asked ≡ busy_sum core.now l) × (asked ≤ 79000000000000000) × Clear (busy_sum core.now) (l + 1) }
+    ensures { (l < result) × (result ≤ l + marks_most) × Clear (busy_sum core.now) result × (result < l + marks_most → busy_sum core.now result ≤ result) }
 {
     let mut marks: [u64; MARKS_MOST] = [0; MARKS_MOST];
-    mark_all(&mut marks, core, n, l);
+    mark_all(&mut marks, core, l);
     first_held(&marks, l, asked)
 }

@@ -1,22 +1,20 @@
 // The verdict over the judged span: from its top down by QPA (001), with care at the largest window.
 ghost use Rattle.std.specs.Prelude.{◌≡◌, ◌+◌, ◌≤◌, ltb};
-ghost use Rattle.verdicts.specs.ChargedArray.{charged_in};
-ghost use Rattle.demand.specs.Ways.Ranges.{Ranged, stall_most};
-ghost use Rattle.demand.specs.Sizes.{Each, busy_most, time_most, run_most};
-ghost use Rattle.demand.specs.Demand.{demand, largest_window};
+ghost use Rattle.demand.specs.Sizes.{busy_most, time_most};
+ghost use Rattle.demand.specs.Demand.{demand};
 ghost use Rattle.demand.specs.Verdict.{scan, verdict};
 ghost use Rattle.verdicts.specs.Ways.SlackHunt.{Hunts};
 
-use crate::CORE_NUMBERS;
 use crate::busy_climb::climb_busy;
-use crate::demands::{demand_at, largest_window, least_live};
-use demand::{Found, Verdict, greater};
+use crate::demands::{demand_at, least_live};
+use crate::stalls::StalledCore;
+use demand::Verdict;
 
-// What a hunt finds: a length, and the demand there.
-#[derive(Clone, Copy)]
-pub enum Hunted {
-    Struck(u64, u64),
-    Missed,
+// A length, and the demand there.
+#[derive(Clone, Copy, PartialEq, Eq)]
+pub struct Spot {
+    pub length: u64,
+    pub demand: u64,
 }
 
 // The end below which the descent goes on, after the demand g at t. The demand falls at the largest window w, so from at or above it
@@ -25,7 +23,7 @@ pub fn next_end(g: u64, w: u64, t: u64) -> u64
     requires { g ≤ t }
     ensures { (g ≤ result) × (result ≤ t) × (w ≤ t → w ≤ result) }
 {
-    if w <= t { greater(g, w) } else { g }
+    if w <= t { g.max(w) } else { g }
 }
 
 // Whether the length t is overloaded with the demand g and the bar added.
@@ -38,60 +36,46 @@ pub fn reaches(g: u64, bar: u64, t: u64) -> bool
     t - g < bar
 }
 
-// The greatest of the l lengths from a at which the demand, with the bar added, is above the length; w is the largest window. All lengths from `end` up are known to be
-// below it.
-pub fn hunt(
-    core: &[u64; CORE_NUMBERS],
-    n: usize,
-    b: u64,
-    w: u64,
-    bar: u64,
-    a: u64,
-    l: u64,
-) -> Hunted
-    requires n_le_run_most { (n ≤ run_most) × Each Ranged (charged_in core.now n) }
-    requires b_le_stall_most { (b ≤ stall_most) × (w ≡ largest_window (charged_in core.now n)) × (a ≤ time_most) × (l ≤ busy_most) }
-    ensures { Hunts (demand b (charged_in core.now n)) bar a l result }
+// The greatest of the l lengths from a at which the demand, with the bar added, is above the length. All lengths from `end` up are known to be below it.
+pub fn hunt(core: &StalledCore, bar: u64, a: u64, l: u64) -> Option<Spot>
+    requires { (a ≤ time_most) × (l ≤ busy_most) }
+    ensures { Hunts (demand core.now.stall core.now.pieces.now) bar a l result }
 {
     let mut end = a + l;
     while a < end {
-        let t = end - 1;
-        let g = demand_at(core, n, b, w, t);
-        if reaches(g, bar, t) {
-            return Hunted::Struck(t, g);
+        let length = end - 1;
+        let demand = demand_at(core, length);
+        if reaches(demand, bar, length) {
+            return Some(Spot { length, demand });
         }
-        end = next_end(g + bar, w, t);
+        end = next_end(demand + bar, core.widest, length);
     }
-    Hunted::Missed
+    None
 }
 
 // The greatest overloaded length among the l from a: a hunt with no bar.
-pub fn descend(core: &[u64; CORE_NUMBERS], n: usize, b: u64, a: u64, l: u64) -> Verdict
-    requires n_le_run_most { (n ≤ run_most) × Each Ranged (charged_in core.now n) }
-    requires b_le_stall_most { (b ≤ stall_most) × (a ≤ time_most) × (l ≤ busy_most) }
-    ensures { result ≡ scan b (charged_in core.now n) a l }
+pub fn descend(core: &StalledCore, a: u64, l: u64) -> Verdict
+    requires { (a ≤ time_most) × (l ≤ busy_most) }
+    ensures { result ≡ scan core.now.stall core.now.pieces.now a l }
 {
-    let w = largest_window(core, n);
-    match hunt(core, n, b, w, 0, a, l) {
-        Hunted::Struck(t, _) => Verdict::Overloaded(t),
-        Hunted::Missed => Verdict::Passes,
+    match hunt(core, 0, a, l) {
+        Some(hit) => Verdict::Overloaded(hit.length),
+        None => Verdict::Passes,
     }
 }
 
-// The verdict on a core with the stall b.
-pub fn judge_core(core: &[u64; CORE_NUMBERS], n: usize, b: u64) -> Verdict
-    requires n_le_run_most { (n ≤ run_most) × Each Ranged (charged_in core.now n) }
-    requires b_le_stall_most { b ≤ stall_most }
-    ensures { result ≡ verdict b (charged_in core.now n) }
+// The verdict on a core.
+pub fn judge_core(core: &StalledCore) -> Verdict
+    ensures { result ≡ verdict core.now.stall core.now.pieces.now }
 {
-    if n == 0 {
+    if core.pieces.is_empty() {
         return Verdict::Passes;
     }
-    match climb_busy(core, n) {
-        Found::Nothing => Verdict::Undecided,
-        Found::At(l) => {
-            let a = least_live(core, n);
-            descend(core, n, b, a, l)
+    match climb_busy(core.pieces) {
+        None => Verdict::Undecided,
+        Some(l) => {
+            let a = least_live(core.pieces);
+            descend(core, a, l)
         }
     }
 }

@@ -13,6 +13,7 @@
 --   shared-firsts, shares-firsts  an item has one piece, and another where it has a first piece
 --   shared-jitters                a piece that came from elsewhere is late, and every other has its item's jitter
 --   shared-free                   with costs, J and P zero the window of a first piece is its budget
+use Rattle.std.specs.Prelude.{None, Option, Some}
 use mathlib.Core.Path.{◌≡◌, refl, ap, ◌∙◌, subst}
 use mathlib.Core.Bool.{Bool, true, false, cond}
 use mathlib.Core.List.{List, [], ◌∷◌, ◌++◌, append-nil, map}
@@ -25,13 +26,11 @@ use Rattle.demand.specs.declared.Piece.{Piece}
 use Rattle.demand.specs.declared.Costs.{Costs}
 use Rattle.demand.specs.declared.Verdict.{Verdict}
 use Rattle.demand.specs.declared.Verdict.TheVariants.{Passes, Overloaded, Undecided}
-use Rattle.demand.specs.declared.Split.{Split}
-use Rattle.demand.specs.declared.Split.TheVariants.{Cut, Nowhere}
 use Rattle.demand.specs.Sizes.{Sized, SizedCosts, Each}
 use Rattle.demand.specs.Charge.{core_of, stall}
 use Rattle.demand.specs.Verdict.{verdict_of}
 use Rattle.demand.specs.Kinds.{departs, arrives}
-use Rattle.demand.specs.Split.{late_jitter, piece_of, first_piece, last_piece, passes, greatest_split, Splits}
+use Rattle.demand.specs.Split.{cut_at, late_jitter, piece_of, first_piece, last_piece, passes, greatest_split, Splits}
 use Rattle.demand.proofs.Sums.{each_snoc}
 use Rattle.demand.proofs.BusyLaws.{least-unique}
 use Rattle.demand.proofs.VerdictLaws.{verdict-empty}
@@ -43,6 +42,7 @@ use Rattle.walks.specs.Halves.{Stand, in_one, in_two, from_core, halving, Shared
 use Rattle.walks.proofs.ListLaws.{sum-append}
 use Rattle.walks.proofs.WayLaws.{IfLands, stuck-where}
 use Rattle.walks.proofs.SoundLaws.{row-append, Claim, Sound}
+use Rattle.demand.specs.declared.Cut.{Cut}
 
 module _ {A : Type 0} (c : Costs) (g m : ℕ) (whole : A → Piece) where
   pub stands-meet : (p p' : List A) (s s' : Stand) (l l' : List (Placed A)) → walk_over (halving c g m whole) p ≡ fine s l
@@ -63,26 +63,26 @@ module _ (c : Costs) (g : ℕ) (w : Piece) (p : ℕ) (row : List Piece) where
       ap (λ (t : Bool). elim t [
         | true ↦ in_one c g w p row
         | false ↦
-            (elim (greatest_split c g row w) [ Cut x v ↦ in_two c g w p x v | Nowhere ↦ from_core c g w n (suc p) [] ])
+            (elim (greatest_split c g row w) [ Some s ↦ in_two c g w p s.budget s.window | None ↦ from_core c g w n (suc p) [] ])
       ]) e
 
   pub from-stuck : whole-fits ≡ false → from_core c g w zero p row ≡ refuses 7
   from-stuck e = ap (λ (t : Bool). elim t [ true ↦ in_one c g w p row | false ↦ refuses 7 ]) e
 
   from-else : (n : ℕ) → whole-fits ≡ false → from_core c g w (suc n) p row
-      ≡ elim (greatest_split c g row w) [ Cut x v ↦ in_two c g w p x v | Nowhere ↦ from_core c g w n (suc p) [] ]
+      ≡ elim (greatest_split c g row w) [ Some s ↦ in_two c g w p s.budget s.window | None ↦ from_core c g w n (suc p) [] ]
   from-else n e =
       ap (λ (t : Bool). elim t [
         | true ↦ in_one c g w p row
         | false ↦
-            (elim (greatest_split c g row w) [ Cut x v ↦ in_two c g w p x v | Nowhere ↦ from_core c g w n (suc p) [] ])
+            (elim (greatest_split c g row w) [ Some s ↦ in_two c g w p s.budget s.window | None ↦ from_core c g w n (suc p) [] ])
       ]) e
 
-  pub from-both : (n x v : ℕ) → whole-fits ≡ false → greatest_split c g row w ≡ Cut x v → from_core c g w (suc n) p row ≡ in_two c g w p x v
-  from-both n x v e s = from-else n e ∙ ap (λ (t : Split). elim t [ Cut x v ↦ in_two c g w p x v | Nowhere ↦ from_core c g w n (suc p) [] ]) s
+  pub from-both : (n x v : ℕ) → whole-fits ≡ false → greatest_split c g row w ≡ cut_at x v → from_core c g w (suc n) p row ≡ in_two c g w p x v
+  from-both n x v e s = from-else n e ∙ ap (λ (t : Option Cut). elim t [ Some s ↦ in_two c g w p s.budget s.window | None ↦ from_core c g w n (suc p) [] ]) s
 
-  pub from_next : (n : ℕ) → whole-fits ≡ false → greatest_split c g row w ≡ Nowhere → from_core c g w (suc n) p row ≡ from_core c g w n (suc p) []
-  from_next n e s = from-else n e ∙ ap (λ (t : Split). elim t [ Cut x v ↦ in_two c g w p x v | Nowhere ↦ from_core c g w n (suc p) [] ]) s
+  pub from_next : (n : ℕ) → whole-fits ≡ false → greatest_split c g row w ≡ None → from_core c g w (suc n) p row ≡ from_core c g w n (suc p) []
+  from_next n e s = from-else n e ∙ ap (λ (t : Option Cut). elim t [ Some s ↦ in_two c g w p s.budget s.window | None ↦ from_core c g w n (suc p) [] ]) s
 
 -- no other number than 7 comes of them
 abbrev Seven : Landing Stand → Type 0
@@ -103,11 +103,11 @@ module _ (c : Costs) (g : ℕ) (w : Piece) where
       by false = λ n e. (cc)
   from-seven (suc n) p row = by (passes (verdict_of c (row ++ (w ∷ [])))) (greatest_split c g row w) (from-seven n (suc p) [])
     where
-      by : (t : Bool) (u : Split) → Seven (from_core c g w n (suc p) [])
-          → Seven (elim t [ true ↦ in_one c g w p row | false ↦ (elim u [ Cut x v ↦ in_two c g w p x v | Nowhere ↦ from_core c g w n (suc p) [] ]) ])
+      by : (t : Bool) (u : Option Cut) → Seven (from_core c g w n (suc p) [])
+          → Seven (elim t [ true ↦ in_one c g w p row | false ↦ (elim u [ Some s ↦ in_two c g w p s.budget s.window | None ↦ from_core c g w n (suc p) [] ]) ])
       by true u rec = one-seven p row
-      by false (Cut x v) rec = two-seven p x v
-      by false Nowhere rec = rec
+      by false (Some s) rec = two-seven p s.budget s.window
+      by false None rec = rec
 
 pub sticks-seven : {A : Type 0} (c : Costs) (g m : ℕ) (whole : A → Piece) (xs : List A) (a : A) (n : ℕ) → walk_over (halving c g m whole) xs ≡ stuck a n → n ≡ 7
 sticks-seven c g m whole xs a n e =
@@ -164,13 +164,13 @@ module _ (c : Costs) (g : ℕ) (w : Piece) (j : ℕ) where
       none zero = fits
       none (suc k) = fits
 
-      by : (t : Bool) (u : Split)
+      by : (t : Bool) (u : Option Cut)
           → ◌≡◌ {A = Landing Stand}
-          (elim t [ true ↦ in_one c g w p row | false ↦ (elim u [ Cut x v ↦ in_two c g w p x v | Nowhere ↦ from_core c g w n (suc p) [] ]) ]) (refuses j)
+          (elim t [ true ↦ in_one c g w p row | false ↦ (elim u [ Some s ↦ in_two c g w p s.budget s.window | None ↦ from_core c g w n (suc p) [] ]) ]) (refuses j)
           → (from_core c g w n (suc p) [] ≡ refuses j → ⊥) → ⊥
       by true u h rec = let z : ◌≡◌ {A = ℕ} 0 1 = cc in omega arith
-      by false (Cut x v) h rec = let z : ◌≡◌ {A = ℕ} 0 1 = cc in omega arith
-      by false Nowhere h rec = rec h
+      by false (Some s) h rec = let z : ◌≡◌ {A = ℕ} 0 1 = cc in omega arith
+      by false None h rec = rec h
 
 -- the last core, as its row stands, does not pass with an item that is refused
 pub refused-last : {A : Type 0} (c : Costs) (g m : ℕ) (whole : A → Piece) (done : List A) (s : Stand) (log : List (Placed A)) (a : A) (j : ℕ)
@@ -230,7 +230,7 @@ module _ {A : Type 0} (c : Costs) (g m : ℕ) (costs : SizedCosts c) (w : Piece)
   )
 
   keeps-two : (p : ℕ) (row : List Piece) (x v : ℕ) → Fit m done (record { core = p; row = row }) log → suc p < m → Fine c row
-      → passes (verdict_of c (row ++ (w ∷ []))) ≡ false → greatest_split c g row w ≡ Cut x v → IfLands Kept (in_two c g w p x v)
+      → passes (verdict_of c (row ++ (w ∷ []))) ≡ false → greatest_split c g row w ≡ cut_at x v → IfLands Kept (in_two c g w p x v)
   keeps-two p row x v h next has never e =
       let parts = split_parts c g row w costs right.size x v e in
       let f = first_piece w x v in
@@ -247,7 +247,7 @@ module _ {A : Type 0} (c : Costs) (g m : ℕ) (costs : SizedCosts c) (w : Piece)
         },
         halved p x v next parts,
         two-pieces {p = p} {x = x} {v = v} (rw h.here (passes-not (verdict_of c (row ++ (w ∷ []))) never))
-            (rw h.here ((split-exact c g row w (Cut x v)).0 e)),
+            (rw h.here ((split-exact c g row w (cut_at x v)).0 e)),
         (
           rw on-first (record { sizes = each_snoc Sized row f has.sizes parts.first-sized; passing = parts.first_passes }),
           (rw on-next (record { sizes = (parts.last-sized, tt); passing = parts.last-passes }), tt),
@@ -278,15 +278,15 @@ module _ {A : Type 0} (c : Costs) (g m : ℕ) (costs : SizedCosts c) (w : Piece)
       next : Fit m done (record { core = suc p; row = [] }) log
       next = record { here = h.ahead (suc p) (omega arith); ahead = λ q g. h.ahead q (omega arith); below = omega arith; count = omega (arith, h.count) }
 
-      by : (t : Bool) → passes (verdict_of c (row ++ (w ∷ []))) ≡ t → (u : Split) → greatest_split c g row w ≡ u
+      by : (t : Bool) → passes (verdict_of c (row ++ (w ∷ []))) ≡ t → (u : Option Cut) → greatest_split c g row w ≡ u
           → IfLands Kept (from_core c g w n (suc p) [])
           → IfLands Kept (elim t [
             | true ↦ in_one c g w p row
-            | false ↦ (elim u [ Cut x v ↦ in_two c g w p x v | Nowhere ↦ from_core c g w n (suc p) [] ])
+            | false ↦ (elim u [ Some s ↦ in_two c g w p s.budget s.window | None ↦ from_core c g w n (suc p) [] ])
           ])
       by true e u s rec = keeps-one p row h has e
-      by false e (Cut x v) s rec = keeps-two p row x v h (omega arith) has e s
-      by false e Nowhere s rec = rec
+      by false e (Some k) s rec = keeps-two p row k.budget k.window h (omega arith) has e s
+      by false e None s rec = rec
 
 pub halving-sound : {A : Type 0} (c : Costs) (g m : ℕ) (whole : A → Piece) → SizedCosts c → 1 ≤ m → Sound (halving c g m whole) (halves c g m whole)
 halving-sound c g m whole costs some = record {
@@ -312,7 +312,7 @@ module _ {A : Type 0} (c : Costs) (g : ℕ) (w : Piece) (past : List (Placed A))
   shared-jitters plain (two-pieces never cut) = (refl, (refl, tt))
 
   module _ (size : Sized w) where
-    cut-free : Free c w → (row : List Piece) (x v : ℕ) → Splits c g row w (Cut x v) → v ≡ x
+    cut-free : Free c w → (row : List Piece) (x v : ℕ) → Splits c g row w (cut_at x v) → v ≡ x
     cut-free free row x v s =
         omega (arith, s.2, free.jitter-none, least-unique s.1.allowed.tight (tight-is-budget c row w free x s.1.candidate.some))
 

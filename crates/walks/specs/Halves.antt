@@ -8,14 +8,13 @@
 --   Shared c g w past a l  l is all of an item a with the whole piece w, where past was placed before it: whole on a core that passes with it; or, where one does
 --                          not, by a greatest split beside what stood there, on that core and the next
 --   split_count l           how many pieces depart: a split makes one
-use Rattle.std.specs.Prelude.{◌≡◌, Bool, true, false, cond, List, [], ◌∷◌, ◌++◌, ℕ, zero, suc, ◌-◌, ◌*◌, ltb}
+use Rattle.std.specs.Prelude.{◌≡◌, Bool, true, false, cond, List, [], ◌∷◌, ◌++◌, ℕ, zero, suc, ◌-◌, ◌*◌, ltb, None, Some}
 use Rattle.demand.specs.Kinds.{departs}
 use Rattle.demand.specs.declared.Piece.{Piece}
 use Rattle.demand.specs.declared.Costs.{Costs}
 use Rattle.demand.specs.declared.Verdict.TheVariants.{Passes}
-use Rattle.demand.specs.declared.Split.TheVariants.{Cut, Nowhere}
 use Rattle.demand.specs.Verdict.{verdict_of}
-use Rattle.demand.specs.Split.{first_piece, last_piece, passes, greatest_split, Splits}
+use Rattle.demand.specs.Split.{cut_at, first_piece, last_piece, passes, greatest_split, Splits}
 use Rattle.walks.specs.Lists.{sum_by}
 use Rattle.walks.specs.Way.{Landing, lands, refuses, Way, Placed, row_of}
 
@@ -38,7 +37,7 @@ module _ (c : Costs) (g : ℕ) (w : Piece) where
   from_core zero p row = elim (passes (verdict_of c (row ++ (w ∷ [])))) [ true ↦ in_one p row | false ↦ refuses 7 ]
   from_core (suc n) p row = elim (passes (verdict_of c (row ++ (w ∷ [])))) [
     | true ↦ in_one p row
-    | false ↦ (elim (greatest_split c g row w) [ Cut x v ↦ in_two p x v | Nowhere ↦ from_core n (suc p) [] ])
+    | false ↦ (elim (greatest_split c g row w) [ Some s ↦ in_two p s.budget s.window | None ↦ from_core n (suc p) [] ])
   ]
 
 abbrev pub halving : {A : Type 0} → Costs → ℕ → ℕ → (A → Piece) → Way A
@@ -51,7 +50,7 @@ halving c g m whole = record {
 
 pub data Shared {A : Type 0} (c : Costs) (g : ℕ) (w : Piece) (past : List (Placed A)) (a : A) : List (Placed A) → Type 0 where
   one_piece : {p : ℕ} → verdict_of c (row_of p past ++ (w ∷ [])) ≡ Passes → Shared c g w past a (record { on = p; item = a; piece = w } ∷ [])
-  two-pieces : {p x v : ℕ} → (verdict_of c (row_of p past ++ (w ∷ [])) ≡ Passes → ⊥) → Splits c g (row_of p past) w (Cut x v) → Shared c g w past a (record { on = p; item = a; piece = first_piece w x v } ∷ record { on = suc p; item = a; piece = last_piece c w x v } ∷ [])
+  two-pieces : {p x v : ℕ} → (verdict_of c (row_of p past ++ (w ∷ [])) ≡ Passes → ⊥) → Splits c g (row_of p past) w (cut_at x v) → Shared c g w past a (record { on = p; item = a; piece = first_piece w x v } ∷ record { on = suc p; item = a; piece = last_piece c w x v } ∷ [])
 
 abbrev pub split_count : {A : Type 0} → List (Placed A) → ℕ
 split_count l = sum_by (λ e. cond (departs e.piece.kind) 1 0) l

@@ -5,8 +5,8 @@
 --   Before N k b l        b comes before each item in l with the key k
 --   Behind N k l p b r    l is p, then b, then r, and no item with the key k is one of b and r: where l holds k, it comes before
 --   Meet W p p'           the walks over p and p' come to the same state
-use Rattle.std.specs.Prelude.{◌≡◌, List, [], ◌∷◌, ◌++◌}
-use Rattle.demand.specs.Sizes.{Some}
+use Rattle.std.specs.Prelude.{◌≡◌, List, ◌∷◌, ◌++◌}
+use Rattle.demand.specs.Sizes.{SomeOf}
 use Rattle.walks.specs.Lists.{only}
 use Rattle.walks.specs.Way.{Placed, Way, fine, walk_over}
 use Rattle.walks.specs.Edits.{Keyed}
@@ -16,7 +16,7 @@ module _ {A K : Type 0} (N : Keyed A K) where
   of_key k log = only (λ e. N.same k (N.key e.item)) log
 
   abbrev pub Among : K → List A → Type 0
-  Among k l = Some (λ a. N.key a ≡ k) l
+  Among k l = SomeOf (λ a. N.key a ≡ k) l
 
   abbrev pub Before : K → K → List A → Type 0
   Before k b l = (p q : List A) (a : A) → l ≡ p ++ (a ∷ q) → N.key a ≡ k → Among b p

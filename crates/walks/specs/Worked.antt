@@ -4,7 +4,7 @@
 --   Rank            C and D of two tasks, and whether the first comes before the second by these
 --   misranked rs    the rows that do not hold
 --   rank_rows        the table
-use Rattle.std.specs.Prelude.{Bool, true, false, cond, List, [], ◌∷◌, ℕ}
+use Rattle.std.specs.Prelude.{cond, List, [], ◌∷◌, ℕ}
 use Rattle.demand.specs.declared.Piece.{Piece}
 use Rattle.demand.specs.Cases.{whole}
 use Rattle.walks.specs.Halves.{denser}

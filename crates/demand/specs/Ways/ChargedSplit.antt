@@ -10,19 +10,16 @@
 --   NoneBetween c qs p y x no budget above y, up to x, fits
 --   Chosen c g qs p s      `Splits`, over charged pieces
 --   TightIn c qs p x f     f is the tight window, where it leaves the last piece one
-use Rattle.std.specs.Prelude.{◌≡◌, List, [], ◌∷◌, ◌++◌, ℕ, ◌+◌, ◌≤◌, ◌<◌}
+use Rattle.std.specs.Prelude.{◌≡◌, List, [], ◌∷◌, ◌++◌, ℕ, ◌+◌, ◌≤◌, ◌<◌, None, Option, Some}
 use Rattle.demand.specs.declared.Piece.{Piece}
 use Rattle.demand.specs.declared.Costs.{Costs}
 use Rattle.demand.specs.declared.Charged.{Charged}
-use Rattle.demand.specs.declared.Found.{Found}
-use Rattle.demand.specs.declared.Found.TheVariants.{At, Nothing}
 use Rattle.demand.specs.declared.Verdict.TheVariants.{Passes}
-use Rattle.demand.specs.declared.Split.{Split}
-use Rattle.demand.specs.declared.Split.TheVariants.{Cut, Nowhere}
 use Rattle.demand.specs.Charge.{charged, stall}
 use Rattle.demand.specs.Busy.{Least, Holds, tight_sum}
 use Rattle.demand.specs.Verdict.{verdict}
 use Rattle.demand.specs.Split.{first_piece, last_piece, Candidate}
+use Rattle.demand.specs.declared.Cut.{Cut}
 
 unfoldable pub with_first : Costs → List Charged → Piece → ℕ → ℕ → List Charged
 with_first c qs p x w = qs ++ (charged c (first_piece p x w) ∷ [])
@@ -48,10 +45,10 @@ NoneAbove c g qs p x = (y u : ℕ) → x < y → Candidate g p y → Fits c qs p
 abbrev pub NoneBetween : Costs → List Charged → Piece → ℕ → ℕ → Type 0
 NoneBetween c qs p y x = (y < x) × ((z u : ℕ) → y < z → z ≤ x → Fits c qs p z u → ⊥)
 
-abbrev pub Chosen : Costs → ℕ → List Charged → Piece → Split → Type 0
-Chosen c g qs p (Cut x w) = (t : ℕ) × Candidate g p x × Fits c qs p x t × NoneAbove c g qs p x × (w ≡ p.jitter + t)
-Chosen c g qs p Nowhere = NoneAbove c g qs p 0
+abbrev pub Chosen : Costs → ℕ → List Charged → Piece → Option Cut → Type 0
+Chosen c g qs p (Some s) = (t : ℕ) × Candidate g p s.budget × Fits c qs p s.budget t × NoneAbove c g qs p s.budget × (s.window ≡ p.jitter + t)
+Chosen c g qs p None = NoneAbove c g qs p 0
 
-abbrev pub TightIn : Costs → List Charged → Piece → ℕ → Found → Type 0
-TightIn c qs p x (At w) = (t : ℕ) × Tight c qs p x t × (p.jitter + t + 1 ≤ p.window) × (w ≡ p.jitter + t)
-TightIn c qs p x Nothing = (t : ℕ) → Tight c qs p x t → p.jitter + t + 1 ≤ p.window → ⊥
+abbrev pub TightIn : Costs → List Charged → Piece → ℕ → Option ℕ → Type 0
+TightIn c qs p x (Some w) = (t : ℕ) × Tight c qs p x t × (p.jitter + t + 1 ≤ p.window) × (w ≡ p.jitter + t)
+TightIn c qs p x None = (t : ℕ) → Tight c qs p x t → p.jitter + t + 1 ≤ p.window → ⊥

@@ -1,46 +1,36 @@
--- `add` meets its contract: the state's fault, the edit's, or the plan of the new list.
+-- `add` meets its contract: the plan's own fault, the edit's, or the plan of the new list.
 -- Assumes nothing.
-use mathlib.Core.Path.{◌≡◌, sym, ◌∙◌}
-use Rattle.task.specs.Tasks.{state_fault}
+use Rattle.std.proofs.Common.{sym, ◌∙◌}
+use Rattle.std.proofs.lemmas.Result.{err_from_is_err_and}
 use Rattle.task.proofs.TaskLaws.{state-sane}
 use Rattle.walks.specs.Edits.{add}
-use Rattle.edits.specs.Edits.{tasks_held, edit_fault}
 use Rattle.edits.proofs.EditLaws.{edit-state, edit-own, edit-made}
 use Rattle.edits.proofs.add.Goals as goal
 
-pub returns-then-fault-ne0 : goal.returns-then-fault-ne0
-returns-then-fault-ne0 c = record {
+pub returns-in_err-state_fault : goal.returns-in_err-state_fault
+returns-in_err-state_fault c = record {
   exact =
-      let start = c.args in
-      c.give_back.ensures
-      ∙ edit-state (add (record { name = start.name; times = start.times })) start.state c.state_fault-fault.result c.state_fault-fault.ensures.exact
-      c.if-fault-ne0.true;
+      let p = err_from_is_err_and c.from_residual.result c.from_residual.ensures.1 in
+      rw (p.1, p.2) (edit-state (add (record { name = c.args.name; times = c.args.times })) c.args.plan.now c.in_err-state_fault.field-0.0 c.in_err-state_fault.ensures.exact);
 }
 
-pub returns-then-wrong-ne0 : goal.returns-then-wrong-ne0
-returns-then-wrong-ne0 c = record {
+pub returns-in_err-add_fault : goal.returns-in_err-add_fault
+returns-in_err-add_fault c = record {
   exact =
-      let sound : state_fault c.args.state.machine c.args.state.costs c.args.state.tasks.count c.args.state.tasks.list ≡ 0 = (sym c.state_fault-fault.ensures.exact ∙ c.if-fault-ne0.false) in
-      let start = c.args in
-      c.give_back-then-wrong-ne0.ensures
-      ∙ edit-own (add (record { name = start.name; times = start.times })) start.state sound
-      c.add_fault-wrong.result c.add_fault-wrong.ensures c.if-wrong-ne0.true;
+      let p = err_from_is_err_and c.from_residual-in_err-add_fault.result c.from_residual-in_err-add_fault.ensures.1 in
+      rw (p.1, p.2) (edit-own (add (record { name = c.args.name; times = c.args.times })) c.args.plan.now (sym c.in_ok-state_fault.ensures.exact)
+      c.in_err-add_fault.field-0.0 c.in_err-add_fault.ensures);
 }
 
 pub append-next-requires : goal.append-next-requires
 append-next-requires c =
-    let sound : state_fault c.args.state.machine c.args.state.costs c.args.state.tasks.count c.args.state.tasks.list ≡ 0 = (sym c.state_fault-fault.ensures.exact ∙ c.if-fault-ne0.false) in
-    let right : edit_fault (add (record { name = c.args.name; times = c.args.times })) (tasks_held c.args.state) ≡ 0 = (sym c.add_fault-wrong.ensures ∙ c.if-wrong-ne0.false) in
-    let s = c.args.state in
-    ((state-sane s.machine s.costs s.tasks.count s.tasks.list sound).few, right)
+    let s = c.args.plan.now in
+    ((state-sane s.machine s.costs s.tasks.count s.tasks.list (sym c.in_ok-state_fault.ensures.exact)).few, sym c.in_ok-add_fault.ensures)
 
 pub returns : goal.returns
 returns c = record {
   exact =
-      let sound : state_fault c.args.state.machine c.args.state.costs c.args.state.tasks.count c.args.state.tasks.list ≡ 0 = (sym c.state_fault-fault.ensures.exact ∙ c.if-fault-ne0.false) in
-      let right : edit_fault (add (record { name = c.args.name; times = c.args.times })) (tasks_held c.args.state) ≡ 0 = (sym c.add_fault-wrong.ensures ∙ c.if-wrong-ne0.false) in
-      let start = c.args in
       c.replan.ensures
-      ∙ edit-made (add (record { name = start.name; times = start.times })) start.state sound
-      right c.append-next.result c.append-next.ensures;
+      ∙ edit-made (add (record { name = c.args.name; times = c.args.times })) c.args.plan.now (sym c.in_ok-state_fault.ensures.exact)
+      (sym c.in_ok-add_fault.ensures) c.append-next.result c.append-next.ensures;
 }

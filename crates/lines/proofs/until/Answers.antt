@@ -1,24 +1,26 @@
--- `until` meets its contract: what is passed and the run that is left make up the run. The measure is what is left of the slice.
+-- `until` meets its contract: by the place of the byte, or by its absence.
 -- Assumes nothing.
-use native.Mathlib.Omega.{arith}
-use Rattle.lines.proofs.LineLaws.{run-other, run-here, run_end}
+use Rattle.std.proofs.Common.{◌+◌, eqb, rules, tests}
+use Rattle.std.proofs.lemmas.Iterator.{YieldsList-from_slice}
+use Rattle.std.proofs.lemmas.Iterator.Search.{position_from_yields_List}
+use Rattle.std.proofs.lemmas.List.{take_rest}
+use Rattle.lines.proofs.LineLaws.{run-found, run-none}
 use Rattle.lines.proofs.until.Goals as goal
 
-pub returns-then-s-i : goal.returns-then-s-i
-returns-then-s-i c = record {
-  exact =
-      let start = c.args in
-      omega (arith, run-here start.b start.s.now c.loop-i.i c.loop-i-test.true c.if-s-i.true);
-}
+pub returns-in-Some : goal.returns-in-Some
+returns-in-Some c =
+    let s = c.args.s.now in
+    let b = c.args.b in
+    let place = position_from_yields_List (λ x. eqb x b) _ _ c.position.result c.position.ensures.ran
+    (YieldsList-from_slice s c.iter.ensures.rest) (λ x t q k. search (rules, tests)) in
+    let found = run-found b s c.position.result place c.in-Some.e c.in-Some.is in
+    record { run = found.0; others = rw (take_rest s (c.in-Some.e + 1)) found.2 }
 
-pub loop-i-preserved : goal.loop-i-preserved
-loop-i-preserved c =
-    let start = c.args in
-    omega (arith, run-other start.b start.s.now c.loop-i.i c.loop-i-test.true c.if-s-i.false)
-
-pub returns : goal.returns
-returns c = record {
-  exact =
-      let start = c.args in
-      omega (arith, run_end start.b start.s.now c.loop-i.i c.loop-i-test.false);
-}
+pub returns-in-None : goal.returns-in-None
+returns-in-None c =
+    let s = c.args.s.now in
+    let b = c.args.b in
+    let place = position_from_yields_List (λ x. eqb x b) _ _ c.position.result c.position.ensures.ran
+    (YieldsList-from_slice s c.iter.ensures.rest) (λ x t q k. search (rules, tests)) in
+    let none = run-none b s c.position.result place c.in-None.is in
+    record { run = none.0; others = none.1 }

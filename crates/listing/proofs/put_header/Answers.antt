@@ -1,10 +1,9 @@
 -- `put_header` meets its contract: its three fields, one behind another.
 use native.Mathlib.Omega.{arith}
 use Rattle.listing.proofs.TextLaws.{wrote-both}
-use mathlib.Core.Path.{sym}
 use Rattle.listing.proofs.put_header.Goals as goal
 
 pub returns : goal.returns
 returns c =
     let w = wrote-both c.put_bytes-a.ensures (wrote-both c.put_number-b.ensures.0 c.put_number.ensures.0) in
-    (rw (sym c.wide.ensures, sym c.wide-2.ensures) w, omega (arith, c.put_bytes-a.ensures.place, c.put_number-b.ensures.1, c.put_number.ensures.1))
+    (w, omega (arith, c.put_bytes-a.ensures.place, c.put_number-b.ensures.1, c.put_number.ensures.1))

@@ -3,8 +3,7 @@ use mathlib.Core.Path.{ap, ◌∙◌}
 use lib.ListN.{length, replicate}
 use Rattle.task.specs.Tasks.{no_task}
 use Rattle.listing.specs.Papers.{Paper, note_of, left}
-use Rattle.listing.specs.Listing.{spelling}
-use Rattle.listing.proofs.WhyPaperLaws.{front-none, run-asked}
+use Rattle.listing.proofs.SeatLaws.{run-paper}
 use Rattle.listing.proofs.why_run.Goals as goal
 
 pub returns : goal.returns
@@ -12,9 +11,7 @@ returns c = record {
   exact =
       let s = c.args in
       let old = s.buf.now in
-      let empty = front-none c.room_for_all-fine.result.place (spelling c.room_for_all-fine.result.name) c.room_for_all-fine.result.cores
-      c.room_for_all-fine.ensures in
-      let same = run-asked _ empty s.costs s.count (replicate 64 no_task) (replicate 79 0) s.records.now in (
+      let same = run-paper s.costs (replicate 64 no_task) (replicate 79 0) s.records.now in (
         c.write_why.ensures.value.0 ∙ ap (λ (p : Paper). note_of p (length old)) same,
         c.write_why.ensures.value.1
             ∙ ap (λ (p : Paper). left p old) same,

@@ -1,96 +1,55 @@
--- `plan_reached` meets its contract: a fault is refused; else the walk over the packing order of the tasks is the definition's, stuck or fine, and the
+-- `plan_reached` meets its contract: a fault is refused; else the walk over the packing order of the tasks is the definition's, stuck or not, and the
 -- plan is of what was placed until then.
-use mathlib.Core.Path.{◌≡◌, refl, ◌∙◌}
-use Prim.Native.Nat.{ℕ}
-use lib.ListN.{length, take, length-replicate}
-use Rattle.demand.proofs.RunLaws.{length-mapped}
+use Rattle.std.proofs.Common.{◌≤◌, sym, arith, length, take, length-take}
+use Rattle.std.proofs.lemmas.Result.{err_from_is_err_and}
 use Rattle.task.proofs.TaskLaws.{state-sane}
-use Rattle.plan.proofs.PlanLaws.{no-fault, small-laid, walk-fits, walk-laid}
-use Rattle.plan.proofs.ReplyLaws.{all-fits, fault-replied, stuck-replied, fine-replied}
-use borrow.Author.Rules.{rules}
+use Rattle.plan.proofs.PlanLaws.{walk-fits, walk-planned-ends}
+use Rattle.plan.proofs.ReplyLaws.{all-fits, walk-replied, fault-replied}
 use Rattle.plan.proofs.plan_reached.Goals as goal
 
-pub returns-then-fault-ne0 : goal.returns-then-fault-ne0
-returns-then-fault-ne0 c = record {
+pub returns-in_err-state_fault : goal.returns-in_err-state_fault
+returns-in_err-state_fault c = record {
   exact =
       let s = c.args in
-      c.refuse.ensures
-      ∙ fault-replied s.machine s.costs s.tasks.count s.tasks.list c.state_fault-fault.result c.state_fault-fault.ensures.exact c.if-fault-ne0.true;
+      let p = err_from_is_err_and c.from_residual.result c.from_residual.ensures.1 in
+      rw (p.1, p.2) (fault-replied s.machine s.costs s.tasks.count s.tasks.list c.in_err-state_fault.field-0.0 c.in_err-state_fault.ensures.exact);
 }
 
-pub lay_times-requires : goal.lay_times-requires
-lay_times-requires c =
+pub order_of-order-requires : goal.order_of-order-requires
+order_of-order-requires c =
     let s = c.args in
-    let good = no-fault s.machine s.costs s.tasks.count s.tasks.list c.state_fault-fault.result c.state_fault-fault.ensures.exact c.if-fault-ne0.false in
-    let ok = state-sane s.machine s.costs s.tasks.count s.tasks.list good in
-    (ok.few, refl)
+    let ok = state-sane s.machine s.costs s.tasks.count s.tasks.list (sym c.in_ok-state_fault.ensures.exact) in
+    rw c.held-held.ensures.exact (omega (arith, ok.few, length-take s.tasks.count s.tasks.list), ok.timed)
 
-pub order_of-requires : goal.order_of-requires
-order_of-requires c =
+pub walk_over-stuck-requires-clause-walk_fits : goal.walk_over-stuck-requires-clause-walk_fits
+walk_over-stuck-requires-clause-walk_fits c =
     let s = c.args in
-    let good = no-fault s.machine s.costs s.tasks.count s.tasks.list c.state_fault-fault.result c.state_fault-fault.ensures.exact c.if-fault-ne0.false in
-    let ok = state-sane s.machine s.costs s.tasks.count s.tasks.list good in
-    (ok.few, small-laid _ (take s.tasks.count s.tasks.list) c.lay_times.ensures ok.timed, length-replicate {A = ℕ} 64 0)
+    let ok = state-sane s.machine s.costs s.tasks.count s.tasks.list (sym c.in_ok-state_fault.ensures.exact) in
+    let held = c.held-held.ensures.exact in
+    let order = c.order_of-order in
+    let few : length (take (length (take s.tasks.count s.tasks.list)) order.result) ≤ 64 =
+    omega (arith, ok.few, length-take s.tasks.count s.tasks.list, length-take (length (take s.tasks.count s.tasks.list)) order.result) in
+    rw held (walk-fits s.machine s.costs s.tasks.count s.tasks.list ok _ (rw held at order.ensures.0) (rw held at order.ensures.1) few)
 
-pub walk_over-end-requires : goal.walk_over-end-requires
-walk_over-end-requires c =
+pub tidy-requires : goal.tidy-requires
+tidy-requires c =
     let s = c.args in
-    let good = no-fault s.machine s.costs s.tasks.count s.tasks.list c.state_fault-fault.result c.state_fault-fault.ensures.exact c.if-fault-ne0.false in
-    let ok = state-sane s.machine s.costs s.tasks.count s.tasks.list good in
-    let long : length s.tasks.list ≡ 64 = search (rules, length-mapped) in
-    let order = c.order_of.ensures in
-    walk-fits s.machine s.costs s.tasks.count s.tasks.list long ok _
-    c.lay_times.ensures _ order.0 order.2 order.1 _ _ (length-replicate {A = ℕ} 711 0) (length-replicate {A = ℕ} 553 0)
-
-pub tidy-clean-requires : goal.tidy-clean-requires
-tidy-clean-requires c =
-    let s = c.args in
-    let good = no-fault s.machine s.costs s.tasks.count s.tasks.list c.state_fault-fault.result c.state_fault-fault.ensures.exact c.if-fault-ne0.false in
-    let ok = state-sane s.machine s.costs s.tasks.count s.tasks.list good in
+    let ok = state-sane s.machine s.costs s.tasks.count s.tasks.list (sym c.in_ok-state_fault.ensures.exact) in
     ok.few
 
-pub layout_of-layout-requires : goal.layout_of-layout-requires
-layout_of-layout-requires c =
+pub layout_of-requires : goal.layout_of-requires
+layout_of-requires c =
     let s = c.args in
-    let good = no-fault s.machine s.costs s.tasks.count s.tasks.list c.state_fault-fault.result c.state_fault-fault.ensures.exact c.if-fault-ne0.false in
-    let ok = state-sane s.machine s.costs s.tasks.count s.tasks.list good in
-    let long : length s.tasks.list ≡ 64 = search (rules, length-mapped) in
-    let order = c.order_of.ensures in
-    let walk-over = c.walk_over-end in
-    all-fits s.machine s.costs s.tasks.count s.tasks.list good _ _ c.walk_over-end.result
-    (walk-laid s.machine s.costs s.tasks.count s.tasks.list long ok _ c.lay_times.ensures _
-    order.0 _ _ c.walk_over-end.result c.walk_over-end.ensures)
-
-pub returns-then-stuck-gt0 : goal.returns-then-stuck-gt0
-returns-then-stuck-gt0 c = record {
-  exact =
-      let s = c.args in
-      let good = no-fault s.machine s.costs s.tasks.count s.tasks.list c.state_fault-fault.result c.state_fault-fault.ensures.exact c.if-fault-ne0.false in
-      let ok = state-sane s.machine s.costs s.tasks.count s.tasks.list good in
-      let long : length s.tasks.list ≡ 64 = search (rules, length-mapped) in
-      let order = c.order_of.ensures in
-      let walk-over = c.walk_over-end in
-      let tidy = c.tidy-clean in
-      let layout_of = c.layout_of-layout in
-      stuck-replied s.machine s.costs s.tasks.count s.tasks.list good _ _ c.walk_over-end.result
-      (walk-laid s.machine s.costs s.tasks.count s.tasks.list long ok _ c.lay_times.ensures _
-      order.0 _ _ c.walk_over-end.result c.walk_over-end.ensures) long c.tidy-clean.result c.tidy-clean.ensures.0 c.tidy-clean.ensures.1 c.layout_of-layout.result
-      c.layout_of-layout.ensures c.if-stuck-gt0.true;
-}
+    all-fits s.machine s.costs s.tasks.count s.tasks.list (sym c.in_ok-state_fault.ensures.exact) _ c.walk_over-stuck.result
+    (walk-planned-ends s.machine s.costs c.held-held.result.now (take s.tasks.count s.tasks.list) c.held-held.ensures.exact _
+    c.order_of-order.ensures.0 _ c.walk_over-stuck.result c.walk_over-stuck.ensures)
 
 pub returns : goal.returns
 returns c = record {
   exact =
       let s = c.args in
-      let good = no-fault s.machine s.costs s.tasks.count s.tasks.list c.state_fault-fault.result c.state_fault-fault.ensures.exact c.if-fault-ne0.false in
-      let ok = state-sane s.machine s.costs s.tasks.count s.tasks.list good in
-      let long : length s.tasks.list ≡ 64 = search (rules, length-mapped) in
-      let order = c.order_of.ensures in
-      let walk-over = c.walk_over-end in
-      let tidy = c.tidy-clean in
-      let layout_of = c.layout_of-layout in
-      fine-replied s.machine s.costs s.tasks.count s.tasks.list good _ _ c.walk_over-end.result
-      (walk-laid s.machine s.costs s.tasks.count s.tasks.list long ok _ c.lay_times.ensures _
-      order.0 _ _ c.walk_over-end.result c.walk_over-end.ensures) long c.tidy-clean.result c.tidy-clean.ensures.0 c.tidy-clean.ensures.1 c.layout_of-layout.result
-      c.layout_of-layout.ensures c.if-stuck-gt0.false;
+      walk-replied s.machine s.costs s.tasks.count s.tasks.list (sym c.in_ok-state_fault.ensures.exact) _ c.walk_over-stuck.result
+      (walk-planned-ends s.machine s.costs c.held-held.result.now (take s.tasks.count s.tasks.list) c.held-held.ensures.exact _
+      c.order_of-order.ensures.0 _ c.walk_over-stuck.result c.walk_over-stuck.ensures)
+      c.tidy.result c.tidy.ensures c.layout_of.result c.layout_of.ensures;
 }

@@ -1,115 +1,67 @@
--- How the code carries a walk: the core's row of piece numbers by value, what was placed and the records to be judged in lent arrays.
+-- How the code carries a walk: the core with the number of the first piece on it, and what was placed.
 --
---   pieces_of_row placed row    the pieces whose numbers a row has
---   first_records records n    the first n records, of which the verdict is asked
---   seated_of, next_of, stick_of, begin_of    one piece more; the next core; stuck; not begun
---   Seated g             the row's numbers are of pieces placed
---   AskFits c records n  the verdict can be asked with one piece more
---   SeatFits placed g    there is room for a piece
---   BothFit placed g     there is room for two, the last one on the next core
---   Both a n e f b       e and f were placed behind the first n
---   LandFits .. k        the task at place k can be placed
---   WalkFits             the walk over an order can begin
---   Reach base until .. o      g with its arrays is what the ending o of a walk is, behind what base has; where it stuck they have until
---   ReachOver .. ks      g with its arrays is what the walk over the places ks is; where it stuck they have what was placed before
-use Rattle.std.specs.Prelude.{◌≡◌, List, [], ◌++◌, map, ℕ, suc, ◌+◌, ◌<◌, ◌≤◌, ◌*◌, length, take, set, replicate}
+--   row_from n placed     the pieces from the number n on: of a core that no other has got a piece behind, its row
+--   AskFits c row         the verdict on a row can be asked
+--   LandFits c placed g   a task can be placed
+--   WalkFits              the walk over an order can begin
+--   Reach base placed r o      r and what was placed is what the ending o of a walk is, behind base; where it stuck there is no r, and what was placed is base
+--   stuck_place o         the place of the task that a walk stuck at
+--   EndsOver W placed r ks     the walk over the places ks has ended so: where it stuck, with what was placed before
+use Rattle.std.specs.Prelude.{◌≡◌, List, ◌++◌, map, Option, None, Some, ℕ, ◌+◌, ◌<◌, ◌≤◌, length, drop}
 use Rattle.demand.specs.declared.Piece.{Piece}
 use Rattle.demand.specs.declared.Costs.{Costs}
-use Rattle.demand.specs.Records.{records_of}
-use Rattle.demand.specs.Sizes.{Sized, SizedCosts, Each, run_most}
+use Rattle.demand.specs.Sizes.{Sized, SizedCosts, Each}
 use Rattle.task.specs.declared.Machine.{Machine}
-use Rattle.plan.specs.declared.Row.{Row}
-use Rattle.plan.specs.declared.Going.{Going}
-use Rattle.walks.specs.Way.{Placed, Ending, fine, stuck, walk_over, placed_until}
+use Rattle.task.specs.declared.Task.{Task}
+use Rattle.plan.specs.declared.walk.Going.{Going}
+use Rattle.walks.specs.Way.{Way, Placed, Ending, fine, stuck, walk_over, placed_until}
 use Rattle.walks.specs.Halves.{Stand}
-use Rattle.plan.specs.Walk.{way_for}
-use Rattle.plan.specs.Ways.TimesArray.{whole_in}
-use Rattle.plan.specs.Ways.PlacedArray.{placed_at, placed_in, Put}
+use Rattle.plan.specs.Walk.{whole_at}
 use Rattle.task.specs.Tasks.{cores_most, tasks_most}
-use Rattle.plan.specs.Sizes.{pieces_most, row_most}
+use Rattle.plan.specs.Sizes.{row_most}
 
-abbrev pub pieces_of_row : List ℕ → Row → List Piece
-pieces_of_row placed row = map (λ i. (placed_at placed i).piece) (take row.len row.numbers)
+abbrev pub row_from : ℕ → List (Placed ℕ) → List Piece
+row_from n placed = map (λ e. e.piece) (drop n placed)
 
-abbrev pub first_records : List ℕ → ℕ → List Piece
-first_records records n = take n (records_of records)
-
-unfoldable pub seated_of : Going → Going
-seated_of g = record { stuck = g.stuck; core = g.core; row = record { len = g.row.len + 1; numbers = set g.row.numbers g.row.len g.count }; count = g.count + 1 }
-
-unfoldable pub next_of : Going → Going
-next_of g = record { stuck = g.stuck; core = g.core + 1; row = record { len = 0; numbers = g.row.numbers }; count = g.count }
-
-unfoldable pub stick_of : Going → ℕ → Going
-stick_of g k = record { stuck = k + 1; core = g.core; row = g.row; count = g.count }
-
-unfoldable pub begin_of : Going
-begin_of = record { stuck = 0; core = 0; row = record { len = 0; numbers = replicate row_most 0 }; count = 0 }
-
-pub record Seated (g : Going) : Type 0 where
-  pub size : length g.row.numbers ≡ row_most
-  pub below : Each (λ i. i < g.count) (take g.row.len g.row.numbers)
-
-pub record AskFits (c : Costs) (records : List ℕ) (n : ℕ) : Type 0 where
+pub record AskFits (c : Costs) (row : List Piece) : Type 0 where
   pub costs : SizedCosts c
-  pub free : n < row_most
-  pub size : length records ≡ 7 * run_most
-  pub sizes : Each Sized (first_records records n)
+  pub few : length row ≤ row_most
+  pub sizes : Each Sized row
 
-pub record SeatFits (placed : List ℕ) (g : Going) : Type 0 where
-  pub room : g.count < pieces_most
-  pub free : g.row.len < row_most
-  pub size : length placed ≡ 9 * pieces_most
-
-pub record BothFit (placed : List ℕ) (g : Going) : Type 0 where
-  pub core : g.core < cores_most
-  pub room : g.count + 1 < pieces_most
-  pub free : g.row.len < row_most
-  pub size : length placed ≡ 9 * pieces_most
-
-pub record Both (a : List ℕ) (n : ℕ) (e f : Placed ℕ) (b : List ℕ) : Type 0 where
-  pub mid : List ℕ
-  pub first : Put a n e mid
-  pub last : Put mid (n + 1) f b
-
-pub record LandFits (m : ℕ) (c : Costs) (placed records : List ℕ) (g : Going) (k : ℕ) : Type 0 where
+-- the walk makes one split at most on each core before it, and none on it
+pub record LandFits (c : Costs) (placed : List (Placed ℕ)) (g : Going) : Type 0 where
   pub costs : SizedCosts c
-  pub place : k < tasks_most
-  pub core : g.core < m
-  pub cores : m ≤ cores_most
-  pub room : g.count ≤ 63 + g.core
-  pub free : g.row.len < row_most
-  pub going : g.stuck ≡ 0
-  pub placed-size : length placed ≡ 9 * pieces_most
-  pub records-size : length records ≡ 7 * run_most
-  pub seated : Seated g
-  pub sizes : Each Sized (pieces_of_row placed g.row)
+  pub room : length placed ≤ 63 + g.core
+  pub begun : g.first ≤ length placed
+  pub free : length placed < g.first + row_most
+  pub sizes : Each Sized (row_from g.first placed)
 
-pub record Reached (base : List (Placed ℕ)) (placed records : List ℕ) (g : Going) (s : Stand) (l : List (Placed ℕ)) : Type 0 where
-  pub still : g.stuck ≡ 0
+pub record Reached (base placed : List (Placed ℕ)) (g : Going) (s : Stand) (l : List (Placed ℕ)) : Type 0 where
   pub core_is : g.core ≡ s.core
-  pub len_is : g.row.len ≡ length s.row
-  pub row_is : pieces_of_row placed g.row ≡ s.row
-  pub placed-is : placed_in placed g.count ≡ base ++ l
-  pub placed-size : length placed ≡ 9 * pieces_most
-  pub records-size : length records ≡ 7 * run_most
-  pub seated : Seated g
+  pub begun : g.first ≤ length placed
+  pub row_is : row_from g.first placed ≡ s.row
+  pub placed-is : placed ≡ base ++ l
 
-abbrev pub Reach : (base until : List (Placed ℕ)) → List ℕ → List ℕ → Going → Ending Stand ℕ → Type 0
-Reach base until placed records g (fine s l) = Reached base placed records g s l
-Reach base until placed records g (stuck k n) = (g.stuck ≡ suc k) × (n ≡ 7) × (placed_in placed g.count ≡ until)
+abbrev pub Reach : (base placed : List (Placed ℕ)) → Option Going → Ending Stand ℕ → Type 0
+Reach base placed (Some g) (fine s l) = Reached base placed g s l
+Reach base placed (Some g) (stuck k n) = ⊥
+Reach base placed None (fine s l) = ⊥
+Reach base placed None (stuck k n) = placed ≡ base
 
-abbrev pub ReachOver : Machine → Costs → (ℕ → Piece) → List ℕ → List ℕ → Going → List ℕ → Type 0
-ReachOver m c whole placed records g ks = Reach [] (placed_until (way_for m c whole) (way_for m c whole).begin ks) placed records g (walk_over (way_for m c whole) ks)
+abbrev pub stuck_place : {S : Type 0} → Ending S ℕ → Option ℕ
+stuck_place (fine s l) = None
+stuck_place (stuck k n) = Some k
+
+pub record EndsOver (W : Way ℕ) (placed : List (Placed ℕ)) (r : Option ℕ) (ks : List ℕ) : Type 0 where
+  pub stuck-is : r ≡ stuck_place (walk_over W ks)
+  pub placed-is : placed ≡ placed_until W W.begin ks
 
 -- what the walk needs of its input: sizes, and an order of places within them
-pub record WalkFits (m : Machine) (c : Costs) (times : List ℕ) (n : ℕ) (order placed records : List ℕ) : Type 0 where
+pub record WalkFits (m : Machine) (c : Costs) (ts : List Task) (order : List ℕ) : Type 0 where
   pub some : 1 ≤ m.cores
   pub few : m.cores ≤ cores_most
   pub costs : SizedCosts c
-  pub count : n ≤ tasks_most
-  pub long : length order ≡ tasks_most
-  pub places : Each (λ k. k < tasks_most) (take n order)
-  pub sizes : Each (λ k. Sized (whole_in times k)) (take n order)
-  pub placed-size : length placed ≡ 9 * pieces_most
-  pub records-size : length records ≡ 7 * run_most
+  pub long : length ts ≤ tasks_most
+  pub count : length order ≤ tasks_most
+  pub places : Each (λ k. k < length ts) order
+  pub sizes : Each (λ k. Sized (whole_at ts k)) order

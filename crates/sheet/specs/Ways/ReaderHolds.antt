@@ -1,33 +1,30 @@
--- What the reader holds of what stands above a line: the head as a struct, the parts and tasks as arrays with zeros behind them. And what it
--- looks up for a line.
+-- What the reader holds of what stands above a line: its stage by name, the parts and tasks as arrays with zeros behind them.
 --
---   head_of a           the head: stage, machine, costs
---   Carries a h ps ts  the head h, the parts ps and the tasks ts hold a
---   parts_of ps         the parts ps, with zeros behind them
---   Found a l s p t n  below a, the name that l looks for stands at place s of the p parts, and its task's name at place t of the n tasks
-use Rattle.std.specs.Prelude.{◌≡◌, ℕ, List, length}
-use Rattle.task.specs.declared.Part.{Part}
-use Rattle.task.specs.declared.Parts.{Parts}
-use Rattle.task.specs.declared.Tasks.{Tasks}
+--   stage_number s    the stage that is named
+--   list_in z xs       the list xs in an array, with z behind it
+--   Carries a d       the draft d holds a
+use Rattle.std.specs.Prelude.{◌≡◌, ℕ, ◌≤◌, List, length}
 use Rattle.demand.specs.Lists.{padded}
-use Rattle.task.specs.Tasks.{tasks_most, no_part, place_of, part_place, tasks_of}
-use Rattle.lines.specs.declared.Line.{Line}
-use Rattle.sheet.specs.declared.Head.{Head}
-use Rattle.sheet.specs.Sheet.{Above}
+use Rattle.task.specs.Tasks.{tasks_most, no_part, no_task}
+use Rattle.sheet.specs.declared.drafts.Stage.{Stage}
+use Rattle.sheet.specs.declared.drafts.Listed.{Listed}
+use Rattle.sheet.specs.declared.drafts.Draft.{Draft}
+use Rattle.sheet.specs.Sheet.{Above, at_top, below_machine, among_parts, among_fits}
 
-abbrev pub head_of : Above → Head
-head_of a = record { stage = a.stage; machine = a.machine; costs = a.costs }
+abbrev pub stage_number : Stage → ℕ
+stage_number Stage.AtTop = at_top
+stage_number Stage.BelowMachine = below_machine
+stage_number Stage.AmongParts = among_parts
+stage_number Stage.AmongFits = among_fits
 
-abbrev pub parts_of : List Part → Parts
-parts_of ps = record { count = length ps; list = padded tasks_most no_part ps }
+abbrev pub list_in : {A : Type 0} → A → List A → Listed A
+list_in z xs = record { count = length xs; list = padded tasks_most z xs }
 
-pub record Carries (a : Above) (h : Head) (ps : Parts) (ts : Tasks) : Type 0 where
-  pub head-is : h ≡ head_of a
-  pub parts_are : ps ≡ parts_of a.parts
-  pub tasks-are : ts ≡ tasks_of a.tasks
-
-pub record Found (a : Above) (l : Line) (source parts twin tasks : ℕ) : Type 0 where
-  pub source_is : source ≡ part_place 1 l.part.name a.parts
-  pub parts-count : parts ≡ length a.parts
-  pub twin-is : twin ≡ place_of 1 l.task a.tasks
-  pub tasks-count : tasks ≡ length a.tasks
+pub record Carries (a : Above) (d : Draft) : Type 0 where
+  pub stage_is : stage_number d.stage ≡ a.stage
+  pub machine_is : d.machine ≡ a.machine
+  pub costs_are : d.costs ≡ a.costs
+  pub parts_are : d.parts ≡ list_in no_part a.parts
+  pub parts_fit : length a.parts ≤ tasks_most
+  pub tasks_are : d.tasks ≡ list_in no_task a.tasks
+  pub tasks_fit : length a.tasks ≤ tasks_most

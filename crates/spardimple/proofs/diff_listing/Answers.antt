@@ -1,151 +1,47 @@
--- `diff_listing` meets its contract: both sheets read and planned, then the listing of both; or refused on the way.
-use mathlib.Core.Path.{sym, ap, subst, ◌∙◌}
-use Prim.Native.Nat.{ℕ, ◌+◌, ◌*◌, ◌^◌, ◌≤◌}
+-- `diff_listing` meets its contract: refused as the first sheet is, then as the second; else the listing of both plans.
+use mathlib.Core.Path.{sym, ap, ◌∙◌}
+use Prim.Native.Nat.{◌+◌}
 use native.Mathlib.Omega.{arith}
 use lib.ListN.{length}
-use Rattle.sheet.specs.declared.Read.{Read}
-use Rattle.sheet.proofs.SmallLaws.{read_small}
+use Rattle.task.specs.Faults.{number_of}
+use Rattle.listing.specs.Papers.{Paper, note, left, written}
 use Rattle.listing.specs.Diff.{diff_of}
+use Rattle.spardimple.specs.Numbers.{number}
+use Rattle.spardimple.specs.Sheets.{told_paper}
 use Rattle.spardimple.specs.Diffs.{second_from, diff_paper, diff_number, diff_left}
-use Rattle.spardimple.proofs.SheetLaws.{reply-small, over-length}
-use Rattle.spardimple.proofs.WhySteps.{refused-told, refused-left}
-use Rattle.spardimple.proofs.DiffSteps.{first-unread, first-stuck, second-unread, second_stuck, both-planned, thousand, written-told, written-short, written-left}
-use borrow.Author.Rules.{rules}
+use Rattle.spardimple.proofs.WhySteps.{note-told, refused-told, refused-left}
+use Rattle.spardimple.proofs.StepLaws.{refusal-small, first-refused, second-refused, both-planned}
 use Rattle.spardimple.proofs.diff_listing.Goals as goal
 
-pub overflow_add-read : goal.overflow_add-read
-overflow_add-read c =
-    let small = subst (λ (t : Read). (t.number ≤ 9) × (t.carries ≤ 16385)) (sym c.read_sheet-read.ensures.exact) (read_small c.args.sheet1.now) in
-    let n : c.read_sheet-read.result.number ≤ 9 = small.0 in
-    search rules
+pub refusal_number-requires : goal.refusal_number-requires
+refusal_number-requires c = (omega arith, refusal-small c.args.sheet1.now c.in-Err.why c.in-Err.ensures)
 
-pub numbered-requires : goal.numbered-requires
-numbered-requires c =
-    let small = subst (λ (t : Read). (t.number ≤ 9) × (t.carries ≤ 16385)) (sym c.read_sheet-read.ensures.exact) (read_small c.args.sheet1.now) in
-    (omega (arith, small.0), omega (arith, small.1))
-
-pub returns-then-read-ne0 : goal.returns-then-read-ne0
+pub returns-in-Err : goal.returns-in-Err
 unfolding diff_number diff_left
-returns-then-read-ne0 c = record {
+returns-in-Err c = record {
   exact =
       let s = c.args in
-      let a = s.sheet1.now in
-      let b = s.sheet2.now in
-      let old = s.out.now in
-      let paper = first-unread a b c.read_sheet-read.result c.read_sheet-read.ensures.exact c.if-read-ne0.true in (
-        c.numbered.ensures ∙ refused-told (diff_paper a b) c.read_sheet-read.result.number c.read_sheet-read.result.carries paper (length old),
-        refused-left (diff_paper a b) c.read_sheet-read.result.number c.read_sheet-read.result.carries paper old,
+      let why = c.in-Err.why in
+      let paper = diff_paper s.sheet1.now s.sheet2.now in
+      let is = first-refused s.sheet1.now s.sheet2.now why c.in-Err.ensures in (
+        c.refusal_number.ensures ∙ refused-told paper (0 + number_of why.fault) why.carries is (length s.out.now),
+        refused-left paper (0 + number_of why.fault) why.carries is s.out.now,
       );
 }
 
-pub overflow_add-first : goal.overflow_add-first
-overflow_add-first c =
-    let small = reply-small c.args.sheet1.now c.read_sheet-read.result c.read_sheet-read.ensures.exact c.if-read-ne0.false c.plan_tasks-first.result
-    c.plan_tasks-first.ensures.exact in
-    let n : c.plan_tasks-first.result.number ≤ 7 = small.0 in
-    search rules
+pub refusal_number-requires-in-Err-planned : goal.refusal_number-requires-in-Err-planned
+refusal_number-requires-in-Err-planned c = (omega arith, refusal-small c.args.sheet2.now c.in-Err-planned.why c.in-Err-planned.ensures)
 
-pub numbered-requires-then-first-ne0 : goal.numbered-requires-then-first-ne0
-numbered-requires-then-first-ne0 c =
-    let small = reply-small c.args.sheet1.now c.read_sheet-read.result c.read_sheet-read.ensures.exact c.if-read-ne0.false c.plan_tasks-first.result
-    c.plan_tasks-first.ensures.exact in
-    (omega (arith, small.0), omega (arith, small.1))
-
-pub returns-then-first-ne0 : goal.returns-then-first-ne0
+pub returns-in-Err-planned : goal.returns-in-Err-planned
 unfolding diff_number diff_left
-returns-then-first-ne0 c = record {
+returns-in-Err-planned c = record {
   exact =
       let s = c.args in
-      let a = s.sheet1.now in
-      let b = s.sheet2.now in
-      let old = s.out.now in
-      let paper = first-stuck a b c.read_sheet-read.result c.read_sheet-read.ensures.exact c.if-read-ne0.false c.plan_tasks-first.result
-      c.plan_tasks-first.ensures.exact c.if-first-ne0.true in (
-        c.numbered-then-first-ne0.ensures ∙ refused-told (diff_paper a b) c.plan_tasks-first.result.number c.plan_tasks-first.result.carries paper (length old),
-        refused-left (diff_paper a b) c.plan_tasks-first.result.number c.plan_tasks-first.result.carries paper old,
-      );
-}
-
-pub overflow_add-other : goal.overflow_add-other
-overflow_add-other c =
-    let small = subst (λ (t : Read). (t.number ≤ 9) × (t.carries ≤ 16385)) (sym c.read_sheet-other.ensures.exact) (read_small c.args.sheet2.now) in
-    let n : c.read_sheet-other.result.number ≤ 9 = small.0 in
-    search rules
-
-pub numbered_second-requires : goal.numbered_second-requires
-numbered_second-requires c =
-    let small = subst (λ (t : Read). (t.number ≤ 9) × (t.carries ≤ 16385)) (sym c.read_sheet-other.ensures.exact) (read_small c.args.sheet2.now) in
-    (omega (arith, small.0), omega (arith, small.1))
-
-pub returns-then-other-ne0 : goal.returns-then-other-ne0
-unfolding diff_number diff_left
-returns-then-other-ne0 c = record {
-  exact =
-      let s = c.args in
-      let a = s.sheet1.now in
-      let b = s.sheet2.now in
-      let old = s.out.now in
-      let paper = second-unread a b c.read_sheet-read.result c.read_sheet-read.ensures.exact c.if-read-ne0.false c.plan_tasks-first.result
-      c.plan_tasks-first.ensures.exact c.if-first-ne0.false c.read_sheet-other.result c.read_sheet-other.ensures.exact c.if-other-ne0.true in (
-        c.numbered_second.ensures
-            ∙ (ap (λ (n : ℕ). 2 ^ 32 * n + c.read_sheet-other.result.carries) (sym (thousand c.read_sheet-other.result.number))
-            ∙ refused-told (diff_paper a b) (second_from + c.read_sheet-other.result.number) c.read_sheet-other.result.carries paper (length old)),
-        refused-left (diff_paper a b) (second_from + c.read_sheet-other.result.number) c.read_sheet-other.result.carries paper old,
-      );
-}
-
-pub overflow_add-second : goal.overflow_add-second
-overflow_add-second c =
-    let small = reply-small c.args.sheet2.now c.read_sheet-other.result c.read_sheet-other.ensures.exact c.if-other-ne0.false
-    c.plan_tasks-second.result c.plan_tasks-second.ensures.exact in
-    let n : c.plan_tasks-second.result.number ≤ 7 = small.0 in
-    search rules
-
-pub numbered_second-requires-then-second-ne0 : goal.numbered_second-requires-then-second-ne0
-numbered_second-requires-then-second-ne0 c =
-    let small = reply-small c.args.sheet2.now c.read_sheet-other.result c.read_sheet-other.ensures.exact c.if-other-ne0.false
-    c.plan_tasks-second.result c.plan_tasks-second.ensures.exact in
-    (omega (arith, small.0), omega (arith, small.1))
-
-pub returns-then-second-ne0 : goal.returns-then-second-ne0
-unfolding diff_number diff_left
-returns-then-second-ne0 c = record {
-  exact =
-      let s = c.args in
-      let a = s.sheet1.now in
-      let b = s.sheet2.now in
-      let old = s.out.now in
-      let paper =
-      second_stuck a b c.read_sheet-read.result c.read_sheet-read.ensures.exact c.if-read-ne0.false c.plan_tasks-first.result
-      c.plan_tasks-first.ensures.exact c.if-first-ne0.false c.read_sheet-other.result c.read_sheet-other.ensures.exact c.if-other-ne0.false
-      c.plan_tasks-second.result c.plan_tasks-second.ensures.exact
-      c.if-second-ne0.true in (
-        c.numbered_second-then-second-ne0.ensures
-            ∙ (ap (λ (n : ℕ). 2 ^ 32 * n + c.plan_tasks-second.result.carries) (sym (thousand c.plan_tasks-second.result.number))
-            ∙ refused-told (diff_paper a b) (second_from + c.plan_tasks-second.result.number) c.plan_tasks-second.result.carries paper (length old)),
-        refused-left (diff_paper a b) (second_from + c.plan_tasks-second.result.number) c.plan_tasks-second.result.carries paper old,
-      );
-}
-
-pub returns-then-out-long : goal.returns-then-out-long
-unfolding diff_number diff_left
-returns-then-out-long c = record {
-  exact =
-      let s = c.args in
-      let a = s.sheet1.now in
-      let b = s.sheet2.now in
-      let old = s.out.now in
-      let text = diff_of c.plan_tasks-first.result.plan c.plan_tasks-second.result.plan in
-      let paper =
-      both-planned a b c.read_sheet-read.result c.read_sheet-read.ensures.exact c.if-read-ne0.false c.plan_tasks-first.result
-      c.plan_tasks-first.ensures.exact c.if-first-ne0.false c.read_sheet-other.result c.read_sheet-other.ensures.exact c.if-other-ne0.false
-      c.plan_tasks-second.result c.plan_tasks-second.ensures.exact
-      c.if-second-ne0.false in
-      let same = ap length c.write_diff-long.ensures.exact.1 ∙ over-length text old in (
-        c.numbered-then-out-long.ensures ∙ (ap (λ (n : ℕ). 2 ^ 32 * 110 + n) c.write_diff-long.ensures.exact.0
-            ∙ written-short (diff_paper a b) text paper (length old)
-            (omega (arith, c.if-out-long.true, c.write_diff-long.ensures.exact.0))),
-        c.write_diff-long.ensures.exact.1 ∙ written-left (diff_paper a b) text paper old,
+      let why = c.in-Err-planned.why in
+      let paper = diff_paper s.sheet1.now s.sheet2.now in
+      let is = second-refused s.sheet1.now s.sheet2.now c.in-Ok.plan c.in-Ok.ensures why c.in-Err-planned.ensures in (
+        c.refusal_number-in-Err-planned.ensures ∙ refused-told paper (second_from + number_of why.fault) why.carries is (length s.out.now),
+        refused-left paper (second_from + number_of why.fault) why.carries is s.out.now,
       );
 }
 
@@ -154,18 +50,10 @@ unfolding diff_number diff_left
 returns c = record {
   exact =
       let s = c.args in
-      let a = s.sheet1.now in
-      let b = s.sheet2.now in
-      let old = s.out.now in
-      let text = diff_of c.plan_tasks-first.result.plan c.plan_tasks-second.result.plan in
-      let paper =
-      both-planned a b c.read_sheet-read.result c.read_sheet-read.ensures.exact c.if-read-ne0.false c.plan_tasks-first.result
-      c.plan_tasks-first.ensures.exact c.if-first-ne0.false c.read_sheet-other.result c.read_sheet-other.ensures.exact c.if-other-ne0.false
-      c.plan_tasks-second.result c.plan_tasks-second.ensures.exact
-      c.if-second-ne0.false in
-      let same = ap length c.write_diff-long.ensures.exact.1 ∙ over-length text old in (
-        c.numbered-2.ensures ∙ (ap (λ (n : ℕ). 2 ^ 32 * 0 + n) c.write_diff-long.ensures.exact.0 ∙ written-told (diff_paper a b) text paper (length old)
-            (omega (arith, c.if-out-long.false, c.write_diff-long.ensures.exact.0))),
-        c.write_diff-long.ensures.exact.1 ∙ written-left (diff_paper a b) text paper old,
+      let w = c.compared.ensures in
+      let text = written (diff_of c.in-Ok.plan c.in-Ok-planned.plan) in
+      let is = sym (both-planned s.sheet1.now s.sheet2.now c.in-Ok.plan c.in-Ok.ensures c.in-Ok-planned.plan c.in-Ok-planned.ensures) in (
+        c.note_number.ensures ∙ (note-told text tt (length s.out.now) (note c.compared.result) w.says ∙ ap (λ (p : Paper). number (told_paper p (length s.out.now))) is),
+        w.leaves ∙ ap (λ (p : Paper). left p s.out.now) is,
       );
 }

@@ -18,8 +18,8 @@ use Rattle.demand.specs.Busy.{busy_sum}
 use Rattle.demand.specs.Verdict.{verdict}
 use Rattle.verdicts.specs.MostFitting.{beside}
 
-unfoldable pub with_charge : Charged → ℕ → Charged
-with_charge q f = record { charge = f; window = q.window; period = q.period; jitter = q.jitter; release = q.release; ipi = q.ipi; ipij = q.ipij }
+abbrev pub with_charge : Charged → ℕ → Charged
+with_charge q f = record q { charge = f }
 
 abbrev pub FitsFrom : ℕ → List Charged → Charged → ℕ → ℕ → Type 0
 FitsFrom b qs q f a = (u : ℕ) → a ≤ u → beside b qs q f u ≤ u

@@ -1,9 +1,6 @@
 -- What the functions of the split search promise one another, over the charged pieces qs of a core. It is a way and no meaning: what a
 -- split means stands in `specs/Split.antt`, and `proofs/SplitSearchLaws.antt` leads from here to there.
 --
---   Weighs q               q is charged something
---   Ready a n              n pieces lie in the array a, each fit to be counted with, and there is room for one more
---   SameCore a b n             the array b has the n pieces of a
 --   Steps c qs p x s       what one candidate told: it fits, or none from it down to above y does
 --   Misses c qs p e r x    each budget between r and x has the t of its tight window, if any, above e
 --   Skips c qs p r x       no budget between r and x fits
@@ -11,7 +8,7 @@
 --   LastBounds c p x w r   what the last piece of x told
 --   Ends c qs p e          the t of each allowed split's tight window is below e
 --   Starts c qs p r        no split above r is allowed
-use Rattle.std.specs.Prelude.{◌≡◌, List, ℕ, ◌+◌, ◌*◌, ◌-◌, ◌≤◌, ◌<◌, length}
+use Rattle.std.specs.Prelude.{◌≡◌, List, ℕ, ◌+◌, ◌-◌, ◌≤◌, ◌<◌}
 use Rattle.demand.specs.declared.Piece.{Piece}
 use Rattle.demand.specs.declared.Costs.{Costs}
 use Rattle.demand.specs.declared.Charged.{Charged}
@@ -20,25 +17,9 @@ use Rattle.splits.specs.declared.charge_bounds.Bound.{Bound}
 use Rattle.splits.specs.declared.charge_bounds.Bound.TheVariants.{Stands, Falls, AtMost}
 use Rattle.splits.specs.declared.split_search.Step.{Step}
 use Rattle.splits.specs.declared.split_search.Step.TheVariants.{Done, Below}
-use Rattle.demand.specs.Sizes.{run_most, Each}
-use Rattle.demand.specs.Ways.Ranges.{Ranged}
 use Rattle.demand.specs.Charge.{stall}
 use Rattle.demand.specs.Verdict.{verdict}
 use Rattle.demand.specs.Ways.ChargedSplit.{last_alone, Tight, Fits, NoneBetween}
-use Rattle.verdicts.specs.ChargedArray.{charged_in}
-
-pub record Weighs (q : Charged) : Type 0 where
-  pub some : 1 ≤ q.charge
-
-pub record Ready (a : List ℕ) (n : ℕ) : Type 0 where
-  pub room : n < run_most
-  pub ranged : Each Ranged (charged_in a n)
-  pub weighs : Each Weighs (charged_in a n)
-  pub long : length a ≡ 7 * run_most
-
-pub record SameCore (a b : List ℕ) (n : ℕ) : Type 0 where
-  pub same : charged_in b n ≡ charged_in a n
-  pub long : length b ≡ 7 * run_most
 
 abbrev pub Steps : Costs → List Charged → Piece → ℕ → Step → Type 0
 Steps c qs p x (Done w) = (t : ℕ) × Fits c qs p x t × (w ≡ p.jitter + t)

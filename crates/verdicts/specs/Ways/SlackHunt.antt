@@ -8,12 +8,11 @@
 --   Level g w a t r      r is t, or a shorter length from a, on t's side of w, with the same demand
 --   Seeks g a l r        r is the greatest overloaded length of the l from a, or, where there is none, the length with the least slack; and the demand there
 --   Leads g a l best end     no length of the l from a which is not below `end` has less slack than `best`, and `best` is not above it
-use Rattle.std.specs.Prelude.{◌≡◌, ℕ, ◌+◌, ◌-◌, ◌≤◌, ◌<◌}
+use Rattle.std.specs.Prelude.{◌≡◌, None, Some, Option, ℕ, ◌+◌, ◌-◌, ◌≤◌, ◌<◌}
 use Rattle.demand.specs.Why.{slack, least_slack}
 use Rattle.verdicts.specs.declared.slacks.Sought.{Sought}
 use Rattle.verdicts.specs.declared.slacks.Sought.TheVariants.{Over, Least}
-use Rattle.verdicts.specs.declared.spans.Hunted.{Hunted}
-use Rattle.verdicts.specs.declared.spans.Hunted.TheVariants.{Struck, Missed}
+use Rattle.verdicts.specs.declared.spans.Spot.{Spot}
 
 abbrev pub Rises : (ℕ → ℕ) → ℕ → Type 0
 Rises g w = (t u : ℕ) → t ≤ u → (w ≤ u → w ≤ t) → g t ≤ g u
@@ -30,9 +29,9 @@ pub record Hit (g : ℕ → ℕ) (a l t : ℕ) : Type 0 where
   pub over : t < g t
   pub quiet : Quiet g (t + 1) (a + l)
 
-abbrev pub Hunts : (ℕ → ℕ) → ℕ → ℕ → ℕ → Hunted → Type 0
-Hunts g bar a l (Struck t x) = Hit (raised g bar) a l t × (x ≡ g t)
-Hunts g bar a l Missed = Quiet (raised g bar) a (a + l)
+abbrev pub Hunts : (ℕ → ℕ) → ℕ → ℕ → ℕ → Option Spot → Type 0
+Hunts g bar a l (Some r) = Hit (raised g bar) a l r.length × (r.demand ≡ g r.length)
+Hunts g bar a l None = Quiet (raised g bar) a (a + l)
 
 pub record Level (g : ℕ → ℕ) (w a t r : ℕ) : Type 0 where
   pub from : a ≤ r
@@ -49,5 +48,5 @@ pub record Leads (g : ℕ → ℕ) (a l best end : ℕ) : Type 0 where
 
 -- where there is no overloaded length in the span, the length with the least slack
 abbrev pub Seeks : (ℕ → ℕ) → ℕ → ℕ → Sought → Type 0
-Seeks g a l (Over t x) = Hit g a l t × (x ≡ g t)
-Seeks g a l (Least t x) = Quiet g a (a + l) × (t ≡ least_slack g a (l - 1)) × (x ≡ g t)
+Seeks g a l (Over r) = Hit g a l r.length × (r.demand ≡ g r.length)
+Seeks g a l (Least r) = Quiet g a (a + l) × (r.length ≡ least_slack g a (l - 1)) × (r.demand ≡ g r.length)

@@ -13,7 +13,7 @@ returns-then-not-sized_costs c = record {
       let s = c.args in
       let t = c.sized_costs in
       let bad = sym (sized-costs-is s.costs t.result t.ensures) ∙ not-true t.result c.if-not-sized_costs.true-raw in
-      c.no_charge.ensures ∙ sym (charged-no-costs s.costs s.piece bad);
+      c.no_charge.ensures.exact ∙ sym (charged-no-costs s.costs s.piece bad);
 }
 
 pub returns-then-not-countable_piece : goal.returns-then-not-countable_piece
@@ -22,7 +22,7 @@ returns-then-not-countable_piece c = record {
       let s = c.args in
       let u = c.countable_piece in
       let bad = sym (countable-is s.piece u.result u.ensures) ∙ not-true u.result c.if-not-countable_piece.true-raw in
-      c.no_charge-then-not-countable_piece.ensures ∙ sym (charged-no-piece s.costs s.piece bad);
+      c.no_charge-then-not-countable_piece.ensures.exact ∙ sym (charged-no-piece s.costs s.piece bad);
 }
 
 pub charged_of-requires : goal.charged_of-requires

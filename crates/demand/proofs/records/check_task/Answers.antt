@@ -1,52 +1,49 @@
--- `sizes::check_task` meets its contract: the task's record is looked at behind the run's.
+-- `records::check_task` meets its contract: the task's record is looked at behind the run's.
+use Rattle.std.proofs.Common.{rules, ◌≡◌, Err}
 use mathlib.Core.Path.{sym, ◌∙◌}
 use mathlib.Core.List.{[], ◌∷◌, ◌++◌}
 use Prim.Native.Nat.{◌+◌}
 use native.Mathlib.Omega.{arith}
-use lib.ListN.{take}
-use Rattle.demand.specs.Records.{records_of}
-use Rattle.demand.proofs.RecordLaws.{records-length}
+use lib.ListN.{length}
+use Rattle.demand.specs.Records.{pieces_in}
+use Rattle.demand.proofs.RecordLaws.{pieces-length, pieces-all}
 use Rattle.demand.proofs.RunLaws.{check-many, behind-fine, behind-bad, behind-refused}
 use Rattle.demand.proofs.SizeLaws.{sized-is}
 use Rattle.demand.proofs.records.check_task.Goals as goal
 
-pub returns-then-n-ge-RUN_MOST : goal.returns-then-n-ge-RUN_MOST
-returns-then-n-ge-RUN_MOST c = record {
+pub returns-then-records-ge-RUN_MOST : goal.returns-then-records-ge-RUN_MOST
+returns-then-records-ge-RUN_MOST c = record {
   exact =
-      let s = c.args in
-      sym (check-many s.costs (s.n + 1) (take s.n (records_of s.records.now) ++ (s.task ∷ [])) (omega arith));
+      let rs = c.args.records.now in
+      sym (check-many c.args.costs (length rs + 1) (pieces_in rs ++ (c.args.task ∷ [])) (omega arith));
 }
 
-pub returns-then-sized_piece : goal.returns-then-sized_piece
-returns-then-sized_piece c = record {
+pub returns-in_err-check_records : goal.returns-in_err-check_records
+returns-in_err-check_records c = record {
   exact =
       let s = c.args in
-      let ps = records_of s.records.now in
-      let good = sym (sized-is s.task c.sized_piece.result c.sized_piece.ensures) ∙ c.if-sized_piece.true in
-      let check-records = c.check_records in
-      let if1 = c.if-n-ge-RUN_MOST in
-      sym (behind-fine s.costs s.n ps s.task (omega (arith, if1.false)) (omega (arith, if1.false, records-length s.records.now))
-      (sym check-records.ensures.exact ∙ c.in-Fine.is) good);
+      let rs = s.records.now in
+      let same : c.from_residual.result ≡ Err c.in_err-check_records.field-0.0 = search rules in
+      same ∙ sym (rw (pieces-all rs) at (behind-refused s.costs (length rs) (pieces_in rs) s.task (omega (arith, c.if-records-ge-RUN_MOST.false)) (omega (arith, pieces-length rs))
+      _ (sym c.check_records.ensures.exact ∙ c.in_err-check_records.was)));
 }
 
-pub returns-in-Bad : goal.returns-in-Bad
-returns-in-Bad c = record {
+pub returns-then-not-sized_piece : goal.returns-then-not-sized_piece
+returns-then-not-sized_piece c = record {
   exact =
       let s = c.args in
-      let ps = records_of s.records.now in
-      let if1 = c.if-n-ge-RUN_MOST in
-      sym (behind-refused s.costs s.n ps s.task (omega (arith, if1.false)) (omega (arith, if1.false, records-length s.records.now))
-      c.in-Bad.why (sym c.check_records.ensures.exact ∙ c.in-Bad.is));
+      let rs = s.records.now in
+      let bad = sym (sized-is s.task c.sized_piece.result c.sized_piece.ensures) ∙ c.if-not-sized_piece.true in
+      sym (rw (pieces-all rs) at (behind-bad s.costs (length rs) (pieces_in rs) s.task (omega (arith, c.if-records-ge-RUN_MOST.false)) (omega (arith, pieces-length rs))
+      (sym c.check_records.ensures.exact ∙ c.in_ok-check_records.was) bad));
 }
 
-pub returns-else-sized_piece : goal.returns-else-sized_piece
-returns-else-sized_piece c = record {
+pub returns : goal.returns
+returns c = record {
   exact =
       let s = c.args in
-      let ps = records_of s.records.now in
-      let bad = sym (sized-is s.task c.sized_piece.result c.sized_piece.ensures) ∙ c.if-sized_piece.false in
-      let check-records = c.check_records in
-      let if1 = c.if-n-ge-RUN_MOST in
-      sym (behind-bad s.costs s.n ps s.task (omega (arith, if1.false)) (omega (arith, if1.false, records-length s.records.now))
-      (sym check-records.ensures.exact ∙ c.in-Fine.is) bad);
+      let rs = s.records.now in
+      let good = sym (sized-is s.task c.sized_piece.result c.sized_piece.ensures) ∙ c.if-not-sized_piece.false in
+      sym (rw (pieces-all rs) at (behind-fine s.costs (length rs) (pieces_in rs) s.task (omega (arith, c.if-records-ge-RUN_MOST.false)) (omega (arith, pieces-length rs))
+      (sym c.check_records.ensures.exact ∙ c.in_ok-check_records.was) good));
 }

@@ -1,33 +1,32 @@
--- `records::records_of` meets its contract: after i turns the first i places are the run's.
+-- `records::records_of` meets its contract: the first records are those of the first pieces.
 use borrow.Author.Rules.{rules}
-use mathlib.Core.Path.{◌≡◌, refl, sym, ap, ◌∙◌}
-use mathlib.Core.List.{List}
-use Prim.Native.Nat.{ℕ, ◌+◌}
+use mathlib.Core.Path.{◌≡◌, sym, ◌∙◌}
+use mathlib.Core.List.{map}
 use native.Mathlib.Omega.{arith}
-use lib.ListN.{length, drop}
-use Rattle.demand.specs.Records.{outside, put_all, lent_of}
+use lib.ListN.{length, length-map}
+use lib.Seq.{take_all}
+use lib.ListN.{length-set}
+use Rattle.demand.specs.Records.{outside, record_for}
 use Rattle.demand.specs.Sizes.{run_most}
 use Rattle.demand.proofs.RunLaws.{length-mapped}
-use Rattle.demand.proofs.RecordLaws.{put-all-next, put-all-end}
+use Rattle.demand.proofs.RecordLaws.{record-next}
 use Rattle.demand.proofs.records.records_of.Goals as goal
 
-pub loop-i-init : goal.loop-i-init
-unfolding lent_of
-loop-i-init c = (search rules, refl)
-
-pub loop-i-preserved : goal.loop-i-preserved
-loop-i-preserved c =
-    let s = c.args in
-    let l = c.loop-i in
-    let long : length s.run.pieces ≡ run_most = search (rules, length-mapped) in
-    let one = put-all-next l.records s.run.pieces l.i outside (omega arith) in
-    (search rules, ap (λ (a : List ℕ). put_all a (l.i + 1) (drop (l.i + 1) s.run.pieces)) c.put_record.ensures.exact ∙ (sym one ∙ l.invariant.1))
+pub loop-place-preserved : goal.loop-place-preserved
+loop-place-preserved c =
+    let ps = c.args.run.pieces in
+    let l = c.loop-place in
+    let many : length ps ≡ run_most = search (rules, length-mapped) in (
+      length-set l.records l.place c.from.result ∙ l.invariant.0,
+      record-next l.records ps l.place c.from.result outside (l.invariant.0 ∙ sym many) (omega (arith, many, c.loop-place-test.true)) l.invariant.1 c.from.ensures,
+    )
 
 pub returns : goal.returns
 returns c = record {
   exact =
-      let s = c.args in
-      let l = c.loop-i in
-      let long : length s.run.pieces ≡ run_most = search (rules, length-mapped) in
-      sym (put-all-end l.records s.run.pieces l.i (omega arith)) ∙ l.invariant.1;
+      let ps = c.args.run.pieces in
+      let l = c.loop-place in
+      let many : length ps ≡ run_most = search (rules, length-mapped) in
+      let some : length (map record_for ps) ≡ run_most = length-map ps record_for ∙ many in
+      sym (take_all l.place l.records (omega (arith, l.invariant.0, c.loop-place-test.false))) ∙ l.invariant.1 ∙ take_all l.place (map record_for ps) (omega (arith, some, c.loop-place-test.false));
 }

@@ -1,13 +1,8 @@
--- `records::records_of` meets its contract: after i turns the first i places are the run's.
-use mathlib.Core.Path.{◌≡◌}
-use Prim.Native.Nat.{◌-◌, ◌≤◌}
-use lib.ListN.{drop}
-use Rattle.demand.specs.Records.{put_all, lent_of}
+-- `records::records_of` meets its contract: the first records are those of the first pieces.
+use Rattle.std.proofs.Common.{◌≡◌, map, take, length}
 use Rattle.demand.specs.Sizes.{run_most}
+use Rattle.demand.specs.Records.{record_for}
 use Rattle.demand.proofs.records.records_of.Given as goal
 
-abbrev pub invariant-loop-i : goal.invariant-loop-i
-invariant-loop-i l = (l.i ≤ run_most) × (put_all l.records l.i (drop l.i l.run.pieces) ≡ lent_of l.run.pieces)
-
-abbrev pub decreases-loop-i : goal.decreases-loop-i
-decreases-loop-i l = run_most - l.i
+abbrev pub invariant-loop-place : goal.invariant-loop-place
+invariant-loop-place l = (length l.records ≡ run_most) × (take l.place l.records ≡ take l.place (map record_for l.fn.run.pieces))

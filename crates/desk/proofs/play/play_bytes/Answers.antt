@@ -1,33 +1,30 @@
--- What the desk is after all bytes, it is after those from i on: one byte more is a line's end, or is put behind the line.
+-- `play::play_bytes` meets its contract: one byte more is a line's end, or is put behind the line.
 -- Assumes nothing.
-use mathlib.Core.Path.{sym, ◌∙◌}
-use Prim.Native.Nat.{◌<◌}
-use native.Mathlib.Omega.{arith}
-use lib.ListN.{length}
+use mathlib.Core.Path.{refl, sym, ap, ◌∙◌}
+use Prim.Native.Nat.{◌+◌}
+use lib.ListN.{drop}
+use Rattle.desk.specs.Desk.{played_bytes}
 use Rattle.desk.proofs.DeskLaws.{played-newline, played-other, played-end}
 use Rattle.desk.proofs.play.play_bytes.Goals as goal
 use Rattle.desk.proofs.play.play_bytes.Goals.{then-b-eq10, else-b-eq10}
 
-pub loop-i-preserved : goal.loop-i-preserved
-loop-i-preserved g c =
+pub loop-b-preserved : goal.loop-b-preserved
+loop-b-preserved g c =
     let bs = c.args.bytes.now in
-    let loop = c.loop-i in
-    let low : loop.i < length bs = omega arith in
-    let after = c.if-b-eq10 in (
-      omega arith,
-      elim c.if-b-eq10.branch [
-        | then-b-eq10 w ↦
-            loop.invariant.1
-            ∙ played-newline loop.plan loop.line bs loop.i low after.plan after.line w.if-b-eq10.true (w.plan-is ∙ w.answer-plan.ensures)
-            (w.line-is ∙ w.fresh-line.ensures)
-        | else-b-eq10 w ↦
-            loop.invariant.1
-            ∙ played-other loop.plan loop.line bs loop.i low after.plan after.line w.if-b-eq10.false w.plan-is
-            (w.line-is ∙ w.with_byte-line.ensures)
-      ],
-    )
+    let loop = c.loop-b in
+    let d = loop.desk in
+    elim c.if-b-eq10.branch [
+      | then-b-eq10 w ↦
+          loop.invariant
+          ∙ played-newline d.plan d.line bs loop.b-index c.loop-b-test.true w.answer_line.new.plan w.fresh-desk.result w.if-b-eq10.true w.answer_line.ensures w.fresh-desk.ensures
+          ∙ ap (λ e. played_bytes e (drop (loop.b-index + 1) bs)) (sym w.desk-is)
+      | else-b-eq10 w ↦
+          loop.invariant
+          ∙ played-other d.plan d.line bs loop.b-index c.loop-b-test.true d.plan w.push.new.self w.if-b-eq10.false refl w.push.ensures
+          ∙ ap (λ e. played_bytes e (drop (loop.b-index + 1) bs)) (sym w.desk-is)
+    ]
 
 pub returns : goal.returns
 returns g c =
-    let loop = c.loop-i in
-    sym (loop.invariant.1 ∙ played-end loop.plan loop.line c.args.bytes.now loop.i (omega arith))
+    let d = c.loop-b.desk in
+    sym (c.loop-b.invariant ∙ played-end d.plan d.line c.args.bytes.now c.loop-b.b-index c.loop-b-test.false)

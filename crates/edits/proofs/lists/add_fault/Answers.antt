@@ -1,89 +1,27 @@
 -- `lists::add_fault` meets its contract: the rules in their order.
 -- Assumes nothing.
-use mathlib.Core.Path.{◌≡◌}
-use mathlib.Core.Bool.{true, false}
-use lib.ListN.{length}
-use Rattle.demand.specs.Sizes.{sized}
-use Rattle.task.specs.Names.{formed}
-use Rattle.task.specs.Tasks.{whole_piece}
+use Rattle.std.proofs.Common.{rules, ◌≡◌, length}
+use Rattle.std.proofs.lemmas.Result.{err_from_is_err_and}
 use Rattle.demand.proofs.RunLaws.{length-mapped}
-use Rattle.edits.specs.Edits.{named, edit_fault}
 use Rattle.task.specs.Tasks.{list_of}
 use Rattle.edits.proofs.ListLaws.{room-none, room-some}
-use Rattle.edits.proofs.EditLaws.{told-no, told-yes, sizes-no, sizes-yes, found-no, found-yes}
-use borrow.Author.Rules.{rules}
+use Rattle.edits.proofs.EditLaws.{add-below, add-last}
 use Rattle.edits.proofs.lists.add_fault.Goals as goal
 
-pub returns-then-not-well_formed : goal.returns-then-not-well_formed
-unfolding edit_fault
-returns-then-not-well_formed c =
-    let start = c.args in
-    rw (told-no c.well_formed-2.result (formed start.task.name) c.well_formed-2.ensures.exact c.if-not-well_formed.true-raw)
-
-pub returns-then-not-within_sizes : goal.returns-then-not-within_sizes
-unfolding edit_fault
-returns-then-not-within_sizes c =
-    let good : formed c.args.task.name ≡ true = (let start = c.args in
-    told-yes c.well_formed-2.result (formed start.task.name) c.well_formed-2.ensures.exact c.if-not-well_formed.false-raw) in
-    let start = c.args in
-    rw (
-      good,
-      sizes-no start.task.times c.whole_piece.result c.within_sizes.result
-          c.whole_piece.ensures.exact c.within_sizes.ensures.exact c.if-not-within_sizes.true-raw,
-    )
-
-pub returns-then-place_of-ne0 : goal.returns-then-place_of-ne0
-unfolding edit_fault
-returns-then-place_of-ne0 c =
-    let good : formed c.args.task.name ≡ true = (let start = c.args in
-    told-yes c.well_formed-2.result (formed start.task.name) c.well_formed-2.ensures.exact c.if-not-well_formed.false-raw) in
-    let fits : sized (whole_piece c.args.task.times) ≡ true = (
-    let start = c.args in
-    sizes-yes start.task.times c.whole_piece.result c.within_sizes.result c.whole_piece.ensures.exact
-    c.within_sizes.ensures.exact c.if-not-within_sizes.false-raw) in
-    let start = c.args in
-    rw (
-      good,
-      fits,
-      found-yes start.task.name (list_of start.tasks) c.place_of.result c.place_of.ensures.exact c.if-place_of-ne0.true,
-    )
+pub returns-in_err-task_fault : goal.returns-in_err-task_fault
+returns-in_err-task_fault c =
+    let p = err_from_is_err_and c.from_residual.result c.from_residual.ensures.1 in
+    rw (p.1, p.2) (add-below c.args.task (list_of c.args.tasks) c.in_err-task_fault.field-0.0
+    (rw c.held.ensures.exact at c.in_err-task_fault.ensures.exact))
 
 pub returns-then-tasks-ge-TASKS_MOST : goal.returns-then-tasks-ge-TASKS_MOST
-unfolding edit_fault
 returns-then-tasks-ge-TASKS_MOST c =
-    let good : formed c.args.task.name ≡ true = (let start = c.args in
-    told-yes c.well_formed-2.result (formed start.task.name) c.well_formed-2.ensures.exact c.if-not-well_formed.false-raw) in
-    let fits : sized (whole_piece c.args.task.times) ≡ true = (
-    let start = c.args in
-    sizes-yes start.task.times c.whole_piece.result c.within_sizes.result c.whole_piece.ensures.exact
-    c.within_sizes.ensures.exact c.if-not-within_sizes.false-raw) in
-    let new : named c.args.task.name (list_of c.args.tasks) ≡ false = (let start = c.args in
-    found-no start.task.name (list_of start.tasks) c.place_of.result c.place_of.ensures.exact c.if-place_of-ne0.false) in
     let q = c.args.tasks in
     let long : length q.list ≡ 64 = search (rules, length-mapped) in
-    rw (
-      good,
-      fits,
-      new,
-      room-none q long c.if-tasks-ge-TASKS_MOST.true,
-    )
+    add-last c.args.task (list_of q) (rw c.held.ensures.exact at c.in_ok-task_fault.ensures.exact) 6 (rw (room-none q long c.if-tasks-ge-TASKS_MOST.true))
 
 pub returns : goal.returns
-unfolding edit_fault
 returns c =
-    let good : formed c.args.task.name ≡ true = (let start = c.args in
-    told-yes c.well_formed-2.result (formed start.task.name) c.well_formed-2.ensures.exact c.if-not-well_formed.false-raw) in
-    let fits : sized (whole_piece c.args.task.times) ≡ true = (
-    let start = c.args in
-    sizes-yes start.task.times c.whole_piece.result c.within_sizes.result c.whole_piece.ensures.exact
-    c.within_sizes.ensures.exact c.if-not-within_sizes.false-raw) in
-    let new : named c.args.task.name (list_of c.args.tasks) ≡ false = (let start = c.args in
-    found-no start.task.name (list_of start.tasks) c.place_of.result c.place_of.ensures.exact c.if-place_of-ne0.false) in
     let q = c.args.tasks in
     let long : length q.list ≡ 64 = search (rules, length-mapped) in
-    rw (
-      good,
-      fits,
-      new,
-      room-some q long c.if-tasks-ge-TASKS_MOST.false,
-    )
+    add-last c.args.task (list_of q) (rw c.held.ensures.exact at c.in_ok-task_fault.ensures.exact) 0 (rw (room-some q long c.if-tasks-ge-TASKS_MOST.false))

@@ -1,27 +1,26 @@
 -- `lists::withdraw_fault` meets its contract: the rules in their order.
 -- Assumes nothing.
-use mathlib.Core.Path.{◌≡◌}
-use mathlib.Core.Bool.{true}
+use Rattle.std.proofs.Common.{◌≡◌, true, false}
 use Rattle.task.specs.Names.{formed}
-use Rattle.edits.specs.Edits.{edit_fault}
 use Rattle.task.specs.Tasks.{list_of}
-use Rattle.edits.proofs.EditLaws.{told-no, told-yes, found-no, found-yes}
+use Rattle.edits.specs.Edits.{edit_fault}
+use Rattle.edits.proofs.EditLaws.{found-no, found-yes}
 use Rattle.edits.proofs.lists.withdraw_fault.Goals as goal
 
 pub returns-then-not-well_formed : goal.returns-then-not-well_formed
 unfolding edit_fault
-returns-then-not-well_formed c = rw (told-no c.well_formed-2.result (formed c.args.name) c.well_formed-2.ensures.exact c.if-not-well_formed.true-raw)
+returns-then-not-well_formed c =
+    let bad : formed c.args.name ≡ false = cc (c.well_formed-2.ensures.exact, c.if-not-well_formed.true) in
+    rw bad
 
-pub returns-then-place_of-eq0 : goal.returns-then-place_of-eq0
+pub returns-then-is_none : goal.returns-then-is_none
 unfolding edit_fault
-returns-then-place_of-eq0 c =
-    let good : formed c.args.name ≡ true = (told-yes c.well_formed-2.result (formed c.args.name) c.well_formed-2.ensures.exact c.if-not-well_formed.false-raw) in
-    let start = c.args in
-    rw (good, found-no start.name (list_of start.tasks) c.place_of.result c.place_of.ensures.exact c.if-place_of-eq0.true)
+returns-then-is_none c =
+    let good : formed c.args.name ≡ true = cc (c.well_formed-2.ensures.exact, c.if-not-well_formed.false) in
+    rw (good, found-no c.args.name (list_of c.args.tasks) c.place_of.result c.place_of.ensures.exact c.if-is_none.ensures)
 
 pub returns : goal.returns
 unfolding edit_fault
 returns c =
-    let good : formed c.args.name ≡ true = (told-yes c.well_formed-2.result (formed c.args.name) c.well_formed-2.ensures.exact c.if-not-well_formed.false-raw) in
-    let start = c.args in
-    rw (good, found-yes start.name (list_of start.tasks) c.place_of.result c.place_of.ensures.exact c.if-place_of-eq0.false)
+    let good : formed c.args.name ≡ true = cc (c.well_formed-2.ensures.exact, c.if-not-well_formed.false) in
+    rw (good, found-yes c.args.name (list_of c.args.tasks) c.place_of.result c.place_of.ensures.exact c.if-is_none.ensures)

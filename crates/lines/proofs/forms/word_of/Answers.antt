@@ -1,43 +1,14 @@
--- `forms::word_of` meets its contract: each word in its turn.
+-- `forms::word_of` meets its contract: by its bytes a field of seven is `machine`.
 -- Assumes nothing.
-use mathlib.Core.Path.{sym, ◌∙◌}
+use mathlib.Core.Path.{◌≡◌}
+use Rattle.std.proofs.Common.{rules}
+use Rattle.std.proofs.lemmas.Slice.Eq.{text_from_reads}
+use Rattle.lines.specs.Lines.{bytes_of}
 use Rattle.lines.specs.Forms.{word_of}
 use Rattle.lines.proofs.forms.word_of.Goals as goal
 
-pub returns-then-same_run : goal.returns-then-same_run
+pub returns-in-machine : goal.returns-in-machine
 unfolding word_of
-returns-then-same_run c = rw (sym c.same_run.ensures ∙ c.if-same_run.true)
-
-pub returns-then-same_run-2 : goal.returns-then-same_run-2
-unfolding word_of
-returns-then-same_run-2 c =
-    rw (sym c.same_run.ensures ∙ c.if-same_run.false, sym c.same_run-2.ensures ∙ c.if-same_run-2.true)
-
-pub returns-then-same_run-3 : goal.returns-then-same_run-3
-unfolding word_of
-returns-then-same_run-3 c =
-    rw (
-      sym c.same_run.ensures ∙ c.if-same_run.false,
-      sym c.same_run-2.ensures ∙ c.if-same_run-2.false,
-      sym c.same_run-3.ensures ∙ c.if-same_run-3.true,
-    )
-
-pub returns-then-same_run-4 : goal.returns-then-same_run-4
-unfolding word_of
-returns-then-same_run-4 c =
-    rw (
-      sym c.same_run.ensures ∙ c.if-same_run.false,
-      sym c.same_run-2.ensures ∙ c.if-same_run-2.false,
-      sym c.same_run-3.ensures ∙ c.if-same_run-3.false,
-      sym c.same_run-4.ensures ∙ c.if-same_run-4.true,
-    )
-
-pub returns : goal.returns
-unfolding word_of
-returns c =
-    rw (
-      sym c.same_run.ensures ∙ c.if-same_run.false,
-      sym c.same_run-2.ensures ∙ c.if-same_run-2.false,
-      sym c.same_run-3.ensures ∙ c.if-same_run-3.false,
-      sym c.same_run-4.ensures ∙ c.if-same_run-4.false,
-    )
+returns-in-machine c =
+    let is : c.args.f.now ≡ bytes_of "machine" = text_from_reads c.args.f.now (bytes_of "machine") (search rules) (search rules) in
+    rw is

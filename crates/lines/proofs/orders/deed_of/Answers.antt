@@ -1,44 +1,20 @@
--- `orders::deed_of` meets its contract: each word in its turn.
+-- `orders::deed_of` meets its contract: by its bytes a field of six is `retime`, and one of eight is `withdraw`.
 -- Assumes nothing.
-use mathlib.Core.Path.{sym, ◌∙◌}
+use mathlib.Core.Path.{◌≡◌}
+use Rattle.std.proofs.Common.{rules}
+use Rattle.std.proofs.lemmas.Slice.Eq.{text_from_reads}
+use Rattle.lines.specs.Lines.{bytes_of}
 use Rattle.lines.specs.Orders.{deed_of}
 use Rattle.lines.proofs.orders.deed_of.Goals as goal
 
-pub returns-then-same_run : goal.returns-then-same_run
+pub returns-in-retime : goal.returns-in-retime
 unfolding deed_of
-returns-then-same_run c =
-    rw (sym c.same_run.ensures ∙ c.if-same_run.true)
+returns-in-retime c =
+    let is : c.args.f.now ≡ bytes_of "retime" = text_from_reads c.args.f.now (bytes_of "retime") (search rules) (search rules) in
+    rw is
 
-pub returns-then-same_run-2 : goal.returns-then-same_run-2
+pub returns-in-withdraw : goal.returns-in-withdraw
 unfolding deed_of
-returns-then-same_run-2 c =
-    rw (sym c.same_run.ensures ∙ c.if-same_run.false, sym c.same_run-2.ensures ∙ c.if-same_run-2.true)
-
-pub returns-then-same_run-3 : goal.returns-then-same_run-3
-unfolding deed_of
-returns-then-same_run-3 c =
-    rw (
-      sym c.same_run.ensures ∙ c.if-same_run.false,
-      sym c.same_run-2.ensures ∙ c.if-same_run-2.false,
-      sym c.same_run-3.ensures ∙ c.if-same_run-3.true,
-    )
-
-pub returns-then-same_run-4 : goal.returns-then-same_run-4
-unfolding deed_of
-returns-then-same_run-4 c =
-    rw (
-      sym c.same_run.ensures ∙ c.if-same_run.false,
-      sym c.same_run-2.ensures ∙ c.if-same_run-2.false,
-      sym c.same_run-3.ensures ∙ c.if-same_run-3.false,
-      sym c.same_run-4.ensures ∙ c.if-same_run-4.true,
-    )
-
-pub returns : goal.returns
-unfolding deed_of
-returns c =
-    rw (
-      sym c.same_run.ensures ∙ c.if-same_run.false,
-      sym c.same_run-2.ensures ∙ c.if-same_run-2.false,
-      sym c.same_run-3.ensures ∙ c.if-same_run-3.false,
-      sym c.same_run-4.ensures ∙ c.if-same_run-4.false,
-    )
+returns-in-withdraw c =
+    let is : c.args.f.now ≡ bytes_of "withdraw" = text_from_reads c.args.f.now (bytes_of "withdraw") (search rules) (search rules) in
+    rw is

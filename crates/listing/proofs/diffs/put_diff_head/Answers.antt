@@ -1,5 +1,4 @@
 -- `diffs::put_diff_head` meets its contract: its three fields, one behind another.
-use mathlib.Core.Path.{sym}
 use native.Mathlib.Omega.{arith}
 use Rattle.listing.specs.Diff.{diff_head}
 use Rattle.listing.proofs.TextLaws.{wrote-both}
@@ -9,4 +8,4 @@ pub returns : goal.returns
 unfolding diff_head
 returns c =
     let w = wrote-both c.put_bytes-a.ensures (wrote-both c.put_number-b.ensures.0 c.put_number.ensures.0) in
-    (rw (sym c.wide.ensures, sym c.wide-2.ensures) w, omega (arith, c.put_bytes-a.ensures.place, c.put_number-b.ensures.1, c.put_number.ensures.1))
+    (w, omega (arith, c.put_bytes-a.ensures.place, c.put_number-b.ensures.1, c.put_number.ensures.1))

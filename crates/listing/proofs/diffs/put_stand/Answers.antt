@@ -1,5 +1,5 @@
 -- `diffs::put_stand` meets its contract: its fields, one behind another.
-use mathlib.Core.Path.{subst}
+use mathlib.Core.Path.{subst, refl}
 use mathlib.Core.List.{List}
 use Prim.Native.Nat.{ℕ, ◌+◌, ◌≤◌}
 use native.Mathlib.Omega.{arith}
@@ -9,36 +9,12 @@ use Rattle.listing.proofs.TextLaws.{wrote-both, ended-length}
 use Rattle.listing.proofs.DiffTextLaws.{diff-line}
 use Rattle.listing.proofs.diffs.put_stand.Goals as goal
 
-pub put_name-b-requires : goal.put_name-b-requires
-put_name-b-requires c =
-    let s = c.args in
-    let word : c.put_bytes-a.result ≤ s.at + 6 = omega (arith, c.put_bytes-a.ensures.place, ended-length 9 s.word.now, c.requires.1) in
-    omega (arith, word, c.requires.0)
-
-pub put_number-c-requires : goal.put_number-c-requires
-put_number-c-requires c =
-    let s = c.args in
-    let word : c.put_bytes-a.result ≤ s.at + 6 = omega (arith, c.put_bytes-a.ensures.place, ended-length 9 s.word.now, c.requires.1) in
-    omega (arith, word, c.requires.0, c.put_name-b.ensures.1)
-
-pub put_kind-d-requires : goal.put_kind-d-requires
-put_kind-d-requires c =
-    let s = c.args in
-    let word : c.put_bytes-a.result ≤ s.at + 6 = omega (arith, c.put_bytes-a.ensures.place, ended-length 9 s.word.now, c.requires.1) in
-    omega (arith, word, c.requires.0, c.put_name-b.ensures.1, c.put_number-c.ensures.1)
-
-pub put_all_figures-requires : goal.put_all_figures-requires
-put_all_figures-requires c =
-    let s = c.args in
-    let word : c.put_bytes-a.result ≤ s.at + 6 = omega (arith, c.put_bytes-a.ensures.place, ended-length 9 s.word.now, c.requires.1) in
-    omega (arith, word, c.requires.0, c.put_name-b.ensures.1, c.put_number-c.ensures.1, c.put_kind-d.ensures.1)
-
 pub returns : goal.returns
 returns c =
     let s = c.args in
     let word : c.put_bytes-a.result ≤ s.at + 6 = omega (arith, c.put_bytes-a.ensures.place, ended-length 9 s.word.now, c.requires.1) in
     let w = wrote-both c.put_bytes-a.ensures (wrote-both c.put_name-b.ensures.0 (wrote-both c.put_number-c.ensures.0 (wrote-both c.put_kind-d.ensures.0 c.put_all_figures.ensures.0))) in
-    let line = diff-line s.word.now (spelling s.name) s.e.core c.wide.result s.e.piece c.wide.ensures in (
+    let line = diff-line s.word.now (spelling s.name) s.e.core _ s.e.piece refl in (
       subst (λ (l : List ℕ). Wrote s.buf.now s.at l c.put_all_figures.result c.put_all_figures.new.buf) line w,
       omega (arith, word, c.put_name-b.ensures.1, c.put_number-c.ensures.1, c.put_kind-d.ensures.1, c.put_all_figures.ensures.1),
     )

@@ -4,4 +4,4 @@ use Rattle.listing.proofs.rows.lay_seat.Goals as goal
 
 pub returns : goal.returns
 returns c =
-    seat-laid _ _ c.args.i c.args.place c.args.piece _ c.requires.0 c.requires.1 c.requires.2 c.put_record.ensures.exact
+    seat-laid _ _ c.args.i c.args.place c.args.piece _ c.requires c.told-records c.told-places c.from.ensures

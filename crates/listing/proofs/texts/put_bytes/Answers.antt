@@ -1,31 +1,15 @@
--- `texts::put_bytes` meets its contract: after i bytes the first i of them are written.
+-- `texts::put_bytes` meets its contract: byte by byte, those so far are written.
 use mathlib.Core.Path.{◌≡◌}
-use native.Mathlib.Nat.{add-zero}
-use native.Mathlib.Omega.{arith}
-use borrow.Author.Rules.{rules}
 use lib.ListN.{take}
 use lib.Seq.{take_all}
-use Rattle.listing.proofs.TextLaws.{wrote_none, wrote-more, wrote-both, wrote-length}
+use Rattle.plan.proofs.Lists.{take_more}
+use Rattle.listing.proofs.TextLaws.{wrote-both}
 use Rattle.listing.proofs.texts.put_bytes.Goals as goal
 
-pub loop-i-init : goal.loop-i-init
-loop-i-init c =
-    (search rules, rw add-zero (wrote_none _ _))
-
-pub loop-i-preserved : goal.loop-i-preserved
-loop-i-preserved c =
-    let l = c.loop-i in
-    let a = c.args in
-    (omega arith, wrote-more a.buf.now a.at a.s.now l.i l.buf c.put_byte.result c.put_byte.new.buf (omega arith) l.invariant.1 c.put_byte.ensures)
-
-pub shape_of-buf : goal.shape_of-buf
-shape_of-buf c =
-    let loop = c.loop-i in
-    wrote-length _ _ _ _ _ (wrote-both loop.invariant.1 c.put_byte-2.ensures)
+pub loop-b-preserved : goal.loop-b-preserved
+loop-b-preserved c = rw (take_more c.args.s.now c.loop-b.b-index 0 c.loop-b-test.true) (wrote-both c.loop-b.invariant c.put_byte-k.ensures)
 
 pub returns : goal.returns
 returns c =
-    let l = c.loop-i in
-    let s = c.args.s.now in
-    let e : take l.i s ≡ s = take_all l.i s (omega (arith, c.loop-i-test.false)) in
-    wrote-both (rw e at l.invariant.1) c.put_byte-2.ensures
+    let all : take c.loop-b.b-index c.args.s.now ≡ c.args.s.now = take_all c.loop-b.b-index c.args.s.now c.loop-b-test.false in
+    wrote-both (rw all at c.loop-b.invariant) c.put_byte.ensures

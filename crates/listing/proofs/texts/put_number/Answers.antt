@@ -1,29 +1,17 @@
 -- `texts::put_number` meets its contract: the digits stand in the array from its end on.
-use mathlib.Core.Path.{◌≡◌, refl, ◌∙◌, subst}
+use mathlib.Core.Path.{subst}
 use mathlib.Core.List.{List}
-use Prim.Native.Nat.{ℕ, ◌-◌}
+use Prim.Native.Nat.{ℕ}
 use native.Mathlib.Omega.{arith}
-use borrow.Author.Rules.{rules}
-use lib.ListN.{length, set, length-set}
 use Rattle.listing.specs.Text.{Wrote, ended_by, decimal}
-use Rattle.listing.proofs.TextLaws.{left-start, left_step, digits-whole, ended-length, decimal-few}
+use Rattle.listing.proofs.TextLaws.{left_step, digits-whole, ended-length, decimal-few}
 use Rattle.listing.proofs.texts.put_number.Goals as goal
-
-pub loop-m-init : goal.loop-m-init
-loop-m-init c =
-    left-start _ _ refl (search rules)
 
 pub loop-m-preserved : goal.loop-m-preserved
 loop-m-preserved c =
     let l = c.loop-m in
     let start = c.args in
     rw c.digit.ensures (left_step start.n l.d l.i l.m l.invariant (omega arith))
-
-pub slice_bounds-put_bytes-end : goal.slice_bounds-put_bytes-end
-slice_bounds-put_bytes-end c =
-    let l = c.loop-m in
-    let h : length (set l.d (l.i - 1) c.digit-2.result) ≡ 20 = length-set l.d (l.i - 1) c.digit-2.result ∙ l.invariant.twenty in
-    search rules
 
 pub returns : goal.returns
 returns c =

@@ -1,11 +1,8 @@
--- `layouts::layout_of` meets its contract: after i turns it is the layout of the first i that were placed. Each is written where there is room, since there
--- is for all.
-use Prim.Native.Nat.{◌≤◌, ◌-◌}
-use Rattle.plan.proofs.LayoutLaws.{Laying}
+-- `layouts::layout_of` meets its contract: after i turns it is the layout of the first i seats.
+use Rattle.std.proofs.Common.{◌≡◌, take}
+use Rattle.plan.specs.Layout.{layout_on, none}
+use Rattle.plan.specs.Ways.PlacedArray.{placed_in}
 use Rattle.plan.proofs.layouts.layout_of.Given as goal
 
-abbrev pub invariant-loop-i : goal.invariant-loop-i
-invariant-loop-i l = (l.i ≤ l.n) × Laying l.placed l.s l.i
-
-abbrev pub decreases-loop-i : goal.decreases-loop-i
-decreases-loop-i l = l.n - l.i
+abbrev pub invariant-loop-seat : goal.invariant-loop-seat
+invariant-loop-seat l = l.layout ≡ layout_on none (placed_in (take l.seat-index l.seats))

@@ -1,130 +1,38 @@
 -- `walk::land` meets its contract: while the task is not placed the core moves on and what was placed stays; each way out is one of the four rules.
-use mathlib.Core.Path.{◌≡◌, refl, ap}
-use Prim.Native.Nat.{◌+◌}
-use native.Mathlib.Omega.{arith}
-use Rattle.plan.specs.declared.Going.{Going}
-use Rattle.plan.specs.Ways.WalkGoing.{next_of}
-use Rattle.plan.proofs.GoingLaws.{not-passes, row_reads, ask-fits, ask-fits-still, seat-fits}
-use Rattle.plan.proofs.GoingLaws.{both-fit, one-done, stuck-done, both-done, next_under}
+use Rattle.plan.proofs.GoingLaws.{judge-fits, split-fits, one-done, both-done, next-trying, last-trying}
+use Rattle.plan.proofs.walk.land.Goals.{then-core-machine+in_default-split, else-core-machine}
 use Rattle.plan.proofs.walk.land.Goals as goal
 
-pub loop-records-init : goal.loop-records-init
-loop-records-init c = record { ok = c.requires.land_fits; same = refl; kept = refl; rest = refl }
+pub judge-requires : goal.judge-requires
+judge-requires c =
+    let laid = c.lay_row.ensures in
+    judge-fits c.loop-core.invariant c.args.k _ c.seats.ensures.seats _ laid.row laid.behind c.requires.sized
 
-pub lay_row-requires : goal.lay_row-requires
-lay_row-requires c =
-    let s = c.args in
-    let now = c.loop-records in (
-      omega (arith, now.invariant.ok.free),
-      row_reads s.machine.cores s.costs s.machine.grain s.k s.whole s.placed.now
-          s.going now.placed now.records now.here now.invariant,
-      now.invariant.ok.records-size,
-    )
+pub returns-in-Passes : goal.returns-in-Passes
+returns-in-Passes c =
+    let laid = c.lay_row.ensures in
+    one-done c.loop-core.invariant c.args.k _ c.seats.ensures.seats _ laid.row laid.behind c.loop-core-test.true c.judge.ensures c.in-Passes.is c.push.ensures
 
-pub judge_with-requires : goal.judge_with-requires
-judge_with-requires c =
-    let s = c.args in
-    let now = c.loop-records in
-    let lies = c.lay_row.ensures in
-    record {
-      ask_fits = ask-fits s.machine.cores s.costs s.machine.grain s.k s.whole s.placed.now s.going now.placed now.records
-          now.here now.invariant _ lies.0 lies.1;
-      sized = c.requires.sized;
-    }
+pub split-requires : goal.split-requires
+split-requires c =
+    let laid = c.lay_row.ensures in
+    split-fits c.loop-core.invariant c.args.k _ c.seats.ensures.seats _ laid.row laid.behind c.requires.sized
 
-pub overflow_add-here : goal.overflow_add-here
-overflow_add-here c =
-    let loop = c.loop-records in
-    record { fits = omega (arith, loop.invariant.ok.core, loop.invariant.ok.cores) }
+pub returns-in-Some : goal.returns-in-Some
+returns-in-Some c =
+    let laid = c.lay_row.ensures in
+    both-done c.loop-core.invariant c.args.k _ c.seats.ensures.seats _ laid.row laid.behind c.loop-core-test.true c.judge.ensures c.in_default.not-Passes
+    c.split.ensures c.if-core-machine.true c.in-Some.is c.first_piece.ensures.exact c.last_piece.ensures.exact c.push-in-Some.ensures c.push-in-Some-2.ensures
 
-pub stick-requires : goal.stick-requires
-stick-requires c =
-    let loop = c.loop-records in
-    loop.invariant.ok.place
-
-pub returns-then-here-machine : goal.returns-then-here-machine
-returns-then-here-machine c =
-    let s = c.args in
-    let now = c.loop-records in
-    let lies = c.lay_row.ensures in
-    let v = c.judge_with.result in
-    let judged = c.judge_with.ensures in
-    rw c.stick.ensures (stuck-done s.machine.cores s.costs s.machine.grain s.k s.whole s.placed.now s.going
-    now.placed now.records now.here now.invariant _ lies.0 lies.1 v judged.0 _ judged.1 judged.2
-    (not-passes v c.in_default.not-Passes) c.if-here-machine.true)
-
-pub split_on-requires : goal.split_on-requires
-split_on-requires c =
-    let s = c.args in
-    let now = c.loop-records in
-    let lies = c.lay_row.ensures in
-    let v = c.judge_with.result in
-    let judged = c.judge_with.ensures in
-    record {
-      ask_fits = ask-fits-still s.machine.cores s.costs s.machine.grain s.k s.whole s.placed.now s.going now.placed
-          now.records now.here now.invariant _ lies.0 lies.1 v judged.0 _ judged.1 judged.2;
-      sized = c.requires.sized;
-    }
-
-pub next_core-here-requires : goal.next_core-here-requires
-next_core-here-requires c =
-    let loop = c.loop-records in
-    omega (arith, loop.invariant.ok.core, loop.invariant.ok.cores)
-
-pub loop-records-smaller : goal.loop-records-smaller
-unfolding next_of
-loop-records-smaller c =
-    let loop = c.loop-records in
-    let e : c.next_core-here.result.core ≡ loop.here.core + 1 = ap (λ (z : Going). z.core) c.next_core-here.ensures in
-    omega (arith, loop.invariant.ok.core)
-
-pub loop-records-preserved : goal.loop-records-preserved
-loop-records-preserved c =
-    let s = c.args in
-    let now = c.loop-records in
-    let lies = c.lay_row.ensures in
-    let v = c.judge_with.result in
-    let judged = c.judge_with.ensures in
-    rw c.next_core-here.ensures (next_under s.machine.cores s.costs s.machine.grain s.k s.whole s.placed.now s.going
-    now.placed now.records now.here now.invariant _ lies.0 lies.1 v judged.0 _ judged.1 judged.2
-    (not-passes v c.in_default.not-Passes) c.if-here-machine.false c.split_on.result c.split_on.ensures c.in_default-split_on.is)
-
-pub seat_both-requires : goal.seat_both-requires
-seat_both-requires c =
-    let s = c.args in
-    let now = c.loop-records in
-    let lies = c.lay_row.ensures in
-    let v = c.judge_with.result in
-    let judged = c.judge_with.ensures in
-    both-fit s.machine.cores s.costs s.machine.grain s.k s.whole s.placed.now s.going now.placed now.records
-    now.here now.invariant _ lies.0 lies.1 v judged.0 _ judged.1 judged.2 (not-passes v c.in_default.not-Passes) c.if-here-machine.false
-
-pub returns-in_default : goal.returns-in_default
-returns-in_default c =
-    let s = c.args in
-    let now = c.loop-records in
-    let lies = c.lay_row.ensures in
-    let v = c.judge_with.result in
-    let judged = c.judge_with.ensures in
-    let both = c.seat_both.ensures in
-    rw both.0 (both-done s.machine.cores s.costs s.machine.grain s.k s.whole s.placed.now s.going now.placed
-    now.records now.here now.invariant _ lies.0 lies.1 v judged.0 _ judged.1 judged.2 (not-passes v c.in_default.not-Passes)
-    c.if-here-machine.false c.split_on.result c.split_on.ensures _ _ c.in-Cut.is _ both.1)
-
-pub seat-requires : goal.seat-requires
-seat-requires c =
-    let s = c.args in
-    let now = c.loop-records in
-    seat-fits s.machine.cores s.costs s.machine.grain s.k s.whole s.placed.now s.going now.placed now.records
-    now.here now.invariant
-
-pub returns-in-loop-records : goal.returns-in-loop-records
-returns-in-loop-records c =
-    let s = c.args in
-    let now = c.loop-records in
-    let lies = c.lay_row.ensures in
-    let v = c.judge_with.result in
-    let judged = c.judge_with.ensures in
-    rw c.seat.ensures.0 (one-done s.machine.cores s.costs s.machine.grain s.k s.whole s.placed.now s.going
-    now.placed now.records now.here now.invariant _ lies.0 lies.1 v judged.0 _ judged.1 judged.2
-    c.in-Passes.is _ c.seat.ensures.1)
+pub loop-core-preserved : goal.loop-core-preserved
+loop-core-preserved c =
+    let u = c.loop-core.invariant in
+    let is = c.seats.ensures.seats in
+    let laid = c.lay_row.ensures in
+    let low = c.loop-core-test.true in
+    let fails = c.in_default.not-Passes in
+    elim c.if-core-machine.branch [
+      | then-core-machine+in_default-split w ↦
+          next-trying u c.args.k _ is _ laid.row laid.behind low c.judge.ensures fails w.split.ensures w.if-core-machine.true w.in_default-split.is
+      | else-core-machine w ↦ last-trying u c.args.k _ is _ laid.row laid.behind low c.judge.ensures fails w.if-core-machine.false
+    ]

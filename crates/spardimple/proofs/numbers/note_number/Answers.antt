@@ -1,9 +1,14 @@
--- `numbers::note_number` meets its contract: 0 is a text's length, any other a refusal.
-use borrow.Author.Tests.{eq-eqb, ne_eqb}
+-- `numbers::note_number` meets its contract: a length, or a refusal, and no refusal has the number 0.
+use Rattle.task.proofs.FaultLaws.{number-some}
+use native.Mathlib.Omega.{arith}
+use borrow.Author.Tests.{ne_eqb}
+use Rattle.task.specs.Faults.{number_of}
 use Rattle.spardimple.proofs.numbers.note_number.Goals as goal
 
-pub returns-then-note-eq0 : goal.returns-then-note-eq0
-returns-then-note-eq0 c = rw (eq-eqb c.args.note.number 0 c.if-note-eq0.true) c.numbered.ensures
+pub returns-in-Ok : goal.returns-in-Ok
+returns-in-Ok c = rw c.in-Ok.is c.numbered.ensures
 
-pub returns : goal.returns
-returns c = rw (ne_eqb c.args.note.number 0 c.if-note-eq0.false) c.numbered-2.ensures
+pub returns-in-Err : goal.returns-in-Err
+returns-in-Err c =
+    let some = ne_eqb (number_of c.in-Err.why.fault) 0 (number-some c.in-Err.why.fault) in
+    rw (c.in-Err.is, some) (omega (arith, c.refusal_number.ensures))

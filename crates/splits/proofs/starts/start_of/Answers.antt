@@ -1,100 +1,56 @@
 -- `starts::start_of` meets its contract: no allowed split is above what is left below the end, nor above what the core has room for in the widest of
 -- their windows.
-use mathlib.Core.Path.{◌≡◌, refl, sym, ap, subst, ◌∙◌}
-use mathlib.Core.List.{List}
+use mathlib.Core.Path.{refl, sym, ap, subst, ◌∙◌}
 use Prim.Native.Nat.{ℕ, ◌+◌, ◌-◌}
 use native.Mathlib.Omega.{arith}
 use Rattle.demand.specs.declared.Charged.{Charged}
+use Rattle.demand.proofs.ChargeLaws.{all-recurs}
+use Rattle.demand.proofs.ChargedSplitLaws.{first-charge}
+use Rattle.splits.specs.Ways.SplitSearch.{Starts}
+use Rattle.splits.proofs.BenchLaws.{first-behind}
+use mathlib.Core.List.{List}
 use Rattle.demand.specs.Charge.{charged, stall}
 use Rattle.demand.specs.Demand.{least_live}
-use Rattle.verdicts.specs.ChargedArray.{charged_in, charged_at}
-use Rattle.splits.specs.Ways.SplitSearch.{Starts}
-use Rattle.demand.specs.Ways.ChargedSplit.{with_first}
-use Rattle.demand.specs.Ways.Ranges.{Ranged}
 use Rattle.demand.specs.Split.{first_piece}
+use Rattle.demand.specs.Ways.ChargedSplit.{with_first}
+use Rattle.splits.proofs.BenchLaws.{first-behind}
 use Rattle.splits.proofs.ChargeBoundLaws.{caps-as}
-use Rattle.demand.proofs.ChargeLaws.{all-recurs}
-use Rattle.verdicts.proofs.ChargedArrayLaws.{charged-at-each, charged-in-front}
-use Rattle.demand.proofs.ChargedSplitLaws.{first-charge}
-use Rattle.splits.proofs.SplitSearchLaws.{laid-charged, kept_same}
 use Rattle.splits.proofs.SkipLaws.{starts_none, starts-capped}
 use Rattle.splits.proofs.starts.start_of.Goals as goal
 
 pub returns-then-x-eq0 : goal.returns-then-x-eq0
 returns-then-x-eq0 c =
     let s = c.args in
-    let qs = charged_in s.core.now s.n in
+    let g = s.given in
+    let qs = s.bench.now.core in
     let starts =
-    starts_none s.costs qs s.task (all-recurs qs c.requires.ready.ranged) c.requires.sized c.tight_end-end.result c.lesser-x.result
-    c.tight_end-end.ensures.0 (omega (arith, c.lesser-x.ensures.exact, c.less.ensures.exact, c.requires.least_value.0)) in
-    (subst (λ (x : ℕ). Starts s.costs qs s.task x) c.if-x-eq0.true starts, kept_same s.core.now s.n c.requires.ready)
-
-pub lay_first-requires : goal.lay_first-requires
-lay_first-requires c =
-    record {
-      sized_costs = c.requires.sized_costs;
-      sized = c.requires.sized;
-      ready = c.requires.ready;
-      x_le_budget = (
-        omega (arith, c.lesser-x.ensures.exact),
-        omega (
-          arith,
-          c.lesser-x.ensures.exact,
-          c.less.ensures.exact,
-          c.if-x-eq0.false,
-          c.tight_end-end.ensures.1,
-        ),
-      );
-    }
-
-pub overflow_add-n : goal.overflow_add-n
-overflow_add-n c =
-    omega (arith, c.requires.ready.room)
-
-pub least_live-a-requires : goal.least_live-a-requires
-least_live-a-requires c =
-    (omega arith, omega (arith, c.requires.ready.room), c.lay_first.ensures.2)
-
-pub cap_of-cap-requires : goal.cap_of-cap-requires
-cap_of-cap-requires c =
-    let s = c.args in
-    let ranged : Ranged c.charged_at-q.result =
-    rw c.charged_at-q.ensures (charged-at-each Ranged c.lay_first.new.core (s.n + 1) c.lay_first.ensures.2 s.n (omega arith)) in
-    record {
-      n_le_run_most = (omega (arith, c.requires.ready.room), charged-in-front Ranged c.lay_first.new.core s.n c.lay_first.ensures.2);
-      ranged = ranged;
-      b_le_stall_most = (c.stall_of.ensures.1, ranged.charge-fits, c.least_live-a.ensures.1);
-    }
+    starts_none g.costs qs g.task (all-recurs qs c.core.ensures.ready.ranged) g.sized c.tight_end-end.result c.min-x.result
+    (rw c.core.ensures.exact at c.tight_end-end.ensures.0) (omega (arith, c.min-x.ensures, c.saturating_sub.ensures, c.requires.0)) in
+    (subst (λ (x : ℕ). Starts g.costs qs g.task x) c.if-x-eq0.true starts, refl)
 
 pub overflow_sub-q : goal.overflow_sub-q
 overflow_sub-q c =
-    let s = c.args in
-    let x = c.lesser-x.result in
-    let w = s.task.jitter + (c.tight_end-end.result - 1) in
-    let at : charged_at c.lay_first.new.core s.n ≡ charged s.costs (first_piece s.task x w) =
-    laid-charged s.costs s.task x w s.core.now c.lay_first.new.core s.n c.lay_first.ensures.0 in
-    omega (arith, ap (λ (q : Charged). q.charge) (c.charged_at-q.ensures ∙ at), first-charge s.costs s.task x w)
+    let g = c.args.given in
+    omega (arith, ap (λ (q : Charged). q.charge) c.first-q.ensures.exact, first-charge g.costs g.task c.min-x.result (g.task.jitter + (c.tight_end-end.result - 1)))
 
 pub returns : goal.returns
 returns c =
     let s = c.args in
-    let qs = charged_in s.core.now s.n in
-    let recurs = all-recurs qs c.requires.ready.ranged in
-    let x = c.lesser-x.result in
-    let w = s.task.jitter + (c.tight_end-end.result - 1) in
-    let q = charged s.costs (first_piece s.task x w) in
-    let new = c.lay_first.new.core in
-    let at : c.charged_at-q.result ≡ q = c.charged_at-q.ensures ∙ laid-charged s.costs s.task x w s.core.now new s.n c.lay_first.ensures.0 in
-    let starts =
-    starts_none s.costs qs s.task recurs c.requires.sized c.tight_end-end.result x c.tight_end-end.ensures.0
-    (omega (arith, c.lesser-x.ensures.exact, c.less.ensures.exact, c.requires.least_value.0)) in
-    let start : c.least_live-a.result ≡ least_live (with_first s.costs qs s.task x w) = c.least_live-a.ensures.0
-    ∙ ap (λ (rs : List Charged). least_live rs) c.lay_first.ensures.0 in
+    let g = s.given in
+    let qs = s.bench.now.core in
+    let recurs = all-recurs qs c.core.ensures.ready.ranged in
+    let end = c.tight_end-end.result in
+    let x = c.min-x.result in
+    let w = g.task.jitter + (end - 1) in
+    let q = charged g.costs (first_piece g.task x w) in
+    let is = c.first-q.ensures.exact in
+    let ends = rw c.core.ensures.exact at c.tight_end-end.ensures.0 in
+    let starts = starts_none g.costs qs g.task recurs g.sized end x ends (omega (arith, c.min-x.ensures, c.saturating_sub.ensures, c.requires.0)) in
+    let laid = c.both.ensures.exact ∙ first-behind g.costs qs g.task x w c.put.new.self c.put.ensures.core (c.put.ensures.tried ∙ is) in
+    let start = c.least_live-a.ensures.exact ∙ ap (λ (rs : List Charged). least_live rs) laid in
     let caps =
-    caps-as c.stall_of.result (stall s.costs) (charged_in new s.n) qs c.charged_at-q.result q c.charged_at-q.result.charge
-    c.least_live-a.result (least_live (with_first s.costs qs s.task x w)) c.cap_of-cap.result c.stall_of.ensures.0
-    c.lay_first.ensures.1.same at start c.cap_of-cap.ensures in
+    caps-as c.stall.result (stall g.costs) c.core-2.result qs c.first-q.result q c.first-q.result.charge c.least_live-a.result (least_live (with_first g.costs qs g.task x w)) c.cap_of-cap.result
+    c.stall.ensures.exact (c.core-2.ensures.exact ∙ c.put.ensures.core) is start c.cap_of-cap.ensures in
     let capped =
-    starts-capped s.costs qs s.task recurs c.requires.sized c.tight_end-end.result x w c.charged_at-q.result.charge c.cap_of-cap.result
-    c.tight_end-end.ensures.0 starts refl (ap (λ (r : Charged). r.charge) at) caps in
-    (subst (λ (y : ℕ). Starts s.costs qs s.task y) (sym c.less-2.ensures.exact) capped, c.lay_first.ensures.1)
+    starts-capped g.costs qs g.task recurs g.sized end x w c.first-q.result.charge c.cap_of-cap.result ends starts refl (ap (λ (r : Charged). r.charge) is) caps in
+    (subst (λ (y : ℕ). Starts g.costs qs g.task y) (sym c.saturating_sub-2.ensures) capped, c.put.ensures.core)

@@ -2,11 +2,7 @@
 -- whichever is more. What is left of the plain steps falls.
 use Prim.Native.Nat.{◌≤◌}
 use Rattle.demand.specs.Busy.{busy_sum, Clear}
-use Rattle.verdicts.specs.ChargedArray.{charged_in}
 use Rattle.verdicts.proofs.busy_climb.climb_busy.Given as goal
 
-abbrev pub invariant-loop-plain : goal.invariant-loop-plain
-invariant-loop-plain l = (1 ≤ l.l) × Clear (busy_sum (charged_in l.core l.n)) l.l × (l.ahead ≤ 200000000)
-
-abbrev pub decreases-loop-plain : goal.decreases-loop-plain
-decreases-loop-plain l = l.plain
+abbrev pub invariant-loop : goal.invariant-loop
+invariant-loop l = (1 ≤ l.l) × Clear (busy_sum l.core) l.l × (l.ahead ≤ 200000000)

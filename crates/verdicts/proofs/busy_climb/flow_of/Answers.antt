@@ -11,16 +11,6 @@ use Rattle.verdicts.proofs.BusyClimbLaws.{flow-share, flow-work}
 use borrow.Author.Rules.{rules}
 use Rattle.verdicts.proofs.busy_climb.flow_of.Goals as goal
 
-pub overflow_mul-asked : goal.overflow_mul-asked
-overflow_mul-asked c =
-    let q = c.args.q in
-    omega (arith, prod-le 101000000 2300000 {a = c.ceil_div-jobs.result} {b = q.charge + q.release + q.ipi} (search rules) (search rules))
-
-pub overflow_mul-jobs : goal.overflow_mul-jobs
-overflow_mul-jobs c =
-    let q = c.args.q in
-    omega (arith, prod-le 101000000 1000000 {a = c.ceil_div-jobs.result} {b = q.period} (search rules) (search rules))
-
 pub returns-then-jobs-q : goal.returns-then-jobs-q
 returns-then-jobs-q c =
     let s = c.args in

@@ -6,15 +6,6 @@ use Rattle.demand.proofs.Division.{prod-le}
 use borrow.Author.Rules.{rules}
 use Rattle.verdicts.proofs.demands.busy_load_of.Goals as goal
 
-pub overflow_mul-result : goal.overflow_mul-result
-overflow_mul-result c =
-    let start = c.args in
-    omega (
-      arith,
-      prod-le 101000000 2300000 {a = c.ceil_div.result} {b = start.q.charge + start.q.release + start.q.ipi}
-          (search rules) (search rules),
-    )
-
 pub returns : goal.returns
 unfolding busy_load
 returns c =

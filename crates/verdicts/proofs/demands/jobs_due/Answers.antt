@@ -13,11 +13,6 @@ returns-then-t-q c =
     let a = c.args in
     (sym (jobs-due-none a.q a.t c.if-t-q.true), search rules)
 
-pub overflow_add-result-2 : goal.overflow_add-result-2
-overflow_add-result-2 c =
-    let a = c.args in
-    omega (arith, div-le_self (a.t + a.q.jitter - a.q.window) a.q.period)
-
 pub returns : goal.returns
 returns c =
     let a = c.args in

@@ -1,26 +1,22 @@
 -- `most_fitting::level_at` meets its contract: more than the length is asked for already, or the rest of it holds so many charges.
 use native.Mathlib.Omega.{arith}
-use Rattle.verdicts.specs.ChargedArray.{charged_in}
 use Rattle.verdicts.proofs.MostFittingLaws.{level-over, level-calls, level-fits}
 use Rattle.verdicts.proofs.most_fitting.level_at.Goals as goal
 
 pub returns-then-t-g : goal.returns-then-t-g
 returns-then-t-g c =
     let s = c.args in
-    level-over s.b (charged_in s.core.now s.n) s.q s.f s.t c.demand_at-g.result c.demand_at-g.ensures c.if-t-g.true
+    level-over s.core.now.stall s.core.now.pieces.now s.q s.f s.t c.demand_at-g.result c.demand_at-g.ensures c.if-t-g.true
 
 pub returns-then-t-g-2 : goal.returns-then-t-g-2
 returns-then-t-g-2 c =
     let s = c.args in
-    level-calls s.b (charged_in s.core.now s.n) s.q s.f s.t c.demand_at-g.result c.interrupts_of-calls.result
+    level-calls s.core.now.stall s.core.now.pieces.now s.q s.f s.t c.demand_at-g.result c.interrupts_of-calls.result
     c.demand_at-g.ensures c.interrupts_of-calls.ensures.0 (omega arith) c.if-t-g-2.true
-
-pub fitting-y-requires : goal.fitting-y-requires
-fitting-y-requires c = (c.requires.b_le_stall_most.2, c.jobs_due-jobs.ensures.1)
 
 pub returns : goal.returns
 returns c =
     let s = c.args in
-    level-fits s.b (charged_in s.core.now s.n) s.q s.f s.t c.demand_at-g.result c.interrupts_of-calls.result
+    level-fits s.core.now.stall s.core.now.pieces.now s.q s.f s.t c.demand_at-g.result c.interrupts_of-calls.result
     c.jobs_due-jobs.result c.demand_at-g.ensures c.interrupts_of-calls.ensures.0 c.jobs_due-jobs.ensures.0 (omega arith)
     (omega arith) c.fitting-y.result c.fitting-y.ensures

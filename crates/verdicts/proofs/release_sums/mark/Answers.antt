@@ -3,14 +3,9 @@ use borrow.Author.Rules.{rules}
 use Prim.Native.Nat.{ℕ, ◌+◌, ◌*◌, ◌-◌}
 use mathlib.Core.Path.{ap}
 use native.Mathlib.Omega.{arith}
-use Rattle.demand.proofs.Division.{prod-le, ceil-covers}
+use Rattle.demand.proofs.Division.{ceil-covers}
 use Rattle.verdicts.proofs.ReleaseSumLaws.{marking-none, marking-more, marking-all}
 use Rattle.verdicts.proofs.release_sums.mark.Goals as goal
-
-pub overflow_mul-at : goal.overflow_mul-at
-overflow_mul-at c =
-    let q = c.args.q in
-    omega (arith, prod-le 100000000 1000000 {a = c.ceil_div.result} {b = q.period} (search rules) (search rules))
 
 pub overflow_sub-at : goal.overflow_sub-at
 overflow_sub-at c =
@@ -23,11 +18,6 @@ loop-at-init c =
     let q = s.q in
     marking-none (q.charge + q.release + q.ipi) c.requires.ranged.period-some s.l _ s.marks.now c.requires.l_le_busy_most.1
     (ap (λ (j : ℕ). j * q.period - s.l) c.ceil_div.ensures.0)
-
-pub overflow_add-marks : goal.overflow_add-marks
-overflow_add-marks c =
-    let o = c.loop-at in
-    omega (arith, o.invariant.little o.at, c.requires.l_le_busy_most.2 o.at)
 
 pub loop-at-preserved : goal.loop-at-preserved
 loop-at-preserved c =

@@ -1,14 +1,8 @@
--- `release_sums::mark_all` meets its contract: after i turns the first i pieces are marked.
-use Prim.Native.Nat.{◌*◌, ◌-◌, ◌≤◌}
-use mathlib.Core.Path.{◌≡◌}
-use lib.ListN.{length}
+-- `release_sums::mark_all` meets its contract: the pieces so far are marked.
+use Rattle.std.proofs.Common.{◌≡◌, ◌*◌, take, length}
 use Rattle.demand.specs.Busy.{busy_sum}
-use Rattle.verdicts.specs.ChargedArray.{charged_in}
 use Rattle.verdicts.specs.Ways.ReleaseSums.{Marks, Under}
 use Rattle.verdicts.proofs.release_sums.mark_all.Given as goal
 
-abbrev pub invariant-loop-i : goal.invariant-loop-i
-invariant-loop-i l = (l.i ≤ l.n) × Marks (busy_sum (charged_in l.core l.i)) l.l l.marks × Under (l.i * 2300000) l.marks × (length l.marks ≡ 1024)
-
-abbrev pub decreases-loop-i : goal.decreases-loop-i
-decreases-loop-i l = l.n - l.i
+abbrev pub invariant-loop-q : goal.invariant-loop-q
+invariant-loop-q l = Marks (busy_sum (take l.q-index l.q-items)) l.l l.marks × Under (l.q-index * 2300000) l.marks × (length l.marks ≡ 1024)

@@ -1,10 +1,7 @@
 -- `shows::ask_of` meets its contract: what is asked for by the verdict's case, where no number is past its bound.
-use mathlib.Core.Bool.{Bool}
-use mathlib.Core.Path.{sym, ap, subst, ◌∙◌}
+use mathlib.Core.Path.{sym, ap, ◌∙◌}
 use native.Mathlib.Omega.{arith}
-use borrow.Author.Tests.{not-true, not-false}
 use Rattle.demand.specs.declared.Verdict.{Verdict}
-use Rattle.demand.specs.Sizes.{Tells}
 use Rattle.demand.specs.Why.{ask}
 use Rattle.demand.specs.Ways.Ranges.{Ranged}
 use Rattle.verdicts.proofs.AskLaws.{ask-held, ask-long, ask-unranged}
@@ -22,33 +19,14 @@ returns-then-not-ranged_piece c = record {
   exact =
       let s = c.args in
       c.no_ask-then-not-ranged_piece.ensures ∙ ask-unranged s.verdict s.t s.q c.ranged_piece.result c.ranged_piece.ensures
-      (not-true c.ranged_piece.result c.if-not-ranged_piece.true-raw) (omega (arith, c.if-t-gt-LENGTH_MOST.false));
+      c.if-not-ranged_piece.true (omega (arith, c.if-t-gt-LENGTH_MOST.false));
 }
-
-pub due_ask-requires : goal.due_ask-requires
-due_ask-requires c =
-    let s = c.args in
-    let ok : Ranged s.q = subst (λ (o : Bool). Tells (Ranged s.q) o) (not-false c.ranged_piece.result c.if-not-ranged_piece.false-raw) c.ranged_piece.ensures in
-    record { ranged = ok; t_in_bounds = omega (arith, c.if-t-gt-LENGTH_MOST.false) }
-
-pub due_ask-requires-in-Overloaded : goal.due_ask-requires-in-Overloaded
-due_ask-requires-in-Overloaded c =
-    let s = c.args in
-    let ok : Ranged s.q = subst (λ (o : Bool). Tells (Ranged s.q) o) (not-false c.ranged_piece.result c.if-not-ranged_piece.false-raw) c.ranged_piece.ensures in
-    record { ranged = ok; t_in_bounds = omega (arith, c.if-t-gt-LENGTH_MOST.false) }
-
-pub busy_ask-requires : goal.busy_ask-requires
-busy_ask-requires c =
-    let s = c.args in
-    let ok : Ranged s.q = subst (λ (o : Bool). Tells (Ranged s.q) o) (not-false c.ranged_piece.result c.if-not-ranged_piece.false-raw) c.ranged_piece.ensures in
-    record { ranged = ok; l_in_bounds = omega (arith, c.if-t-gt-LENGTH_MOST.false) }
 
 pub returns-in-Passes : goal.returns-in-Passes
 returns-in-Passes c = record {
   exact =
       let s = c.args in
-      let ok : Ranged s.q = subst (λ (o : Bool). Tells (Ranged s.q) o) (not-false c.ranged_piece.result c.if-not-ranged_piece.false-raw)
-      c.ranged_piece.ensures in
+      let ok : Ranged s.q = c.if-not-ranged_piece.ensures in
       c.due_ask.ensures ∙ (ap (λ (v : Verdict). ask v s.t s.q) (sym c.in-Passes.is)
       ∙ sym (ask-held s.verdict s.t s.q ok (omega (arith, c.if-t-gt-LENGTH_MOST.false))));
 }
@@ -57,8 +35,7 @@ pub returns-in-Overloaded : goal.returns-in-Overloaded
 returns-in-Overloaded c = record {
   exact =
       let s = c.args in
-      let ok : Ranged s.q = subst (λ (o : Bool). Tells (Ranged s.q) o) (not-false c.ranged_piece.result c.if-not-ranged_piece.false-raw)
-      c.ranged_piece.ensures in
+      let ok : Ranged s.q = c.if-not-ranged_piece.ensures in
       c.due_ask-in-Overloaded.ensures ∙ (ap (λ (v : Verdict). ask v s.t s.q) (sym c.in-Overloaded.is)
       ∙ sym (ask-held s.verdict s.t s.q ok (omega (arith, c.if-t-gt-LENGTH_MOST.false))));
 }
@@ -67,8 +44,7 @@ pub returns-in-Undecided : goal.returns-in-Undecided
 returns-in-Undecided c = record {
   exact =
       let s = c.args in
-      let ok : Ranged s.q = subst (λ (o : Bool). Tells (Ranged s.q) o) (not-false c.ranged_piece.result c.if-not-ranged_piece.false-raw)
-      c.ranged_piece.ensures in
+      let ok : Ranged s.q = c.if-not-ranged_piece.ensures in
       c.busy_ask.ensures ∙ (ap (λ (v : Verdict). ask v s.t s.q) (sym c.in-Undecided.is)
       ∙ sym (ask-held s.verdict s.t s.q ok (omega (arith, c.if-t-gt-LENGTH_MOST.false))));
 }

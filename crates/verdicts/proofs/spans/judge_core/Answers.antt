@@ -1,47 +1,42 @@
 -- `spans::judge_core` meets its contract: no pieces, no busy length, or what the span says.
+use mathlib.Core.Path.{◌≡◌}
+use Rattle.std.proofs.lemmas.List.{nil_from_length}
+use Rattle.std.proofs.lemmas.Bool.Decides.{nat_tests}
+use Rattle.std.specs.Prelude.{Option}
 use mathlib.Core.Path.{sym, ap, ◌∙◌}
 use Prim.Native.Nat.{ℕ, ◌≤◌}
 use native.Mathlib.Omega.{arith}
 use lib.ListN.{length}
-use Rattle.demand.specs.declared.Found.{Found}
 use Rattle.demand.specs.Demand.{least_live}
-use Rattle.verdicts.specs.ChargedArray.{charged_in}
 use Rattle.demand.specs.Verdict.{over_span, scan}
 use Rattle.demand.proofs.BusyLaws.{busy-length-within}
-use Rattle.verdicts.proofs.ChargedArrayLaws.{charged-in-length}
 use Rattle.demand.proofs.VerdictLaws.{verdict-span, verdict-empty}
-use Rattle.verdicts.proofs.LaidLaws.{least-live-fits}
 use Rattle.verdicts.proofs.spans.judge_core.Goals as goal
 
-pub returns-then-n-eq0 : goal.returns-then-n-eq0
-returns-then-n-eq0 c = rw c.if-n-eq0.true (sym (verdict-empty c.args.b))
+pub returns-then-is_empty : goal.returns-then-is_empty
+returns-then-is_empty c =
+    let none : length c.args.core.now.pieces.now ≡ 0 = grind (arith, nat_tests) in
+    rw (nil_from_length c.args.core.now.pieces.now none) (sym (verdict-empty c.args.core.now.stall))
 
 pub descend-requires : goal.descend-requires
 descend-requires c =
     let s = c.args in
-    let qs = charged_in s.core.now s.n in
-    record {
-      n_le_run_most = c.requires.n_le_run_most;
-      b_le_stall_most = (
-        c.requires.b_le_stall_most,
-        omega (arith, c.least_live-a.ensures, least-live-fits qs c.requires.n_le_run_most.1),
-        busy-length-within qs c.in-At.l (sym c.climb_busy.ensures ∙ c.in-At.is),
-      );
-    }
+    let qs = s.core.now.pieces.now in
+    (omega (arith, c.least_live-a.ensures.1), busy-length-within qs c.in-Some.l (sym c.climb_busy.ensures ∙ c.in-Some.is))
 
-pub returns-in-Nothing : goal.returns-in-Nothing
-returns-in-Nothing c =
+pub returns-in-None : goal.returns-in-None
+returns-in-None c =
     let s = c.args in
-    let qs = charged_in s.core.now s.n in
-    let some : 1 ≤ length qs = omega (arith, charged-in-length s.core.now s.n, c.if-n-eq0.false) in
-    sym (verdict-span s.b qs some
-    ∙ ap (λ (r : Found). over_span s.b qs (least_live qs) r) (sym c.climb_busy.ensures ∙ c.in-Nothing.is))
+    let qs = s.core.now.pieces.now in
+    let some : 1 ≤ length qs = grind (arith, nat_tests) in
+    sym (verdict-span s.core.now.stall qs some
+    ∙ ap (λ (r : Option ℕ). over_span s.core.now.stall qs (least_live qs) r) (sym c.climb_busy.ensures ∙ c.in-None.is))
 
-pub returns-in-At : goal.returns-in-At
-returns-in-At c =
+pub returns-in-Some : goal.returns-in-Some
+returns-in-Some c =
     let s = c.args in
-    let qs = charged_in s.core.now s.n in
-    let some : 1 ≤ length qs = omega (arith, charged-in-length s.core.now s.n, c.if-n-eq0.false) in
+    let qs = s.core.now.pieces.now in
+    let some : 1 ≤ length qs = grind (arith, nat_tests) in
     c.descend.ensures
-    ∙ (ap (λ (a : ℕ). scan s.b qs a c.in-At.l) c.least_live-a.ensures
-    ∙ sym (verdict-span s.b qs some ∙ ap (λ (r : Found). over_span s.b qs (least_live qs) r) (sym c.climb_busy.ensures ∙ c.in-At.is)))
+    ∙ (ap (λ (a : ℕ). scan s.core.now.stall qs a c.in-Some.l) c.least_live-a.ensures.0
+    ∙ sym (verdict-span s.core.now.stall qs some ∙ ap (λ (r : Option ℕ). over_span s.core.now.stall qs (least_live qs) r) (sym c.climb_busy.ensures ∙ c.in-Some.is)))

@@ -1,6 +1,0 @@
--- `forms::part_line` meets its contract: each field is what its function gives.
--- Assumes nothing.
-use Rattle.lines.proofs.forms.part_line.Goals as goal
-
-pub returns : goal.returns
-returns c = cc

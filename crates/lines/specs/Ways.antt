@@ -1,2 +1,0 @@
--- What no promise rests on: fields read as numbers.
-pub mod NumbersRead
