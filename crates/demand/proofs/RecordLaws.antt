@@ -8,12 +8,14 @@
 --   record-back           the seven numbers of a record spell it
 --   in_named, in_other    the piece of a record, by its kind's number
 --   piece-back, pieces-back    a piece is that of its record
+--   within_there, within_past    the piece of the record at a place, and past the last
+--   put_there, put_past    a record written there
 --   pieces-length, pieces-all    as many pieces as records
 --   place-good, place-bad  the search for the first bad record, one record on
 use mathlib.Core.Path.{◌≡◌, refl, sym, ap, ◌∙◌}
 use mathlib.Core.Bool.{true, false}
 use mathlib.Core.List.{List, [], ◌∷◌, ◌++◌, map}
-use Prim.Native.Nat.{ℕ, ◌+◌, ◌*◌, ◌≤◌, ◌<◌}
+use Prim.Native.Nat.{ℕ, zero, suc, ◌+◌, ◌*◌, ◌≤◌, ◌<◌}
 use native.Mathlib.Nat.{add-zero}
 use native.Mathlib.Omega.{arith}
 use borrow.Author.Tests.{le-leb, lt-leb}
@@ -25,7 +27,7 @@ use Rattle.demand.specs.declared.Piece.{Piece}
 use Rattle.demand.specs.Kinds.{kind_number, kind_most, kind_of}
 use Rattle.demand.specs.Lists.{firsts}
 use Rattle.demand.specs.declared.Record.{Record}
-use Rattle.demand.specs.Records.{outside, piece_in, pieces_in, record_for, record_spelt, record_at, records_of, numbers_of}
+use Rattle.demand.specs.Records.{outside, piece_in, pieces_in, record_for, record_spelt, record_at, records_of, numbers_of, record_within, put_record}
 use Rattle.demand.specs.Sizes.{run_most, sized}
 use Rattle.demand.specs.Answer.{first_bad}
 use Rattle.demand.proofs.SizeLaws.{first-bad-good, first-bad-here}
@@ -74,6 +76,34 @@ piece-back p =
 pub pieces-back : (ps : List Piece) → pieces_in (map record_for ps) ≡ ps
 pieces-back [] = refl
 pieces-back (p ∷ ps) = cc (piece-back p, pieces-back ps)
+
+-- a record at a place, and past the last
+
+pub within_there : (rs : List Record) (i : ℕ) (d : Record) → i < length rs → piece_in (get_or rs i d) ≡ record_within rs i
+unfolding record_within
+within_there rs i d low = sym (there rs i d outside low)
+  where
+    there : (rs : List Record) (i : ℕ) (d : Record) (e : Piece) → i < length rs → get_or (pieces_in rs) i e ≡ piece_in (get_or rs i d)
+    there [] i d e low = absurd (omega arith)
+    there (r ∷ rs) zero d e low = refl
+    there (r ∷ rs) (suc i) d e low = there rs i d e (omega arith)
+
+pub within_past : (rs : List Record) (i : ℕ) → length rs ≤ i → outside ≡ record_within rs i
+unfolding record_within
+within_past rs i high = sym (past rs i high)
+  where
+    past : (rs : List Record) (i : ℕ) → length rs ≤ i → get_or (pieces_in rs) i outside ≡ outside
+    past [] i high = refl
+    past (r ∷ rs) zero high = absurd (omega arith)
+    past (r ∷ rs) (suc i) high = past rs i (omega arith)
+
+pub put_there : (rs : List Record) (i : ℕ) (p : Piece) → i < length rs → set rs i (record_for p) ≡ put_record rs i p
+unfolding put_record
+put_there rs i p low = simp (lt-leb (length rs) i low)
+
+pub put_past : (rs : List Record) (i : ℕ) (p : Piece) → length rs ≤ i → rs ≡ put_record rs i p
+unfolding put_record
+put_past rs i p high = simp (le-leb (length rs) i high)
 
 pub pieces-length : (rs : List Record) → length (pieces_in rs) ≡ length rs
 pieces-length rs = length-map rs piece_in

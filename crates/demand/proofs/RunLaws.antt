@@ -7,7 +7,7 @@
 --   taken-check, taken-answer      a run within the sizes is not refused
 --   check-taken     what is known of a run that is not refused
 --   check-place     the first record outside the sizes is refused by its place
---   other-kind      so is a record of another kind, in numbers that are lent
+--   lent-kind, other-kind      so is a record of another kind, of the records that are lent and in numbers that spell some
 --   behind-fine, behind-bad, behind-refused, check-task      the same of a run with a task's record behind it
 --   split-fine, split-bad
 use Rattle.std.specs.Prelude.{Err, Ok, Option, Result, ⊤}
@@ -20,13 +20,15 @@ use native.Mathlib.Omega.{arith}
 use borrow.Author.Tests.{le-leb, lt-leb, leb-true}
 use lib.Dec.{leb}
 use lib.ListN.{length, take, get_or, length-map}
+use Rattle.std.proofs.lemmas.List.{get_or-map}
 use lib.Seq.{get_or-take, length-take-le, take-append-add, take-take}
 use Rattle.demand.specs.declared.Piece.{Piece}
 use Rattle.demand.specs.declared.Costs.{Costs}
 use Rattle.demand.specs.declared.Refusal.{Refusal}
 use Rattle.demand.specs.declared.Refusal.TheVariants.{TooMany, BadCosts, BadRecord}
 use Rattle.demand.specs.Kinds.{kind_most}
-use Rattle.demand.specs.Records.{outside, records_of}
+use Rattle.demand.specs.declared.Record.{Record}
+use Rattle.demand.specs.Records.{outside, piece_in, pieces_in, records_of}
 use Rattle.demand.specs.Sizes.{run_most, Sized, SizedCosts, Each, sized, sized_costs}
 use Rattle.demand.specs.Ways.Ranges.{Countable, Ranged}
 use Rattle.demand.specs.declared.Charged.{Charged}
@@ -34,7 +36,7 @@ use Rattle.demand.specs.Charge.{core_of}
 use Rattle.demand.specs.Verdict.{verdict_of}
 use Rattle.demand.specs.Why.{shown_of}
 use Rattle.demand.specs.Answer.{Taken, first_bad, bad_record, check_run, answer_of, showing_of, figured, splitted}
-use Rattle.demand.proofs.RecordLaws.{records-length, records-at, kind-outside}
+use Rattle.demand.proofs.RecordLaws.{records-length, records-at, kind-outside, in_other, pieces-length}
 use Rattle.demand.proofs.Sums.{each-front, each_last}
 use Rattle.demand.proofs.ChargeLaws.{all-countable, core-ranged}
 use Rattle.demand.proofs.SizeLaws.{first-bad-none, first-bad-there, first-bad-behind}
@@ -85,6 +87,10 @@ check-taken c n ps e = few (leb n run_most) refl e
 
 -- ---- one bad record
 
+outside-sizes : sized outside ≡ false
+unfolding sized
+outside-sizes = refl
+
 -- those before it are taken
 module _ (c : Costs) (n i : ℕ) (few : n ≤ run_most) (here : i < n) where
   pub check-place : (ps : List Piece) (d : Piece) → n ≤ length ps → check_run c i ps ≡ Ok tt → sized (get_or ps i d) ≡ false
@@ -97,6 +103,14 @@ module _ (c : Costs) (n i : ℕ) (few : n ≤ run_most) (here : i < n) where
       first-bad-there 1 i (take n ps) d (omega (arith, length-take-le n ps room)) before (rw (get_or-take n ps i d here) bad) ∙ add_comm 1 i in
       check-records c n ps few good ∙ (ap bad_record there ∙ bad-record-some (i + 1) (λ none. omega arith))
 
+  -- of the records that are lent
+  pub lent-kind : (rs : List Record) (d : Record) → n ≤ length rs → check_run c i (pieces_in rs) ≡ Ok tt → kind_most < (get_or rs i d).kind
+      → check_run c n (pieces_in rs) ≡ Err (BadRecord (i + 1))
+  lent-kind rs d room fine other =
+      let there : get_or (pieces_in rs) i outside ≡ outside = get_or-map piece_in rs i d outside (omega arith) ∙ in_other (get_or rs i d) other in
+      check-place (pieces_in rs) outside (omega (arith, pieces-length rs)) fine (rw there outside-sizes)
+
+  -- and of the records that numbers spell
   pub other-kind : (a : List ℕ) → check_run c i (records_of a) ≡ Ok tt → kind_most < get_or a (7 * i) 0 → check_run c n (records_of a) ≡ Err (BadRecord (i + 1))
   other-kind a fine other =
       check-place (records_of a) outside (omega (arith, records-length a)) fine (rw (records-at a i outside (omega arith)) (kind-outside a i other))

@@ -4,12 +4,14 @@
 --   piece_in r           the piece that the record r is
 --   pieces_in rs         the pieces that the records rs are
 --   record_for p         the record of the piece p
+--   record_within rs i    the piece of the record at place i, and nothing but zeros past the last place
+--   put_record rs i p      the record of p written at place i; past the last place nothing changes
 --   given a i k          the k-th number behind the kind of the record at place i of the numbers a
 --   record_spelt a i     the record that the seven numbers at place i spell
 --   record_at a i         the piece that it is
 --   records_of a          the pieces at all 79 places
 --   numbers_of p          the seven numbers of a piece
-use Rattle.std.specs.Prelude.{cond, List, [], ◌∷◌, map, ℕ, ◌+◌, ◌*◌, leb, get_or}
+use Rattle.std.specs.Prelude.{cond, List, [], ◌∷◌, map, ℕ, ◌+◌, ◌*◌, leb, get_or, length, set}
 use Rattle.demand.specs.declared.Kind.TheVariants.{Whole}
 use Rattle.demand.specs.declared.Piece.{Piece}
 use Rattle.demand.specs.declared.Record.{Record}
@@ -33,6 +35,12 @@ pieces_in rs = map piece_in rs
 unfoldable pub record_for : Piece → Record
 record_for p =
     record { kind = kind_number p.kind; budget = p.budget; window = p.window; period = p.period; jitter = p.jitter; preempt = p.preempt; migrate = p.migrate }
+
+unfoldable pub record_within : List Record → ℕ → Piece
+record_within rs i = get_or (pieces_in rs) i outside
+
+unfoldable pub put_record : List Record → ℕ → Piece → List Record
+put_record rs i p = cond (leb (length rs) i) rs (set rs i (record_for p))
 
 -- ---- in numbers
 

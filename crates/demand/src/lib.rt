@@ -13,7 +13,9 @@ mod sizes;
 pub use charges::{charged_piece, charged_time, no_charge, no_costs, stall_of};
 pub use kinds::kind_of;
 pub use pieces::{first_piece, last_piece};
-pub use records::{check_records, check_task, outside, piece_in, records_of};
+pub use records::{
+    check_records, check_task, outside, piece_in, put_record, record_at, records_of,
+};
 pub use sizes::{costs_within, within_sizes};
 
 /// The most records that a lent run has.

@@ -1,7 +1,7 @@
 // A run of piece records, as it is lent, and what is refused of it.
 ghost use Rattle.std.specs.Prelude.{◌≡◌, [], ◌∷◌, ◌++◌, ◌+◌, ◌≤◌, map, length};
 ghost use Rattle.demand.specs.Answer.{first_bad, bad_record, check_run};
-ghost use Rattle.demand.specs.Records.{outside, piece_in, pieces_in, record_for};
+ghost use Rattle.demand.specs.Records.{outside, piece_in, pieces_in, record_for, record_within, put_record};
 ghost use Rattle.demand.specs.Sizes.{run_most};
 
 use crate::kinds::kind_of;
@@ -56,6 +56,28 @@ pub fn piece_in(lent: Record) -> Piece
         jitter: lent.jitter,
         preempt: lent.preempt,
         migrate: lent.migrate,
+    }
+}
+
+/// The piece of the record at a place from 0; zeros past the last place, and where the kind is none.
+#[tactic(auto, using(crate::proofs::RecordLaws::within_there, crate::proofs::RecordLaws::within_past))]
+pub fn record_at(records: &[Record], i: usize) -> Piece
+    ensures exact { result ≡ record_within records.now i }
+{
+    if i < records.len() {
+        piece_in(records[i])
+    } else {
+        outside()
+    }
+}
+
+/// Writes the record of a piece at a place from 0; past the last place nothing changes.
+#[tactic(auto, using(crate::proofs::RecordLaws::put_there, crate::proofs::RecordLaws::put_past))]
+pub fn put_record(records: &mut [Record], i: usize, piece: Piece)
+    ensures exact { records.new ≡ put_record records.old i piece }
+{
+    if i < records.len() {
+        records[i] = Record::from(piece);
     }
 }
 

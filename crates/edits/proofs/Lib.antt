@@ -5,6 +5,7 @@ pub mod NameSets
 pub mod HeldLaws
 pub mod FaultLaws
 pub mod AnswerLaws
+pub mod SettledLaws
 pub mod Theorems
 pub mod HeldMeaning
 pub mod HeldTheorems

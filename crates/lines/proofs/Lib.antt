@@ -5,3 +5,4 @@ pub mod FormLaws
 pub mod SaysLaws
 pub mod MeansLaws
 pub mod LongLaws
+pub mod SettledLaws

@@ -2,6 +2,8 @@
 -- Assumes nothing.
 --
 --   run-place, run-found, run-none      where a run ends, by the place of its byte
+--   until-found, until-none             what stands on either side of that place, or all where it is nowhere
+--   until-others                        what stands beyond has the runs beyond the first
 --   kept-some, kept-none                what is kept where a test holds, and else nothing
 --   rest-none, rest-some                what stands beyond a run, if anything does
 --   other-length, other-byte            bytes that are not equal; word_cases: the set of these
@@ -16,10 +18,11 @@ use lib.Dec.{eqb, ltb}
 use lib.ListN.{length, take, drop, get_or}
 use lib.Seq.{take_all}
 use Rattle.std.proofs.Common.{Option, Some, None, is_some, Bor}
+use Rattle.std.specs.Option.{option_map}
 use Rattle.std.specs.List.{position, position_or_len}
 use Rattle.std.proofs.lemmas.List.Recursion.{is_position_or_len}
 use Rattle.task.specs.Names.{same_bytes}
-use Rattle.lines.specs.Lines.{up_to, beyond, runs_in}
+use Rattle.lines.specs.Lines.{up_to, beyond, rest_of, until_of, until_shown, runs_in}
 
 -- ---- where a run ends
 
@@ -72,6 +75,52 @@ beyond-some b (x ∷ s) short = by-test (eqb x b) (λ h. beyond-some b s h) shor
     by-test true h w = refl
     by-test false h w = rw (add-one (suc (length (up_to b s)))) (rw (add-one (length (up_to b s))) at (h (omega arith)))
 
+-- what stands beyond the byte, by the same place
+rest-short : (b : ℕ) (s : List ℕ) → length (up_to b s) < length s → rest_of b s ≡ Some (drop (length (up_to b s) + 1) s)
+unfolding rest_of up_to
+rest-short b [] short = absurd (omega arith)
+rest-short b (x ∷ s) short = by-test (eqb x b) (λ h. rest-short b s h) short
+  where
+    by-test : (t : Bool) → (length (up_to b s) < length s → rest_of b s ≡ Some (drop (length (up_to b s) + 1) s))
+        → length (cond t [] (x ∷ up_to b s)) < length (x ∷ s)
+        → cond t (Some s) (rest_of b s) ≡ Some (drop (length (cond t [] (x ∷ up_to b s)) + 1) (x ∷ s))
+    by-test true h w = refl
+    by-test false h w = rw (add-one (suc (length (up_to b s)))) (rw (add-one (length (up_to b s))) at (h (omega arith)))
+
+rest-whole : (b : ℕ) (s : List ℕ) → length s ≤ length (up_to b s) → rest_of b s ≡ None
+unfolding rest_of up_to
+rest-whole b [] whole = refl
+rest-whole b (x ∷ s) whole = by-test (eqb x b) (λ h. rest-whole b s h) whole
+  where
+    by-test : (t : Bool) → (length s ≤ length (up_to b s) → rest_of b s ≡ None) → length (x ∷ s) ≤ length (cond t [] (x ∷ up_to b s))
+        → cond t (Some s) (rest_of b s) ≡ None
+    by-test true h w = absurd (omega arith)
+    by-test false h w = h (omega arith)
+
+-- the runs of what stands beyond the byte
+runs_of : ℕ → Option (List ℕ) → List (List ℕ)
+runs_of b None = []
+runs_of b (Some r) = up_to b r ∷ beyond b r
+
+beyond-rest : (b : ℕ) (s : List ℕ) → beyond b s ≡ runs_of b (rest_of b s)
+unfolding beyond rest_of runs_of
+beyond-rest b [] = refl
+beyond-rest b (x ∷ s) = by-test (eqb x b) (beyond-rest b s)
+  where
+    by-test : (t : Bool) → beyond b s ≡ runs_of b (rest_of b s)
+        → cond t (up_to b s ∷ beyond b s) (beyond b s) ≡ runs_of b (cond t (Some s) (rest_of b s))
+    by-test true h = refl
+    by-test false h = h
+
+-- so an answer that meets `exact` of `until` meets `others`
+pub until-others : (b : ℕ) (s : List ℕ) (a : Bor (List ℕ) × Option (Bor (List ℕ))) → until_shown a ≡ until_of b s → beyond b s ≡ runs_in b a.1
+unfolding runs_of
+until-others b s a e = beyond-rest b s ∙ sym (ap (λ (z : List ℕ × Option (List ℕ)). runs_of b z.1) e) ∙ same a.1
+  where
+    same : (r : Option (Bor (List ℕ))) → runs_of b (option_map (λ x. x.now) r) ≡ runs_in b r
+    same None = refl
+    same (Some r) = refl
+
 -- ---- what is kept where a test holds, and else nothing
 
 module _ {A : Type 0} where
@@ -115,6 +164,16 @@ module _ (b : ℕ) (s : List ℕ) (r : Option ℕ) (place : r ≡ position (λ x
       let whole : length s ≤ length (up_to b s) =
       ltb-false (length (up_to b s)) (length s) (kept-none (ltb (length (up_to b s)) (length s)) (length (up_to b s)) (sym placed ∙ none)) in
       (sym (take_all (length (up_to b s)) s whole) ∙ (run_of b s).0, beyond-none b s whole)
+
+  pub until-found : (e : ℕ) → r ≡ Some e → (run rest : List ℕ) → run ≡ take e s → rest ≡ drop (e + 1) s → (run, Some rest) ≡ until_of b s
+  until-found e found run rest ahead behind =
+      let z = ends e found in
+      rw (ahead, behind, (run-found e found).0, z.0, rest-short b s (omega (arith, z.0, z.1)))
+
+  pub until-none : r ≡ None → (run : List ℕ) → run ≡ s → (run, None) ≡ until_of b s
+  until-none none run all =
+      let whole : length s ≤ length (up_to b s) = omega (arith, ap length (run-none none).0) in
+      rw (all, ← (run-none none).0, rest-whole b s whole)
 
 -- ---- bytes that are not equal
 

@@ -3,6 +3,9 @@
 --   bytes_of "text"          the bytes of an ASCII text
 --   up_to b s, beyond b s    the run of s up to its first byte b, and the runs beyond it: lines by newlines, fields by tabs
 --   runs b s, fields s       all runs of s; its fields
+--   rest_of b s              what stands beyond the first byte b of s, if it is there
+--   until_of b s             the run of s up to its first byte b, and what stands beyond it
+--   until_shown a            the bytes of the two slices that `until` answers with
 --   runs_in b r              the runs of what stands beyond a run, if anything does
 --   is_number f              1 to 7 decimal digits, no leading zero but for 0 itself
 --   value_of f               the number that they stand for
@@ -10,6 +13,7 @@
 --   is_name f                the rule of names, crate `task`'s `formed`, holds of it
 --   name_in f                the name that the field f is, if it is one
 use Rattle.std.specs.Prelude.{Bool, true, cond, not, ◌&&◌, List, [], ◌∷◌, ℕ, ◌+◌, ◌-◌, ◌*◌, eqb, length, Option, Some, None}
+use Rattle.std.specs.Option.{option_map}
 use Rattle.std.specs.Borrow.{Bor}
 use Prim.Native.Char.{code}
 use Prim.Native.String.{String, [] as done, ◌∷◌ as ◌then◌}
@@ -40,6 +44,17 @@ beyond b (x ∷ s) = cond (eqb x b) (up_to b s ∷ beyond b s) (beyond b s)
 
 abbrev pub runs : ℕ → List ℕ → List (List ℕ)
 runs b s = up_to b s ∷ beyond b s
+
+-- an empty rest, where b stands last, is no absence: a line that ends in a tab has one field more, and it is empty
+unfoldable pub rest_of : ℕ → List ℕ → Option (List ℕ)
+rest_of b [] = None
+rest_of b (x ∷ s) = cond (eqb x b) (Some s) (rest_of b s)
+
+abbrev pub until_of : ℕ → List ℕ → List ℕ × Option (List ℕ)
+until_of b s = (up_to b s, rest_of b s)
+
+abbrev pub until_shown : Bor (List ℕ) × Option (Bor (List ℕ)) → List ℕ × Option (List ℕ)
+until_shown a = (a.0.now, option_map (λ r. r.now) a.1)
 
 -- those that stand beyond the first byte b, if it is there
 abbrev pub runs_in : ℕ → Option (Bor (List ℕ)) → List (List ℕ)

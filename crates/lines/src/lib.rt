@@ -6,7 +6,7 @@ mod forms;
 mod orders;
 
 ghost use Rattle.std.specs.Prelude.{◌≡◌};
-ghost use Rattle.lines.specs.Lines.{up_to, beyond, runs_in};
+ghost use Rattle.lines.specs.Lines.{up_to, beyond, until_of, until_shown, runs_in};
 ghost use Rattle.lines.specs.Forms.{line_of};
 ghost use Rattle.lines.specs.Orders.{order_of};
 
@@ -34,7 +34,9 @@ pub enum Order {
 }
 
 /// The run of s up to its first byte b, and what stands beyond that byte, where s has it.
+// `run` and `others` say no more than `exact`: they are what a walk over the runs goes on by.
 pub fn until(s: &[u8], b: u8) -> (&[u8], Option<&[u8]>)
+    ensures exact { until_shown result ≡ until_of b s.now }
     ensures run { result.0.now ≡ up_to b s.now }
     ensures others { beyond b s.now ≡ runs_in b result.1 }
 {

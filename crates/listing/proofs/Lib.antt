@@ -13,6 +13,7 @@ pub mod MovedLaws
 pub mod RankBlockLaws
 pub mod DiffTextLaws
 pub mod WhyPaperLaws
+pub mod SettledLaws
 pub mod PlacedLaws
 pub mod PlainLaws
 pub mod WhyPlacedLaws

@@ -11,6 +11,7 @@
 --   titled-run            pieces called by their places are the records
 --   titled-pieces, titled-all     either are the pieces that lie there, and the first n of n are all
 --   pieces-there, seats-front     those of all the records, and the first n seats
+--   paper-front           what is answered looks at the first n alone
 --   paper-many            more than 79 are refused
 --   run-paper, seats-paper        what is answered for the arrays is what is answered for the records, and for what is placed
 use mathlib.Core.Path.{◌≡◌, refl, sym, ap, ◌∙◌}
@@ -22,7 +23,7 @@ use native.Mathlib.Omega.{arith}
 use borrow.Author.Tests.{lt-leb}
 use lib.ListN.{length, take, get_or, set, length-map, get_or-eq_default}
 use lib.Seq.{take_all, get_or-set_same, get_or-set_other, get_or-take, ext_get_or}
-use Rattle.std.proofs.lemmas.List.{get_or-map}
+use Rattle.std.proofs.lemmas.List.{get_or-map, take-map}
 use Rattle.demand.specs.declared.Piece.{Piece}
 use Rattle.demand.specs.declared.Costs.{Costs}
 use Rattle.demand.specs.Lists.{firsts}
@@ -131,6 +132,13 @@ seats-front q ks a n =
     (λ i h. ap (λ (r : Record). record { on = q; item = get_or ks i 0; piece = piece_in r }) (get_or-take n a i no_record h))
 
 -- ---- what is answered
+
+pub paper-front : (f : List ℕ) (c : Costs) (n : ℕ) (ls ks : List Titled) → take n ls ≡ take n ks → why_paper f c n ls ≡ why_paper f c n ks
+unfolding why_paper check_run
+paper-front f c n ls ks same =
+    let front : take n (pieces_in ls) ≡ take n (pieces_in ks) =
+    take-map (λ (l : Titled). l.piece) n ls ∙ (ap pieces_in same ∙ sym (take-map (λ (l : Titled). l.piece) n ks)) in
+    rw (front, same)
 
 pub paper-many : (f : List ℕ) (c : Costs) (n : ℕ) (ls : List Titled) → 79 < n → why_paper f c n ls ≡ refused 6 0
 unfolding why_paper check_run

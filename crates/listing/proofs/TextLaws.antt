@@ -2,7 +2,7 @@
 -- Assumes nothing.
 --
 --   wrote_none, wrote-both                 nothing written; one run behind another
---   wrote-whole                            what a buffer that is long enough then holds
+--   wrote-whole, wrote-length              what a buffer that is long enough then holds; and it keeps its length
 --   ended-length                           a run and its end
 --   digits_last, digits_step               the first digit of a number, and any other
 --   Left n d i m                           the digits of n that are left: m, for the i places in front of those in d
@@ -16,7 +16,7 @@ use native.Mathlib.Omega.{arith}
 use mathlib.Core.Bool.{Bool, true, false, cond}
 use mathlib.Core.List.{List, [], ◌∷◌, ◌++◌}
 use lib.ListN.{length, take, drop, set, length-append, length-set, length-drop, drop_of_length-le}
-use lib.Seq.{sets, sets-eq, take_all, drop-cons, drop-set-lt, get_or-set_same}
+use lib.Seq.{sets, sets-eq, length-sets, take_all, drop-cons, drop-set-lt, get_or-set_same}
 use lib.Dec.{ltb, lit<}
 use borrow.Author.Tests.{lt-ltb, le-ltb, lt-leb, le-leb}
 use Rattle.listing.specs.Text.{Wrote, ended_by, digits_onto, decimal, over}
@@ -38,6 +38,9 @@ wrote_none l at = record { place = rw add-zero; bytes = refl }
 -- where the buffer is long enough it holds the text and then what it held
 pub wrote-whole : (l vs m : List ℕ) (r : ℕ) → Wrote l 0 vs r m → length vs ≤ length l → m ≡ vs ++ drop (length vs) l
 wrote-whole l vs m r f h = f.bytes ∙ sets-eq vs l 0 (rw zero-add h) ∙ rw zero-add
+
+pub wrote-length : (l : List ℕ) (at : ℕ) (vs : List ℕ) (r : ℕ) (m : List ℕ) → Wrote l at vs r m → length m ≡ length l
+wrote-length l at vs r m f = rw f.bytes (length-sets l at vs)
 
 -- a run and its end
 pub ended-length : (b : ℕ) (f : List ℕ) → length (ended_by b f) ≡ length f + 1

@@ -197,6 +197,8 @@ pub fn why_plan(plan: Plan, stuck: usize, core: usize, buf: &mut [u8]) -> Result
 
 /// The length of the listing that shows two plans side by side, at most 376,879: by name in byte order, what is in one of them alone or not alike in both. It is written where the buffer is that long, and
 /// the bytes beyond it stay; else no byte is written.
+// never inlined, so that the room for the pieces of two plans is not in one frame with planning them: a call then takes half the stack
+#[inline(never)]
 pub fn write_diff(first: Plan, second: Plan, buf: &mut [u8]) -> usize
     ensures exact { (result ≡ length (diff_of first second)) × (buf.new ≡ over (diff_of first second) buf.old) × (result ≤ 376879) }
 {

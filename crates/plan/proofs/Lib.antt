@@ -14,4 +14,5 @@ pub mod ShowLaws
 pub mod WordLaws
 pub mod Theorems
 pub mod ReplyLaws
+pub mod SettledLaws
 pub mod RefusalLaws

@@ -25,7 +25,7 @@ use Rattle.walks.proofs.WayLaws.{until-fine, until-stuck, walk-snoc, walk-stuck}
 use Rattle.walks.proofs.SoundLaws.{Planned, few-on-core}
 use Rattle.plan.specs.declared.walk.Going.{Going}
 use Rattle.plan.specs.Walk.{place_way, whole_at}
-use Rattle.plan.specs.Ways.WalkGoing.{row_from, WalkFits, LandFits, Reached, Reach, stuck_place, EndsOver}
+use Rattle.plan.specs.Ways.WalkGoing.{pieces_of_row, WalkFits, LandFits, Reached, Reach, stuck_place, EndsOver}
 use Rattle.plan.proofs.GoingLaws.{row-length}
 use Rattle.plan.proofs.WalkLaws.{claims, walk-planned}
 
@@ -43,7 +43,7 @@ each-front P (suc i) (x ∷ l) ok = (ok.0, each-front P i l ok.1)
 -- behind a log, where it lands
 more-walking : (log placed : List (Placed ℕ)) (x : Going) (k : ℕ) (o : Landing Stand) → Reach log placed (Some x) (landed k o)
     → Walking placed x (behind log (landed k o))
-more-walking log placed x k (lands s l) h = record { at = s; past = _; is = refl; reached = record { core_is = h.core_is; begun = h.begun; row_is = h.row_is; placed-is = h.placed-is } }
+more-walking log placed x k (lands s l) h = record { at = s; past = _; is = refl; reached = record { core_is = h.core_is; seated = h.seated; row_is = h.row_is; placed-is = h.placed-is } }
 more-walking log placed x k (refuses n) h = absurd h
 
 -- and where it does not
@@ -85,12 +85,12 @@ module _ (m : Machine) (c : Costs) (ts : List Task) (order : List ℕ) (fits : W
       let there = walking.reached in
       let size : length (take i order) ≡ i = simp length-take (omega arith) in
       let count : length placed ≡ length walking.past = ap length there.placed-is in
-      let row : length placed - g.first ≡ length walking.at.row = sym (row-length g.first placed) ∙ ap length there.row_is in
+      let row : g.row.len ≡ length walking.at.row = sym (row-length placed g.row there.seated) ∙ ap length there.row_is in
       record {
         costs = fits.costs;
         room = omega (arith, count, f.count, there.core_is);
-        begun = there.begun;
-        free = omega (arith, there.begun, row, short, size, fits.count);
+        seated = there.seated;
+        free = omega (arith, row, short, size, fits.count);
         sizes = rw (there.row_is, ← f.here) (planned.rows walking.at.core).sizes;
       }
 
@@ -102,7 +102,7 @@ module _ (m : Machine) (c : Costs) (ts : List Task) (order : List ℕ) (fits : W
 
   module _ (q : Piece) (e : whole_at ts next ≡ q) (placed' : List (Placed ℕ)) where
     abbrev Lands : Option Going → Type 0
-    Lands x = Reach placed placed' x (landed next (from_core c m.grain q (m.cores - 1 - g.core) g.core (row_from g.first placed)))
+    Lands x = Reach placed placed' x (landed next (from_core c m.grain q (m.cores - 1 - g.core) g.core (pieces_of_row placed g.row)))
 
     pub land-walks : (x : Going) → Lands (Some x) → Walking placed' x (walk_over W (take (i + 1) order))
     land-walks x h =

@@ -14,6 +14,8 @@
 --   reached-stuck         with 7 its plan has what was placed before the walk stuck
 --   reached-sized, reached-places, reached-counts      what was placed then is within the sizes, of the first n, and has room
 --   reached-shows         the rows of that plan show it
+--   reached-words         and so do its words
+--   reached-alike         with any other number than 7 it is the same answer
 --   no-room-last          and its last core does not pass with the whole of the task that the walk sticks at
 --   packing-order         the packing order has the place of each task, once
 --   packing-ranked        greater C/D first: none stands behind one that it beats, and ties stand by earlier task
@@ -55,7 +57,7 @@ use Rattle.task.specs.declared.Task.{Task}
 use Rattle.task.specs.declared.Machine.{Machine}
 use Rattle.task.specs.Tasks.{whole_piece, task_at, state_fault}
 use Rattle.task.proofs.TaskLaws.{Sane, state-sane}
-use Rattle.walks.specs.Lists.{Chain, sum_by}
+use Rattle.walks.specs.Lists.{Apart, Chain, sum_by}
 use Rattle.walks.specs.Order.{Precedes}
 use Rattle.walks.specs.Way.{Placed, placed_as, Ending, fine, stuck, walk_over, SticksAt, on_core, row_of}
 use Rattle.walks.specs.Halves.{Stand, Shared, split_count}
@@ -281,6 +283,16 @@ module _ (m : Machine) (c : Costs) (n : ℕ) (ts : List Task) (faultless : state
     front-shows : LayoutShows (layout_on none l) l
     front-shows = kept-shows (layout_on none l) l front-room front_kept
 
+    front-words : (q : ℕ) → q < 16 → WordShows (get_or (layout_on none l).words q 0) (on_core q l)
+    front-words q low =
+        word-shows (get_or (layout_on none l).words q 0) (on_core q l) (front_kept.core q low blank).word
+        (apart-on m.cores (whole_at (take n ts)) (claims m c times_of).Share q (λ k. k) front-facts.shares
+        (apart-front ks (subst (Apart (λ k. k)) front (in-order (take n ts)).apart)))
+      where
+        apart-front : (ks : List ℕ) → Apart (λ k. k) (ks ++ rest) → Apart (λ k. k) ks
+        apart-front [] apart = tt
+        apart-front (k ∷ ks) apart = ((each-parts (λ j. j ≡ k → ⊥) ks rest apart.0).0, apart-front ks apart.1)
+
   module _ (s : Stand) (l : List (Placed ℕ)) (planned : walked m c (take n ts) ≡ fine s l) where
     -- all of them are such
     all : packed (take n ts) ≡ packed (take n ts) ++ []
@@ -378,9 +390,7 @@ module _ (m : Machine) (c : Costs) (n : ℕ) (ts : List Task) (faultless : state
     plan-shows = rw laid (front-shows (packed (take n ts)) [] all s l over)
 
     pub words-show : (q : ℕ) → q < 16 → WordShows (get_or (plan_of m c n ts).plan.layout.words q 0) (on_core q l)
-    words-show q low =
-        word-shows (get_or (plan_of m c n ts).plan.layout.words q 0) (on_core q l) (rw laid ((front_kept (packed (take n ts)) [] all s l over).core q low blank).word)
-        (apart-on m.cores (whole_at (take n ts)) (claims m c times_of).Share q (λ k. k) facts.shares (in-order (take n ts)).apart)
+    words-show q low = rw laid (front-words (packed (take n ts)) [] all s l over q low)
 
   -- ---- what was placed before the walk stuck
 
@@ -421,9 +431,28 @@ module _ (m : Machine) (c : Costs) (n : ℕ) (ts : List Task) (faultless : state
   pub reached-shows : LayoutShows (layout_on none (walked_until m c (take n ts))) (walked_until m c (take n ts))
   reached-shows = (let r = reaches in front-shows r.ahead r.rest r.order r.at (walked_until m c (take n ts)) r.reached)
 
+  pub reached-words : (q : ℕ) → q < 16 → WordShows (get_or (layout_on none (walked_until m c (take n ts))).words q 0) (on_core q (walked_until m c (take n ts)))
+  reached-words q low = (let r = reaches in front-words r.ahead r.rest r.order r.at (walked_until m c (take n ts)) r.reached q low)
+
   pub no-room-last : (k : ℕ) → walked m c (take n ts) ≡ stuck k 7
       → verdict_of c (row_of (m.cores - 1) (walked_until m c (take n ts)) ++ (whole_at (take n ts) k ∷ [])) ≡ Passes → ⊥
   no-room-last k e =
       let at = no-room-at k e in
       let facts = front-facts at.ahead (k ∷ at.later) at.order at.at (walked_until m c (take n ts)) at.reached in
       refused-last c m.grain m.cores (whole_at (take n ts)) at.ahead at.at (walked_until m c (take n ts)) k 7 facts.faithful at.refused
+
+-- ---- any state
+
+pub reached-alike : (m : Machine) (c : Costs) (n : ℕ) (ts : List Task) → ((plan_of m c n ts).number ≡ 7 → ⊥) → reached_of m c n ts ≡ plan_of m c n ts
+unfolding plan_of reached_of
+reached-alike m c n ts other = by (state_fault m c n ts) refl
+  where
+    by : (k : ℕ) → state_fault m c n ts ≡ k → reached_of m c n ts ≡ plan_of m c n ts
+    by zero good = walks (plan-or-stuck m c n ts good)
+      where
+        walks : ((s : Stand) × (l : List (Placed ℕ)) × (walked m c (take n ts) ≡ fine s l) × (plan_of m c n ts ≡ finished m c (take n ts) (fine s l)))
+            ⊎ ((k : ℕ) × (walked m c (take n ts) ≡ stuck k 7) × (plan_of m c n ts ≡ refused 7 (suc k)))
+            → reached_of m c n ts ≡ plan_of m c n ts
+        walks (inl w) = reached-fine m c n ts good (ap (λ (r : Reply). r.number) w.3)
+        walks (inr w) = absurd (other (ap (λ (r : Reply). r.number) w.2))
+    by (suc k) bad = rw bad

@@ -14,8 +14,10 @@ ghost use Rattle.plan.specs.Plan.{plan_of, reached_of, plan_reply, reached_reply
 use demand::{Costs, Piece};
 use layouts::{layout_of, tidy};
 use orders::order_of;
+pub use seats::Seat;
 use seats::Seats;
 use task::{CORES_MOST, Fault, Machine, Refused, Tasks, state_fault};
+pub use walk::Going;
 use walk::walk_over;
 
 /// The most pieces of a plan: 64 tasks and 15 splits.
@@ -59,6 +61,13 @@ pub struct Plan {
     pub costs: Costs,
     pub tasks: Tasks,
     pub layout: Layout,
+}
+
+/// A core's row on the walk: the numbers of its pieces, in placement order.
+#[derive(Clone, Copy)]
+pub struct Row {
+    pub len: usize,
+    pub numbers: [usize; ROW_MOST],
 }
 
 /// What a walk reached: the plan of all that it placed, and the place, from 0, of the task that it sticks at.

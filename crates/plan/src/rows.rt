@@ -1,19 +1,46 @@
-// A core's row, as the records that the verdict judges.
-ghost use Rattle.std.specs.Prelude.{◌≡◌, [], ◌∷◌, ◌++◌, ◌+◌, ◌<◌, length, map, take};
+// A core's row of piece numbers, and the records that the verdict judges.
+ghost use Rattle.std.specs.Prelude.{◌≡◌, [], ◌∷◌, ◌++◌, ◌+◌, ◌<◌, map, take};
 ghost use Rattle.demand.specs.Records.{record_for};
-ghost use Rattle.demand.specs.Sizes.{run_most};
+ghost use Rattle.plan.specs.Sizes.{row_most};
+ghost use Rattle.plan.specs.Ways.WalkGoing.{row_numbers, pieces_of_row, Seated};
 
-use crate::seats::Seat;
+use crate::seats::Seats;
+use crate::{ROW_MOST, Row};
 use demand::{Piece, RUN_MOST, Record};
 
-// A row, in placement order, and one piece more behind it.
-pub fn lay_row<'a>(records: &'a mut [Record; RUN_MOST], row: &'a [Seat], piece: Piece)
-    requires { length row.now < run_most }
-    ensures row { take (length row.now) records.new ≡ map (λ s. record_for s.piece) row.now }
-    ensures behind { take (length row.now + 1) records.new ≡ map (λ s. record_for s.piece) row.now ++ (record_for piece ∷ []) }
-{
-    for (place, seat) in row.iter().enumerate() {
-        records[place] = Record::from(seat.piece);
+impl Row {
+    // Of a core on which nothing is placed.
+    pub(crate) fn empty() -> Row
+        ensures { (result.len ≡ 0) × (row_numbers result ≡ []) }
+    {
+        Row {
+            len: 0,
+            numbers: [0; ROW_MOST],
+        }
     }
-    records[row.len()] = Record::from(piece);
+
+    // The row with one piece more, by its number.
+    pub(crate) fn with(self, number: usize) -> Row
+        requires { self.len < row_most }
+        ensures { (result.len ≡ self.len + 1) × (row_numbers result ≡ row_numbers self ++ (number ∷ [])) }
+    {
+        let mut next = self;
+        next.numbers[self.len] = number;
+        next.len = self.len + 1;
+        next
+    }
+}
+
+// The pieces of a row, in placement order, and one piece more behind them.
+pub fn lay_row<'a>(records: &'a mut [Record; RUN_MOST], placed: &'a Seats, row: Row, piece: Piece)
+    requires few { row.len < row_most }
+    requires seated { Seated placed.now row }
+    ensures row { take row.len records.new ≡ map record_for (pieces_of_row placed.now row) }
+    ensures behind { take (row.len + 1) records.new ≡ map record_for (pieces_of_row placed.now row) ++ (record_for piece ∷ []) }
+{
+    let seats = placed.seats();
+    for place in 0..row.len {
+        records[place] = Record::from(seats[row.numbers[place]].piece);
+    }
+    records[row.len] = Record::from(piece);
 }

@@ -7,7 +7,7 @@ use crate::PIECES_MOST;
 use demand::{Piece, outside};
 use std::marker::Model;
 
-// A placed piece: its core, from 0, its task's place, from 0, and the piece.
+/// A placed piece: its core, from 0, its task's place, from 0, and the piece.
 #[derive(Clone, Copy, PartialEq, Eq)]
 pub struct Seat {
     pub core: usize,
@@ -56,6 +56,13 @@ impl Seats {
         ensures few { length self.now ≤ pieces_most }
     {
         &self.seats[..self.count]
+    }
+
+    // How many are placed: the number of the next.
+    pub fn count(&self) -> usize
+        ensures { result ≡ length self.now }
+    {
+        self.seats().len()
     }
 
     // One more, behind them.

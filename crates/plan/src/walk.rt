@@ -7,9 +7,10 @@ ghost use Rattle.demand.specs.Verdict.{verdict_of};
 ghost use Rattle.walks.specs.Way.{landed};
 ghost use Rattle.walks.specs.Halves.{from_core};
 ghost use Rattle.plan.specs.Walk.{place_way};
-ghost use Rattle.plan.specs.Ways.WalkGoing.{row_from, AskFits, LandFits, Reach, EndsOver, WalkFits};
+ghost use Rattle.plan.specs.Ways.WalkGoing.{pieces_of_row, AskFits, LandFits, Reach, EndsOver, WalkFits};
 ghost use Rattle.task.specs.Tasks.{cores_most};
 
+use crate::Row;
 use crate::rows::lay_row;
 use crate::seats::{Seat, Seats};
 use demand::{Costs, Cut, Piece, RUN_MOST, Record, Verdict, first_piece, last_piece, outside};
@@ -17,11 +18,11 @@ use splits::split_records;
 use task::{Machine, Task, whole_piece};
 use verdicts::judge_records;
 
-// A walk under way: the core, and the number of the first piece on it. No core before it gets a piece any more, so its row is all that was placed from there on.
+/// A walk under way: the core, and its row.
 #[derive(Clone, Copy)]
 pub struct Going {
     pub core: usize,
-    pub first: usize,
+    pub row: Row,
 }
 
 // The verdict on records within the sizes: they are not refused.
@@ -54,41 +55,42 @@ pub fn land<'a>(
     requires core { (going.core < machine.cores) × (machine.cores ≤ cores_most) }
     requires land_fits { LandFits costs placed.old going }
     requires sized { Sized whole }
-    ensures { Reach placed.old placed.new result (landed k (from_core costs machine.grain whole (machine.cores - 1 - going.core) going.core (row_from going.first placed.old))) }
+    ensures { Reach placed.old placed.new result (landed k (from_core costs machine.grain whole (machine.cores - 1 - going.core) going.core (pieces_of_row placed.old going.row))) }
 {
-    let mut first = going.first;
+    let mut row = going.row;
     for core in going.core..machine.cores {
-        let row = &placed.seats()[first..];
-        let n = row.len();
-        lay_row(records, row, whole);
-        if let Verdict::Passes = judge(costs, &records[..=n]) {
-            placed.push(Seat {
-                core,
-                task: k,
-                piece: whole,
-            });
-            return Some(Going { core, first });
-        }
-        // The last piece of a split goes on the next core, and the last core has none.
-        if core + 1 < machine.cores {
-            if let Some(cut) = split(costs, machine.grain, &records[..n], whole) {
-                placed.push(Seat {
-                    core,
-                    task: k,
-                    piece: first_piece(whole, cut.budget, cut.window),
-                });
-                placed.push(Seat {
-                    core: core + 1,
-                    task: k,
-                    piece: last_piece(costs, whole, cut.budget, cut.window),
-                });
-                return Some(Going {
-                    core: core + 1,
-                    first: first + n + 1,
-                });
+        lay_row(records, placed, row, whole);
+        let Verdict::Passes = judge(costs, &records[..=row.len]) else {
+            // The last piece of a split goes on the next core, and the last core has none.
+            if core + 1 < machine.cores {
+                if let Some(cut) = split(costs, machine.grain, &records[..row.len], whole) {
+                    placed.push(Seat {
+                        core,
+                        task: k,
+                        piece: first_piece(whole, cut.budget, cut.window),
+                    });
+                    let row = Row::empty().with(placed.count());
+                    placed.push(Seat {
+                        core: core + 1,
+                        task: k,
+                        piece: last_piece(costs, whole, cut.budget, cut.window),
+                    });
+                    return Some(Going {
+                        core: core + 1,
+                        row,
+                    });
+                }
             }
-        }
-        first += n;
+            row = Row::empty();
+            continue;
+        };
+        let row = row.with(placed.count());
+        placed.push(Seat {
+            core,
+            task: k,
+            piece: whole,
+        });
+        return Some(Going { core, row });
     }
     None
 }
@@ -106,7 +108,10 @@ pub fn walk_over<'a>(
     ensures { EndsOver (place_way machine costs tasks.now) placed.new result order.now }
 {
     let mut records = [Record::from(outside()); RUN_MOST];
-    let mut going = Going { core: 0, first: 0 };
+    let mut going = Going {
+        core: 0,
+        row: Row::empty(),
+    };
     for &k in order {
         let whole = whole_piece(tasks[k].times);
         let Some(next) = land(machine, costs, placed, &mut records, going, k, whole) else {

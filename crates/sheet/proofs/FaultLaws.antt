@@ -3,14 +3,16 @@
 --
 --   part-kept, fit-kept                     every rule of a good `part` line, and of a `fit` line, holds
 --   line-machine, -cost, -part, -fit, -none the same of any line
-use mathlib.Core.Path.{◌≡◌}
-use mathlib.Core.Bool.{true, not}
-use mathlib.Core.List.{List}
-use Prim.Native.Nat.{ℕ, ◌≤◌, ◌<◌}
+--   part-inside, part-there                 a part that is found by its name stands at its place, within an array of parts
+use mathlib.Core.Path.{◌≡◌, refl, ◌∙◌}
+use mathlib.Core.Bool.{Bool, true, false, cond, not}
+use mathlib.Core.List.{List, [], ◌∷◌}
+use Prim.Native.Nat.{ℕ, suc, ◌+◌, ◌-◌, ◌≤◌, ◌<◌}
 use native.Mathlib.Omega.{arith}
 use borrow.Author.Tests.{eqb-true, eqb-false, ltb-true, leb-true, not-true}
 use lib.Dec.{leb, eqb}
-use lib.ListN.{length}
+use lib.ListN.{length, take, get_or, length-take}
+use lib.Seq.{get_or-take}
 use Rattle.std.proofs.Common.{Some, None}
 use Rattle.demand.specs.declared.Costs.{Costs}
 use Rattle.demand.specs.Sizes.{sized, sized_costs}
@@ -18,10 +20,11 @@ use Rattle.task.specs.declared.Name.{Name}
 use Rattle.task.specs.declared.Part.{Part}
 use Rattle.task.specs.declared.Task.{Task}
 use Rattle.task.specs.declared.Machine.{Machine}
+use Rattle.task.specs.Names.{same_name}
 use Rattle.task.specs.Tasks.{tasks_most, sized_machine, whole_piece, place_of, part_place, rule}
 use Rattle.task.proofs.TaskLaws.{rule-fine}
 use Rattle.lines.specs.declared.Line.{Line}
-use Rattle.sheet.specs.Sheet.{Above, at_top, below_machine, among_parts, room, machine_fault, cost_fault, part_fault}
+use Rattle.sheet.specs.Sheet.{Above, part_named, at_top, below_machine, among_parts, room, machine_fault, cost_fault, part_fault}
 use Rattle.sheet.specs.Sheet.{fit_fault, line_fault, task_free, part_free}
 
 -- ---- good lines
@@ -99,3 +102,41 @@ module _ (a : Above) where
   pub line-none : line_fault a None ≡ 0 → ⊥
   unfolding line_fault
   line-none none = omega arith
+
+-- ---- the part of a name
+
+-- its place, counted from k
+record At (k : ℕ) (n : Name) (ps : List Part) (place : ℕ) : Type 0 where
+  low : k ≤ place
+  high : place < k + length ps
+  part : (d : Part) → part_named n ps ≡ get_or ps (place - k) d
+
+part-some : (k : ℕ) (n : Name) (ps : List Part) → 1 ≤ k → (part_place k n ps ≡ 0 → ⊥) → At k n ps (part_place k n ps)
+part-some k n [] pos some = absurd (some refl)
+part-some k n (p ∷ ps) pos some = by-test (same_name n p.name) refl (λ h. part-some (k + 1) n ps (omega arith) h) some
+  where
+    by-test : (b : Bool) → same_name n p.name ≡ b → ((part_place (k + 1) n ps ≡ 0 → ⊥) → At (k + 1) n ps (part_place (k + 1) n ps))
+        → (cond b k (part_place (k + 1) n ps) ≡ 0 → ⊥) → At k n (p ∷ ps) (cond b k (part_place (k + 1) n ps))
+    by-test true e h s =
+        record { low = omega arith; high = omega arith; part = λ d. (let here : k - k ≡ 0 = omega arith in rw (here, e)) }
+    by-test false e h s =
+        let r = h s in
+        record {
+          low = omega (arith, r.low);
+          high = omega (arith, r.high);
+          part = λ d. (let on : part_place (k + 1) n ps - k ≡ suc (part_place (k + 1) n ps - (k + 1)) = omega (arith, r.low) in rw (on, e) (r.part d));
+        }
+
+-- the same in an array
+module _ (n : Name) (count : ℕ) (list : List Part) (long : length list ≡ tasks_most) (k : ℕ) (place : k ≡ part_place 1 n (take count list)) where
+  module _ (some : k ≡ 0 → ⊥) where
+    found : At 1 n (take count list) k
+    found = rw place (part-some 1 n (take count list) (omega arith) (λ none. some (place ∙ none)))
+
+    pub part-inside : k - 1 < tasks_most
+    part-inside = omega (arith, found.low, found.high, length-take count list)
+
+    pub part-there : (d : Part) → part_named n (take count list) ≡ get_or list (k - 1) d
+    part-there d =
+        let low : k - 1 < count = omega (arith, found.low, found.high, length-take count list) in
+        found.part d ∙ get_or-take count list (k - 1) d low

@@ -11,3 +11,4 @@ pub mod SmallLaws
 pub mod EndLaws
 pub mod StageLaws
 pub mod RefusalLaws
+pub mod SettledLaws

@@ -9,12 +9,16 @@
 --   plan-made         so is a plan that comes, of what it was asked for
 --   edit-yields       and what an accepted edit yields, of the state's own machine and costs and the tasks after it
 --   plan-counted, plan-listed, plan-none      what a plan counts and lists, and what comes with a refusal
+--   reached-is        where the walk sticks, the plan that is reached is that of what was placed before
+--   reached-tasks, reached-count, reached-rows, reached-bits      so it has the tasks, counts what was placed, and has it in its rows and words
 use mathlib.Core.Path.{◌≡◌, refl, sym, ap, ◌∙◌}
-use mathlib.Core.List.{List}
-use Prim.Native.Nat.{ℕ, zero, suc, ◌<◌}
+use mathlib.Core.Logic.{◌↔◌}
+use mathlib.Core.List.{List, map}
+use Prim.Native.Nat.{ℕ, zero, suc, ◌≤◌, ◌<◌}
+use native.Mathlib.Omega.{arith}
 use borrow.Author.Tests.{lt-leb}
 use lib.Count.{ones}
-use lib.ListN.{length, take, get_or}
+use lib.ListN.{length, take, get_or, length-take}
 use lib.Dec.{eqb}
 use Rattle.demand.specs.declared.Costs.{Costs}
 use Rattle.demand.specs.Sizes.{Sized, Each}
@@ -28,6 +32,7 @@ use Rattle.demand.specs.Tables.{Not, Kept}
 use Rattle.task.specs.Tasks.{cores_most, state_fault}
 use Rattle.task.specs.Refusals.{state_table}
 use Rattle.task.proofs.RefusalLaws.{state-kept}
+use Rattle.task.proofs.TaskLaws.{state-sane, tasks-listed}
 use Rattle.walks.specs.Way.{Placed, Ending, fine, stuck, walk_over, on_core, row_of}
 use Rattle.walks.specs.Edits.{edited}
 use Rattle.walks.specs.Halves.{Stand}
@@ -35,15 +40,17 @@ use Rattle.walks.proofs.ListLaws.{each-only}
 use Rattle.plan.specs.declared.Plan.{Plan}
 use Rattle.plan.specs.declared.Layout.{Layout}
 use Rattle.plan.specs.Reply.{Reply}
-use Rattle.plan.specs.Walk.{place_way, packed, walked}
+use Rattle.plan.specs.Walk.{place_way, packed, walked, walked_until}
 use Rattle.plan.specs.Layout.{none, tasks_on}
-use Rattle.plan.specs.Plan.{no_plan, finished, unless_fault, plan_of}
-use Rattle.plan.proofs.Theorems.{placed-sized, cores-pass, words-show}
+use Rattle.plan.specs.Plan.{no_plan, plan_placed, finished, unless_fault, plan_of, reached_of}
+use Rattle.plan.specs.Places.{of_task}
+use Rattle.plan.specs.Shows.{stored_of, bit_of}
+use Rattle.plan.proofs.Theorems.{placed-sized, cores-pass, words-show, reached-stuck, reached-shows, reached-words}
 use Rattle.listing.specs.Listing.{listing_of}
 use Rattle.listing.specs.Placed.{placed_listing}
 use Rattle.listing.proofs.PlacedLaws.{plan-is as plan-finished, pieces-count, tasks-count}
 use Rattle.listing.proofs.Theorems.{listing-placed}
-use Rattle.edits.specs.Edits.{by_name, TaskEdit, tasks_held, edit_of, Held}
+use Rattle.edits.specs.Edits.{by_name, TaskEdit, tasks_held, row_in, edit_of, Held}
 use Rattle.edits.proofs.AnswerLaws.{Made, plan-is, edit-made}
 use Rattle.edits.proofs.HeldMeaning.{held-exact}
 use Rattle.edits.proofs.HeldTheorems.{afresh-held}
@@ -126,3 +133,25 @@ plan-none m c n ts some =
       ap (λ (s : Plan). s.layout.count) none_is,
       (λ m' c' n' ts' some'. none_is ∙ sym (refused_none m' c' n' ts' some')),
     )
+
+-- ---- the plan that is reached, where the walk sticks
+
+module _ (m : Machine) (c : Costs) (n : ℕ) (ts : List Task) (sane : Kept (state_table m c n ts)) (k : ℕ) (sticks : walked m c (take n ts) ≡ stuck k 7) where
+  good : state_fault m c n ts ≡ 0
+  good = (state-kept m c n ts).1 sane
+
+  pub reached-is : (reached_of m c n ts).plan ≡ plan_placed m c (take n ts) (walked_until m c (take n ts))
+  reached-is = ap (λ (r : Reply). r.plan) (reached-stuck m c n ts good k sticks)
+
+  pub reached-tasks : tasks_held (reached_of m c n ts).plan ≡ take n ts
+  reached-tasks = ap tasks_held reached-is ∙ tasks-listed (take n ts) (omega (arith, length-take n ts, (state-sane m c n ts good).few))
+
+  pub reached-count : (reached_of m c n ts).plan.layout.count ≡ length (walked_until m c (take n ts))
+  reached-count = ap (λ (s : Plan). s.layout.count) reached-is ∙ (reached-shows m c n ts good).count
+
+  pub reached-rows : (q : ℕ) → q < cores_most → row_in (reached_of m c n ts).plan q ≡ map stored_of (on_core q (walked_until m c (take n ts)))
+  reached-rows q low = ap (λ (s : Plan). row_in s q) reached-is ∙ (reached-shows m c n ts good).numbers q low
+
+  pub reached-bits : (q j : ℕ) → q < cores_most → (bit_of (get_or (reached_of m c n ts).plan.layout.words q 0) j ≡ 1)
+      ↔ (1 ≤ length (of_task j (on_core q (walked_until m c (take n ts)))))
+  reached-bits q j low = rw reached-is ((reached-words m c n ts good q low).set j)

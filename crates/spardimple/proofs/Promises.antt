@@ -5,6 +5,7 @@
 --   plan_listing(sheet, listing)    answers listing_number sheet room, in a buffer of so many bytes, and the buffer, which held old, then holds
 --                                   listing_left sheet old
 --   plan_tasks                      answers plan_of m c n ts, for the first n of the tasks ts; write_listing lists a plan s as listing_of s
+--   plan_reached                    answers reached_of m c n ts, by a reply that has a plan also where the walk sticks
 --   add, withdraw, retime           answer edit_of e s, from any state s
 --   why_records(records, costs, out)    answers why_records_number records costs room, and the buffer then holds why_records_left records costs old
 --   why_core(sheet, core, out)      answers why_core_number sheet core room, and the buffer then holds why_core_left sheet core old
@@ -13,11 +14,14 @@
 --   diff_listing(sheet, sheet', out)    answers diff_number sheet sheet' room, and the buffer then holds diff_left sheet sheet' old
 --   write_diff(s, t, out)           lists two plans s and t side by side as diff_of s t
 --
--- Each of these is an equation for any input, with nothing asked of the caller: so one input has one answer, and one content for what was lent.
+-- Each of these is an equation for any input, with nothing asked of the caller: so one input has one answer, and one content for what was lent. Where a
+-- contract tells of a result by fault_number, place_number, plan_reply, reached_reply, edit_reply, read_shown or note, no other result meets it.
 --
 -- Demand 1, each input answered:
 --   verdict-comes, listing-comes    what a number can be: 2^32 times which answer it is, and what that carries
 --   one_number                      so no two answers share a number
+--   fault-settled, place-settled, plan-settled, reached-settled, edit-settled, read-settled, note-settled
+--                                   where a contract tells of a result by a number, a reply or a note, it settles the result
 --   verdict-refused, records-refused, split-refused, listing-refused, plan-refused, edit-refused
 --                                   each refusal comes exactly where its table gives it, with what it carries
 --   listing-taken, plan-taken, edit-taken     and a listing is written, a plan made, an edit accepted, exactly where no rule of its table is broken
@@ -53,6 +57,7 @@
 --   plan-made, plan-counted         a plan that comes is a held plan, of what was asked for, and counts its tasks and pieces
 --   plan-listed                     and its listing is that of what the walk placed
 --   plan-none                       with a refusal comes no plan: one that holds nothing, the same for all
+--   reached-numbered, reached-alike, reached-until     `plan_reached` answers the same, but with 7 a plan of what was placed before the walk stuck
 --   diff-shown                      two sheets' plans side by side: the first line, then the lines of the names that moved, one name after another
 --   diff-any, diff-held             the same of any two plans' structs, and of two held plans by what their walks placed
 --   moved-in-order, moved-exactly   these names stand in byte order, no name twice, and are exactly those that the two do not place alike
@@ -77,6 +82,7 @@
 --   listing_number     listing-comes, listing-refused, listing-taken
 --   listing_left       refused-buffer, written-buffer
 --   plan_of            plan-refused, plan-taken, plan-none, plan-made, plan-counted
+--   reached_of         reached-numbered, reached-alike, reached-until
 --   edit_of            edit-refused, edit-taken, refused-state, edit-afresh
 --   listing_of         plan-listed
 --   why_records_number  why-records-answered
@@ -107,7 +113,7 @@
 --   same_placed        placed-equal
 --
 -- Assumes nothing.
-use Rattle.std.specs.Prelude.{Err, Ok, Option}
+use Rattle.std.specs.Prelude.{Err, Ok, Option, Result}
 use mathlib.Core.Path.{◌≡◌, refl, ap, ◌∙◌, subst}
 use mathlib.Core.Bool.{true, cond}
 use mathlib.Core.Logic.{◌↔◌, ◌⊎◌}
@@ -115,7 +121,7 @@ use mathlib.Core.List.{List, [], ◌∷◌, ◌++◌, map}
 use Prim.Native.Nat.{ℕ, suc, ◌+◌, ◌*◌, ◌-◌, ◌^◌, ◌≤◌, ◌<◌}
 use native.Mathlib.Omega.{arith}
 use borrow.Author.Tests.{le-leb, lt-leb}
-use lib.ListN.{length, take, drop}
+use lib.ListN.{length, take, drop, get_or}
 use lib.Seq.{take-length}
 use Rattle.demand.specs.declared.Piece.{Piece}
 use Rattle.demand.specs.declared.Costs.{Costs}
@@ -142,11 +148,15 @@ use Rattle.demand.proofs.RefusalLaws.{answer-refused, split-refused as split-den
 use Rattle.task.specs.declared.Name.{Name}
 use Rattle.task.specs.declared.Task.{Task}
 use Rattle.task.specs.declared.Machine.{Machine}
+use Rattle.task.specs.declared.faults.Fault.{Fault}
+use Rattle.task.specs.declared.faults.Refused.{Refused}
+use Rattle.task.specs.Faults.{fault_number}
 use Rattle.task.specs.Names.{Formed, formed, same_bytes, same_name}
-use Rattle.task.specs.Tasks.{cores_most, task_at}
+use Rattle.task.specs.Tasks.{cores_most, task_at, place_number}
 use Rattle.task.specs.Refusals.{state_table}
 use Rattle.task.proofs.NameLaws.{formed-exact, same-bytes-exact, same-name-exact}
 use Rattle.task.proofs.RefusalLaws.{state-kept}
+use Rattle.task.proofs.SettledLaws.{fault-number-one, place-number-one}
 use Rattle.walks.specs.Lists.{Chain, sum_by}
 use Rattle.walks.specs.Order.{Precedes}
 use Rattle.walks.specs.Way.{Placed, fine, stuck, walk_over, on_core, row_of, SticksAt}
@@ -155,17 +165,24 @@ use Rattle.walks.specs.Edits.{edited}
 use Rattle.walks.specs.Kept.{Among, Behind}
 use Rattle.walks.specs.Halves.{Stand}
 use Rattle.plan.specs.declared.Plan.{Plan}
+use Rattle.plan.specs.declared.Reached.{Reached}
 use Rattle.plan.specs.Walk.{whole_at, place_way, task_way, denser_at, packed, walked, walked_until}
 use Rattle.plan.specs.Layout.{tasks_on}
-use Rattle.plan.specs.Plan.{plan_of}
+use Rattle.plan.specs.Plan.{plan_of, reached_of, plan_reply, reached_reply}
 use Rattle.plan.specs.Refusals.{plan_table}
 use Rattle.plan.specs.Places.{Rearranged, of_task, TaskPlaced}
+use Rattle.plan.specs.Shows.{stored_of, bit_of}
 use Rattle.plan.proofs.Theorems.{packing-order, packing-ranked as ranked, packing-one as only-order}
 use Rattle.plan.proofs.Theorems.{all_placed, budgets-add, windows-add, jitters-told, plan-counts, no-room-last}
+use Rattle.plan.proofs.Theorems.{reached-number, reached-alike as alike-reached}
 use Rattle.plan.proofs.RefusalLaws.{plan-refused as told-plan, plan-kept}
+use Rattle.plan.proofs.SettledLaws.{plan-settled as settled-plan, reached-settled as settled-reached}
+use Rattle.sheet.specs.declared.Sheet.{Sheet}
+use Rattle.sheet.specs.Sheet.{read_shown}
 use Rattle.sheet.specs.Refusals.{read_table}
+use Rattle.sheet.proofs.SettledLaws.{read-settled as settled-read}
 use Rattle.listing.specs.Listing.{spelling, listing_of}
-use Rattle.listing.specs.Papers.{refused, written, note_of, left}
+use Rattle.listing.specs.Papers.{refused, written, note, note_of, left}
 use Rattle.listing.specs.Why.{no_room_line, why_text, by_place, titled_placed, whole_seat, why_of}
 use Rattle.listing.specs.Placed.{by_core, placed_lines, placed_listing}
 use Rattle.listing.specs.ByteOrder.{comes_before}
@@ -175,10 +192,12 @@ use Rattle.listing.proofs.AlikeLaws.{same-placed-exact}
 use Rattle.listing.proofs.MovedLaws.{names-chain, unlike-means, nothing-moved}
 use Rattle.listing.proofs.TextLaws.{over-short, over-fits}
 use Rattle.listing.proofs.WhyPlacedLaws.{asked-outside}
-use Rattle.edits.specs.Edits.{by_name, TaskEdit, tasks_held, edit_of, accepted, Afresh, Held, played}
+use Rattle.listing.proofs.SettledLaws.{note-settled as settled-note}
+use Rattle.edits.specs.Edits.{by_name, TaskEdit, tasks_held, row_in, edit_of, edit_reply, accepted, Afresh, Held, played}
 use Rattle.edits.specs.Refusals.{edit_table}
 use Rattle.edits.specs.Kept.{in_order, Keeps, edited_name, Ahead}
 use Rattle.edits.proofs.AnswerLaws.{edit-planned}
+use Rattle.edits.proofs.SettledLaws.{edit-settled as settled-edit}
 use Rattle.edits.proofs.Theorems.{edit-refused as gives_back, after-edits-afresh, same-stand}
 use Rattle.edits.proofs.HeldTheorems.{edit-relies, afresh-held, after-held, held-before, held_after}
 use Rattle.spardimple.specs.Bytes.{pieces_of, costs_spelt}
@@ -198,6 +217,7 @@ use Rattle.spardimple.proofs.WhyHeld.{plan-shown}
 use Rattle.spardimple.proofs.DiffLaws.{diff-answered as sheets-answered, diff-left as sheets-left}
 use Rattle.spardimple.proofs.DiffHeld.{held-diff}
 use Rattle.spardimple.proofs.JudgedLaws.{run-passes, run-overloaded, run-undecided, run-split, verdict-passes, verdict-overloaded, verdict-undecided}
+use Rattle.spardimple.proofs.HeldPlans.{reached-is, reached-tasks, reached-count, reached-rows, reached-bits}
 use Rattle.spardimple.proofs.HeldPlans.{plan-none as nothing-planned, plan-counted as counts-planned, plan-listed as listed-planned}
 use Rattle.spardimple.proofs.HeldPlans.{walk-order as in-packing-order, cores-bounded, held-ones as ones-held, plan-made as made_held, edit-yields as yields-held}
 use Rattle.demand.specs.declared.Cut.{Cut}
@@ -257,6 +277,32 @@ written-buffer = buffer-listed
 
 pub refused-state : (e : TaskEdit) (s : Plan) → ((edit_of e s).number ≡ 0 → ⊥) → (edit_of e s).plan ≡ s
 refused-state e s = gives_back e s
+
+-- ---- demand 1: one answer for one input
+
+-- where a contract tells of a result by a number, a reply or a note, two results that meet it are one
+pub fault-settled : (r s : Result Unit Fault) → fault_number r ≡ fault_number s → r ≡ s
+fault-settled = fault-number-one
+
+pub place-settled : (p q : Option ℕ) → place_number p ≡ place_number q → p ≡ q
+place-settled = place-number-one
+
+pub plan-settled : (r s : Result Plan Refused) → plan_reply r ≡ plan_reply s → r ≡ s
+plan-settled = settled-plan
+
+pub reached-settled : (m : Machine) (c : Costs) (n : ℕ) (ts : List Task) (r s : Result Reached Refused)
+    → reached_reply r ≡ reached_of m c n ts → reached_reply s ≡ reached_of m c n ts → r ≡ s
+reached-settled = settled-reached
+
+-- and the plan that is left
+pub edit-settled : (r s : Result Unit Refused) (p q : Plan) → edit_reply r p ≡ edit_reply s q → (r ≡ s) × (p ≡ q)
+edit-settled = settled-edit
+
+pub read-settled : (r s : Result Sheet Refused) → read_shown r ≡ read_shown s → r ≡ s
+read-settled = settled-read
+
+pub note-settled : (r s : Result ℕ Refused) → note r ≡ note s → r ≡ s
+note-settled = settled-note
 
 -- ---- demand 2: the verdict
 
@@ -495,6 +541,34 @@ plan-counted = counts-planned
 pub plan-listed : (m : Machine) (c : Costs) (n : ℕ) (ts : List Task) → Kept (state_table m c n ts) → (s : Stand) (l : List (Placed ℕ))
     → walked m c (take n ts) ≡ fine s l → listing_of (plan_of m c n ts).plan ≡ placed_listing c (take n ts) l
 plan-listed = listed-planned
+
+-- a plan of the machine m, the costs c and the tasks ts that counts what was placed, l, and has it in its rows and words
+pub record Shows (m : Machine) (c : Costs) (ts : List Task) (l : List (Placed ℕ)) (s : Plan) : Type 0 where
+  pub machine : s.machine ≡ m
+  pub costs : s.costs ≡ c
+  pub tasks : tasks_held s ≡ ts
+  pub count : s.layout.count ≡ length l
+  pub rows : (q : ℕ) → q < cores_most → row_in s q ≡ map stored_of (on_core q l)
+  pub words : (q k : ℕ) → q < cores_most → (bit_of (get_or s.layout.words q 0) k ≡ 1) ↔ (1 ≤ length (of_task k (on_core q l)))
+
+-- `plan_reached` answers the same, but with 7 it has a plan all the same: of what was placed before the walk stuck
+module _ (m : Machine) (c : Costs) (n : ℕ) (ts : List Task) where
+  pub reached-numbered : ((reached_of m c n ts).number ≡ (plan_of m c n ts).number) × ((reached_of m c n ts).carries ≡ (plan_of m c n ts).carries)
+  reached-numbered = reached-number m c n ts
+
+  pub reached-alike : Not ((plan_of m c n ts).number ≡ 7) → reached_of m c n ts ≡ plan_of m c n ts
+  reached-alike = alike-reached m c n ts
+
+  pub reached-until : Kept (state_table m c n ts) → (k : ℕ) → walked m c (take n ts) ≡ stuck k 7
+      → Shows m c (take n ts) (walked_until m c (take n ts)) (reached_of m c n ts).plan
+  reached-until sane k sticks = record {
+    machine = ap (λ (s : Plan). s.machine) (reached-is m c n ts sane k sticks);
+    costs = ap (λ (s : Plan). s.costs) (reached-is m c n ts sane k sticks);
+    tasks = reached-tasks m c n ts sane k sticks;
+    count = reached-count m c n ts sane k sticks;
+    rows = reached-rows m c n ts sane k sticks;
+    words = reached-bits m c n ts sane k sticks;
+  }
 
 -- ---- two plans side by side
 

@@ -6,26 +6,32 @@
 --   note-told              what is said of a paper is told by its number
 --   refused-told, refused-left      a refusal, and the buffer
 --   odd-records, odd-costs, formed-records      lent bytes by their lengths
+--   holds-why, holds-demand         what the first records of others come to is what they come to alone
 --   unread-core, read-core          a sheet that is refused, and one that is read
 --   demand-odd, demand-formed       the demand of lent bytes
 use Rattle.std.specs.Prelude.{Err, Ok, Result, ⊤}
 use mathlib.Core.Path.{◌≡◌, refl, sym, ap, ◌∙◌}
 use mathlib.Core.Bool.{Bool, true, false, cond, ◌&&◌}
-use mathlib.Core.List.{List, [], ◌++◌}
-use Prim.Native.Nat.{ℕ, zero, suc, ◌+◌, ◌*◌, ◌%◌, ◌^◌}
+use mathlib.Core.List.{List, [], ◌∷◌, ◌++◌}
+use Prim.Native.Nat.{ℕ, zero, suc, ◌+◌, ◌*◌, ◌%◌, ◌^◌, ◌≤◌, ◌<◌}
+use native.Mathlib.Decide.{dec_le}
 use native.Mathlib.Omega.{arith}
 use borrow.Author.Tests.{eq-eqb, ne_eqb}
 use lib.Dec.{eqb, leb}
 use lib.ListN.{length, take}
+use lib.Seq.{take-length}
 use Rattle.demand.specs.declared.Piece.{Piece}
 use Rattle.demand.specs.declared.Costs.{Costs}
 use Rattle.demand.specs.declared.Refusal.TheVariants.{TooMany, BadCosts, BadRecord}
 use Rattle.demand.specs.Answer.{check_run, demand_figure}
+use Rattle.demand.specs.Sizes.{run_most}
+use Rattle.demand.proofs.RunLaws.{check-many}
 use Rattle.plan.specs.declared.Plan.{Plan}
 use Rattle.sheet.specs.Sheet.{Read}
 use Rattle.sheet.specs.Sheet.{read_of}
 use Rattle.listing.specs.Papers.{Note, Paper, refused, written, note_of, left}
 use Rattle.listing.specs.Why.{Titled, pieces_in, unless_bad, why_text, why_paper, by_place, why_run, why_row, why_stuck, why_asked, why_of}
+use Rattle.listing.proofs.SeatLaws.{paper-front, paper-many}
 use Rattle.spardimple.specs.Bytes.{pieces_of, costs_spelt}
 use Rattle.spardimple.specs.Numbers.{number, measured}
 use Rattle.spardimple.specs.Sheets.{unless, refusal, told_paper}
@@ -111,6 +117,34 @@ module _ (rs cs : List ℕ) where
       → demand_number rs cs t ≡ figure_number (demand_figure (costs_spelt cs) (length (pieces_of rs)) (pieces_of rs) t)
   unfolding demand_number measured
   demand-formed t whole nine = simp (eq-eqb (length rs % 28) 0 whole, eq-eqb (length cs) 36 nine)
+
+take_places : (k n : ℕ) (ps : List Piece) → take n (by_place k ps) ≡ by_place k (take n ps)
+take_places k zero ps = refl
+take_places k (suc n) [] = refl
+take_places k (suc n) (p ∷ ps) = cc (take_places (k + 1) n ps)
+
+module _ (ps : List Piece) (c : Costs) (qs : List Piece) (holds : length ps ≤ run_most → take (length ps) qs ≡ ps) where
+  pub holds-why : why_run c (length ps) qs ≡ why_run c (length ps) ps
+  unfolding why_run
+  holds-why = elim (dec_le (length ps) run_most) [
+    | yes few ↦ paper-front [] c (length ps) (by_place 1 qs) (by_place 1 ps)
+        (take_places 1 (length ps) qs ∙ (ap (by_place 1) (holds few ∙ sym (take-length ps)) ∙ sym (take_places 1 (length ps) ps)))
+    | no many ↦ paper-many [] c (length ps) (by_place 1 qs) (omega arith) ∙ sym (paper-many [] c (length ps) (by_place 1 ps) (omega arith))
+  ]
+
+  same-demand : (t : ℕ) → take (length ps) qs ≡ ps → demand_figure c (length ps) qs t ≡ demand_figure c (length ps) ps t
+  unfolding demand_figure check_run
+  same-demand t e = rw (e ∙ sym (take-length ps))
+
+  many-demand : (t : ℕ) (xs : List Piece) → run_most < length ps → demand_figure c (length ps) xs t ≡ Err TooMany
+  unfolding demand_figure
+  many-demand t xs many = rw (check-many c (length ps) xs many)
+
+  pub holds-demand : (t : ℕ) → demand_figure c (length ps) qs t ≡ demand_figure c (length ps) ps t
+  holds-demand t = elim (dec_le (length ps) run_most) [
+    | yes few ↦ same-demand t (holds few)
+    | no many ↦ many-demand t qs (omega arith) ∙ sym (many-demand t ps (omega arith))
+  ]
 
 -- ---- a sheet and a core
 

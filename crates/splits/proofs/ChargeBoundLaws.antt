@@ -5,8 +5,9 @@
 --   bounds-as, caps-as                  both from the code's own figures
 --   beside_snoc, demand-same            the demand with q behind, and beside
 --   unsettled-from, passes-settles      what no busy length and a pass tell of the charge
---   stalled-rest, -jobs, -over, -fits      what fits at one length where the stall counts
---   bound-squeezed, -own, -never, -stands      what the core with q behind tells
+--   charge-ranged                       a piece with another charge is within its ranges
+--   stalled-rest, -jobs, -over, -free, -fits      what fits at one length where the stall counts
+--   bound-most, -squeezed, -unsettled, -own, -never, -stands      what the core with q behind tells
 use Rattle.std.specs.Prelude.{None, Option, Some}
 use mathlib.Core.Path.{◌≡◌, refl, sym, ap, ◌∙◌, subst}
 use mathlib.Core.List.{List, [], ◌∷◌, ◌++◌}
@@ -23,7 +24,7 @@ use Rattle.demand.specs.declared.Verdict.TheVariants.{Passes, Overloaded, Undeci
 use Rattle.splits.specs.declared.charge_bounds.Bound.{Bound}
 use Rattle.splits.specs.declared.charge_bounds.Bound.TheVariants.{Stands, Falls, AtMost}
 use Rattle.demand.specs.Sizes.{time_most, busy_most, Each}
-use Rattle.demand.specs.Ways.Ranges.{Ranged}
+use Rattle.demand.specs.Ways.Ranges.{charge_most, Ranged}
 use Rattle.demand.specs.Demand.{ceil, total, jobs_due, interrupts, largest_window, blocking, load, demand, Live, least_live}
 use Rattle.demand.specs.Busy.{Least, Finds, busy_load, busy_sum, busy_length}
 use Rattle.demand.specs.Verdict.{Calm, Says, Means, scan, over_span, verdict}
@@ -132,6 +133,18 @@ module _ (qs : List Charged) (q r : Charged) (period : r.period ≡ q.period) (r
 
 -- ---- q with another charge
 
+pub charge-ranged : (q : Charged) (f : ℕ) → Ranged q → f ≤ charge_most → Ranged (with_charge q f)
+charge-ranged q f ok fits = record {
+  period-some = ok.period-some;
+  period-fits = ok.period-fits;
+  window-fits = ok.window-fits;
+  jitter-fits = ok.jitter-fits;
+  charge-fits = fits;
+  release-fits = ok.release-fits;
+  ipi-fits = ok.ipi-fits;
+  ipij-fits = ok.ipij-fits;
+}
+
 charge-load : (q : Charged) (f t : ℕ) → load t (with_charge q f) ≡ jobs_due q t * f + interrupts q t
 unfolding load jobs_due interrupts
 charge-load q f t = refl
@@ -154,6 +167,9 @@ module _ (qs : List Charged) (q : Charged) (t : ℕ) where
     pub stalled-over : t < b + rest → Stalled b qs q t 0
     stalled-over over = record { less = omega arith; caps = λ y below fits. absurd (omega (arith, fits)) }
 
+    pub stalled-free : jobs ≡ 0 → Stalled b qs q t (q.charge - 1)
+    stalled-free none = record { less = omega arith; caps = λ y below fits. omega arith }
+
     pub stalled-fits : b + rest ≤ t → 0 < jobs → (r : ℕ) → r ≡ min (q.charge - 1) ((t - (b + rest)) / jobs) → Stalled b qs q t r
     stalled-fits room pos r least = record { less = omega arith; caps = λ y below fits. omega (arith, (le-div_iff_mul-le pos).1 (times y fits)) }
       where
@@ -170,9 +186,21 @@ module _ (b : ℕ) (qs rs : List Charged) (q : Charged) (laid : rs ≡ qs ++ (q 
   some-laid : 1 ≤ length rs
   some-laid = rw (laid, length-append) (omega arith)
 
+  pub bound-most : (a r : ℕ) → a ≡ least_live rs → r < q.charge → Caps b qs q q.charge a r → Bounds b qs q (AtMost r)
+  bound-most a r start less caps = (less, λ y le holds settles. caps.caps y le (rw (start, laid) holds))
+
   pub bound-squeezed : (a l r : ℕ) → a ≡ least_live rs → r < q.charge → r ≡ most_fitting b qs q a l q.charge → Bounds b qs q (AtMost r)
   bound-squeezed a l r start less is =
       (less, λ y le holds settles. (squeezed-is b qs q a l q.charge r is).greatest y le (λ u low high. holds u (rw (start, laid) at low)))
+
+  pub bound-unsettled : (r : ℕ) → r < q.charge → Unsettled qs q (r + 1) → Bounds b qs q (AtMost r)
+  bound-unsettled r less none = (
+    less,
+    λ y le holds settles. elim (dec_lt r y) [
+      | yes above ↦ absurd (none y (omega arith) settles)
+      | no below ↦ omega arith
+    ],
+  )
 
   spanned : (f : Option ℕ) → busy_length rs ≡ f → verdict b rs ≡ over_span b rs (least_live rs) f
   spanned f e = verdict-span b rs some-laid ∙ ap (λ (g : Option ℕ). over_span b rs (least_live rs) g) e

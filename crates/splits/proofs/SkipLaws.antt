@@ -4,10 +4,11 @@
 --   tight-fits, tight-shorter, tight-full   a tight window holds its sum, is shorter for less, and holds no slack
 --   holding-below             what an allowed split is charged fits beside the core at every live length, in each wider window
 --   step-capped               so a cap of the charge is one of the budget
---   step-stands, falls-here   both pieces pass, or the core's does not
+--   step-stands, falls-here, falls-there   both pieces pass, or the core's does not, or the last one
 --   last-falls                an overloaded last piece: so is each longer one, as long as its window gains too little
+--   step-last                 what no last piece passes with fits at no budget above
 --   misses-lowered            how far down no tight window ends by a top
---   skips-last, -own          so down to there none fits: the last piece falls, or the first one's own blocking
+--   skips-late, -last, -own   so down to there none fits: the last piece falls, or the first one's own blocking
 --   step-due                  and where a job of the core is due within the tight window
 --   ends-room, ends-lowered   where the tight windows of allowed splits end
 --   starts_none, starts-capped     where the search starts
@@ -50,7 +51,7 @@ use Rattle.splits.proofs.MonotoneSearchLaws.{late-more}
 use Rattle.demand.proofs.VerdictLaws.{verdict-means, passes-forever}
 use Rattle.verdicts.proofs.MostFittingLaws.{beside_at}
 use Rattle.splits.proofs.ChargeBoundLaws.{beside_snoc, blocking-below, blocking-above, least-live-some, passes-settles}
-use Rattle.demand.proofs.ChargedSplitLaws.{fails-here, tight-same, extra, first-charge, last-charge, with_each, calls}
+use Rattle.demand.proofs.ChargedSplitLaws.{fails-here, fails-there, tight-same, extra, first-charge, last-charge, with_each, calls}
 use Rattle.demand.proofs.ChargedSplitLaws.{calls_mono, tight-parts, first-interrupts, first-recurs, last-recurs}
 use Rattle.splits.proofs.SplitSearchLaws.{step-skips, step-done, calls-with}
 
@@ -199,6 +200,11 @@ module _ (c : Costs) (qs : List Charged) (p : Piece) (x w : ℕ) (found : TightI
   unfolding with_first
   falls-here f bound = fails-here c qs p x found.0 w found.1 found.3 (verdict (stall c) (qs ++ (charged c (first_piece p x w) ∷ []))) refl bound.0
 
+  pub falls-there : (s : ℕ) → Hopeless c p x w s → (u : ℕ) → Fits c qs p x u → ⊥
+  falls-there s hopeless =
+      fails-there c qs p x found.0 w found.1 found.3 (verdict (stall c) (last_alone c p x w)) refl
+      (hopeless x w (omega arith) (omega arith) (omega arith))
+
 -- ---- the last piece alone
 
 alone-demand : (b : ℕ) (q : Charged) (u : ℕ) → demand b (q ∷ []) u ≡ blocking b (q ∷ []) u + (jobs_due q u * q.charge + interrupts q u)
@@ -295,6 +301,9 @@ module _ (c : Costs) (p : Piece) (ok : Sized p) (x w u : ℕ) (over : verdict (s
 -- ---- how far down the next may stand
 
 module _ (c : Costs) (qs : List Charged) (p : Piece) where
+  pub step-last : (x f w : ℕ) → (f < x) × ((y v : ℕ) → y ≤ x → verdict (stall c) (last_alone c p y v) ≡ Passes → ⊥) → Steps c qs p x (Below f)
+  step-last x f w none = (none.0, λ z u low high fits. none.1 z (p.jitter + u) high fits.there)
+
   -- the high end of the budgets, one less
   pub misses-lowered : (base b k : ℕ) → base ≡ b + k → b ≡ stall c → k ≡ (charged c (first_piece p 0 0)).charge → (rs : List Charged)
       → rs ≡ with_first c qs p 0 0 → (top x h : ℕ) → 1 ≤ x → Lowered (NoneHolds rs base top) x h → Misses c qs p top (h - 1) x
@@ -311,6 +320,10 @@ module _ (c : Costs) (qs : List Charged) (p : Piece) where
           })) low.told)
     ],
   )
+
+  -- none has a tight window that leaves the last piece one
+  pub skips-late : (top r x : ℕ) → top ≡ p.window - 1 - p.jitter → Misses c qs p top r x → Skips c qs p r x
+  skips-late top r x is misses = (misses.0, λ z u low high fits. omega (arith, misses.1 z u low high fits.tight, fits.room))
 
   -- the last pieces of all are overloaded whose tight window is past the end
   pub skips-last : (x t w s : ℕ) → Tight c qs p x t → w ≡ p.jitter + t → Hopeless c p x w s → (rs : List Charged)

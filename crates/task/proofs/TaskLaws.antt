@@ -5,7 +5,7 @@
 --   fault-own, fault-below                the fault of a task: its own, and where it has none, a name that one above it has
 --   fault-form, fault-free      a task with a bad name; a good one
 --   rule-fine, or-else-fine     a rule that gives no number is kept
---   tasks-listed, tasks-at      a list in its array
+--   tasks-none, tasks-listed, tasks-at      a list in its array, none first
 --   machine-exact               a machine is within its sizes exactly where its test says so
 --   Good, Sane, state-sane      what is known of tasks, and of a machine with costs and tasks, that break no rule
 use mathlib.Core.Path.{◌≡◌, refl, ap, ◌∙◌}
@@ -17,8 +17,8 @@ use native.Mathlib.Omega.{arith}
 use borrow.Author.Rules.{rules}
 use borrow.Author.Tests.{eq-eqb, ne_eqb, eqb-true, leb-true}
 use lib.Dec.{eqb, leb, ltb}
-use lib.ListN.{length, take, get_or-append}
-use Rattle.demand.proofs.PaddedLaws.{padded-take, padded-append}
+use lib.ListN.{length, take, replicate, get_or-append}
+use Rattle.demand.proofs.PaddedLaws.{padded-none, padded-take, padded-append}
 use Rattle.std.specs.declared.option.Option.TheVariants.{None, Some}
 use Rattle.std.specs.List.{list_any, position, position_or_len}
 use Rattle.task.specs.declared.Name.{Name}
@@ -174,6 +174,9 @@ state-sane m c n ts e =
     }
 
 -- ---- a list in its array
+
+pub tasks-none : (t : Task) → t ≡ no_task → record { count = 0; list = replicate tasks_most t } ≡ tasks_of []
+tasks-none t e = rw (e, padded-none no_task tasks_most)
 
 pub tasks-listed : (ts : List Task) → length ts ≤ tasks_most → list_of (tasks_of ts) ≡ ts
 tasks-listed ts few = padded-take no_task tasks_most ts few

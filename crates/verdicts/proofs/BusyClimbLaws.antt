@@ -4,6 +4,7 @@
 --   flow-share, flow-work         the pass over one piece: every length asks for its share, or for the jobs it has by l
 --   flow-none, flow-more          the pass over a core, one piece more
 --   reach-part                    how far a length must reach, where the shares leave time
+--   reach-over, reach-full        and where they leave none: no length holds what is asked
 --   clear-leap                    a leap passes nothing over
 use mathlib.Core.Path.{◌≡◌, ap}
 use mathlib.Core.List.{List, []}
@@ -77,6 +78,12 @@ module _ (v : Flow) where
       left d pos rest =
           let below : v.work * all_time / d < m + 1 = (div-lt_iff_lt-mul {k = d} pos).1 (omega (arith, ap (λ (s : ℕ). m * s) rest)) in
           omega arith
+
+  pub reach-over : all_time < v.share → Reaches v 100000001
+  reach-over over m some room = absurd (omega (arith, mul-le-mul_left m over))
+
+  pub reach-full : v.share ≡ all_time → 0 < v.work → Reaches v 100000001
+  reach-full full much m some room = absurd (omega (arith, ap (λ (s : ℕ). m * s) full))
 
 -- ---- the climb
 

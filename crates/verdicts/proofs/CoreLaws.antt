@@ -5,6 +5,7 @@
 --   each-piece, each-told     what holds of all pieces holds of each; and what a walk over all of them tells
 --   least-live-none, -bounds, -greatest     t0 is the least of what the pieces have
 --   tight-of-end, tight-found     the tight window of the last piece
+--   piece_there, piece_past, lay_there, lay_past     a charged piece read and laid out at a place, and past the last
 --   lay-records-none, lay-records-more, lay-records-in     the records of a run laid out
 --   sum_mono              no sum falls as t grows
 --   asked-mono, tight-window-asked    what the code climbs by, and the tight window as it climbs to it
@@ -18,6 +19,7 @@ use Prim.Native.Nat.{ℕ, zero, suc, ◌+◌, ◌-◌, ◌≤◌, ◌<◌}
 use native.Mathlib.Nat.{not-suc-le-zero, mul-le-mul_right}
 use native.Mathlib.Numerals.{unary_clauses}
 use native.Mathlib.Omega.{arith}
+use borrow.Author.Tests.{le-leb, lt-leb}
 use lib.ListN.{length, length-map, take, drop, set, get_or}
 use lib.Seq.{length-take-le, take_all, take-append_seam}
 use Rattle.std.proofs.lemmas.List.{take_more}
@@ -33,7 +35,7 @@ use Rattle.verdicts.specs.declared.Sum.{Sum}
 use Rattle.verdicts.specs.declared.Sum.TheVariants.{Load, Interrupts, Jobs, Busy}
 use Rattle.demand.specs.Busy.{least_holding, later, tight_sum, tight_window}
 use Rattle.demand.specs.Answer.{tight_of_last}
-use Rattle.verdicts.specs.Cores.{lay_records}
+use Rattle.verdicts.specs.Cores.{laid_piece, lay_piece, lay_records}
 use Rattle.verdicts.specs.Laid.{term}
 use Rattle.demand.proofs.Sums.{total_mono, total-snoc, each_at}
 use Rattle.demand.proofs.DemandLaws.{jobs-due-mono, load-mono, interrupts-mono, busy-load-mono}
@@ -125,6 +127,31 @@ tight-found b qs d some q last top room r found =
     climbed ∙ of-last
 
 -- ---- records laid out
+
+-- ---- a piece at a place
+
+pub piece_there : (qs : List Charged) (i : ℕ) (d : Charged) → i < length qs → get_or qs i d ≡ laid_piece qs i
+unfolding laid_piece
+piece_there qs i d low = there qs i low
+  where
+    there : (qs : List Charged) (i : ℕ) → i < length qs → get_or qs i d ≡ get_or qs i no_charge
+    there [] i low = absurd (omega arith)
+    there (q ∷ qs) zero low = refl
+    there (q ∷ qs) (suc i) low = there qs i (omega arith)
+
+pub piece_past : (qs : List Charged) (i : ℕ) → length qs ≤ i → no_charge ≡ laid_piece qs i
+unfolding laid_piece
+piece_past [] i high = refl
+piece_past (q ∷ qs) zero high = absurd (omega arith)
+piece_past (q ∷ qs) (suc i) high = piece_past qs i (omega arith)
+
+pub lay_there : (qs : List Charged) (i : ℕ) (q : Charged) → i < length qs → set qs i q ≡ lay_piece qs i q
+unfolding lay_piece
+lay_there qs i q low = simp (lt-leb (length qs) i low)
+
+pub lay_past : (qs : List Charged) (i : ℕ) (q : Charged) → length qs ≤ i → qs ≡ lay_piece qs i q
+unfolding lay_piece
+lay_past qs i q high = simp (le-leb (length qs) i high)
 
 pub lay-records-none : (qs : List Charged) (c : Costs) → qs ≡ lay_records qs c []
 unfolding lay_records

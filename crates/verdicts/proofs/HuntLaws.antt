@@ -2,16 +2,19 @@
 -- Assumes nothing.
 --
 --   core-rises                                      the demand of a core is such a one
+--   test-moves                                      the test of a bar, on either side
 --   quiet-more                                      a step passes over lengths only that are not overloaded
 --   hit-scans, quiet-scans, hunt-hit, hunt-none     what is found is what the verdict's scan finds
 --   bar-is                                          the bar as the code has it
---   leads-hit, leads-none, leads-low   how the search for the least slack goes on and ends
---   over-stretch, calm-stretch, calm-none      and what it tells of overloaded lengths on the way
-use mathlib.Core.Path.{◌≡◌, sym}
+--   leads-start, leads-hit, leads-none, leads-low   how the search for the least slack begins, goes on and ends
+--   over-hit, over-stretch, calm-stretch, calm-none      and what it tells of overloaded lengths on the way
+use mathlib.Core.Path.{◌≡◌, refl, sym}
 use mathlib.Core.List.{List}
 use Prim.Native.Nat.{ℕ, ◌+◌, ◌-◌, ◌≤◌, ◌<◌}
 use native.Mathlib.Decide.{dec_lt}
 use native.Mathlib.Omega.{arith}
+use borrow.Author.Tests.{lt-ltb, le-ltb}
+use lib.Dec.{ltb}
 use Rattle.demand.specs.declared.Charged.{Charged}
 use Rattle.demand.specs.declared.Verdict.TheVariants.{Passes, Overloaded}
 use Rattle.demand.specs.Demand.{demand, largest_window}
@@ -25,6 +28,12 @@ pub core-rises : (b : ℕ) (qs : List Charged) → Rises (demand b qs) (largest_
 core-rises b qs t u up side = demand-mono qs b {t = t} {u = u} up side
 
 -- ---- a hunt
+
+pub test-moves : (t x bar : ℕ) → x ≤ t → ltb (t - x) bar ≡ ltb t (x + bar)
+test-moves t x bar h = elim (dec_lt (t - x) bar) [
+  | yes k ↦ rw (lt-ltb (t - x) bar k, lt-ltb t (x + bar) (omega arith)) refl
+  | no k ↦ rw (le-ltb (t - x) bar (omega arith), le-ltb t (x + bar) (omega arith)) refl
+]
 
 pub quiet-more : (g : ℕ → ℕ) (w bar : ℕ) → Rises g w → (t low end : ℕ) → raised g bar t ≤ low → (w ≤ t → w ≤ low) → Quiet (raised g bar) (t + 1) end
     → Quiet (raised g bar) low end
@@ -53,6 +62,10 @@ module _ (b : ℕ) (qs : List Charged) (a l : ℕ) where
 pub bar-is : (g : ℕ → ℕ) (best x y : ℕ) → x ≡ g best → y ≡ best - x → y + 1 ≡ slack g best + 1
 unfolding slack
 bar-is g best x y e f = omega (arith, e, f)
+
+pub leads-start : (g : ℕ → ℕ) (a l : ℕ) → 1 ≤ l → Leads g a l a (a + l)
+leads-start g a l some =
+    record { from = omega arith; upto = omega arith; below = omega arith; inside = omega arith; least = λ u past below. absurd (omega arith) }
 
 module _ (g : ℕ → ℕ) (w a l best end : ℕ) (lead : Leads g a l best end) where
   pub leads-hit : (t v : ℕ) → Rises g w → Hit (raised g (slack g best + 1)) a (end - a) t → Level g w a t v → Leads g a l v v
@@ -106,6 +119,14 @@ module _ (g : ℕ → ℕ) (w a l best end : ℕ) (lead : Leads g a l best end) 
       omega (arith, level.same)
 
   module _ (bar t : ℕ) (some : 1 ≤ bar) (hit : Hit (raised g bar) a (end - a) t) where
+    pub over-hit : t < g t → Hit g a l t
+    over-hit over = record {
+      from = hit.from;
+      below = omega (arith, hit.below, lead.inside);
+      over = over;
+      quiet = above_hit bar t some hit;
+    }
+
     module _ (v : ℕ) (rises : Rises g w) (level : Level g w a t v) (fits : g t ≤ t) where
       pub over-stretch : v < g t → Hit g a l (g t - 1) × (g t ≡ g (g t - 1))
       over-stretch over =

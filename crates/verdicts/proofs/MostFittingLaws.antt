@@ -3,14 +3,16 @@
 --
 --   squeezed-one, most-fitting-squeezed the greatest charge that fits in a span: there is one, and the definition gives it
 --   most-fitting-is, squeezed-is        from one to the other
+--   fitting-all, -pos, -some            the greatest charge of which so many fit
 --   level-over, level-calls, level-fits what one length tells
---   passed-look, passed-done    the walk down, one look more
---   lowers-look, lowers-below    what a look leaves: less, with a second look to come; or what goes on below
+--   passed_start, passed-look, passed-done    the walk down, one look more
+--   lowers-none, lowers-look, lowers-below    what a look leaves: nothing; less, with a second look to come; or what goes on below
+--   asked-before                        what is held at the last length, where the look was before it
 use mathlib.Core.Bool.{Bool, true, false}
 use mathlib.Core.Path.{◌≡◌, refl, subst}
 use mathlib.Core.List.{List}
-use Prim.Native.Nat.{ℕ, zero, suc, ◌+◌, ◌*◌, ◌-◌, ◌≤◌, ◌<◌, zero-le}
-use native.Mathlib.Nat.{mul-le-mul_right, mul-le-mul_left}
+use Prim.Native.Nat.{ℕ, zero, suc, ◌+◌, ◌*◌, ◌-◌, ◌/◌, ◌≤◌, ◌<◌, zero-le}
+use native.Mathlib.Nat.{mul-le-mul_right, mul-le-mul_left, zero-mul, le-div_iff_mul-le, mul-div-le}
 use native.Mathlib.Decide.{dec_lt}
 use native.Mathlib.Omega.{arith}
 use borrow.Author.Tests.{ltb-true, ltb-false}
@@ -75,6 +77,28 @@ module _ (b : ℕ) (qs : List Charged) (q : Charged) where
 
 -- ---- one length
 
+pub fitting-all : (f jobs room : ℕ) → jobs * f ≤ room → FitsInto f jobs room f
+fitting-all f jobs room h = record { most = omega arith; fits = h; greatest = λ y le k. le }
+
+pub fitting-pos : (f jobs room : ℕ) → room < jobs * f → 0 < jobs
+fitting-pos f zero room h = omega (arith, zero-mul f)
+fitting-pos f (suc jobs) room h = omega arith
+
+pub fitting-some : (f jobs room : ℕ) → room < jobs * f → FitsInto f jobs room (room / jobs)
+fitting-some f jobs room h =
+    let pos : 0 < jobs = fitting-pos f jobs room h in
+    record {
+      most = most pos;
+      fits = mul-div-le room jobs;
+      greatest = λ y le k. (le-div_iff_mul-le pos).1 (omega (arith, k));
+    }
+  where
+    most : 0 < jobs → room / jobs ≤ f
+    most pos = elim (dec_lt f (room / jobs)) [
+      | yes more ↦ absurd (omega (arith, mul-div-le room jobs, mul-le-mul_right jobs more))
+      | no few ↦ omega arith
+    ]
+
 module _ (b : ℕ) (qs : List Charged) (q : Charged) where
   pub beside_at : (f u : ℕ) → beside b qs q f u ≡ demand b qs u + interrupts q u + jobs_due q u * f
   unfolding beside
@@ -115,6 +139,9 @@ module _ (b : ℕ) (qs : List Charged) (q : Charged) where
     pub caps : (y : ℕ) → y ≤ f → FitsIn b qs q y a e → y ≤ r
     pub calm : 1 ≤ r → FitsIn b qs q r end e
 
+  pub passed_start : (f a e : ℕ) → Passed f a e e f
+  passed_start f a e = record { most = omega arith; caps = λ y le fits. le; calm = λ some u low high. absurd (omega arith) }
+
   pub passed-done : (f a l end r : ℕ) → end ≤ a → Passed f a end (a + l) r → r ≡ most_fitting b qs q a l f
   passed-done f a l end r over passed = most-fitting-is b qs q a l f r (record {
     most = passed.most;
@@ -134,6 +161,20 @@ module _ (b : ℕ) (qs : List Charged) (q : Charged) where
   module _ (a : ℕ) (s : Lowering) (some : a < s.end) (stands : Stands b qs q a s) (v : Look) (level : Levels b qs q s.charge s.look v) where
     looked : (y : ℕ) → y ≤ s.charge → FitsIn b qs q y a s.end → y ≤ v.charge
     looked y le fits = level.caps y le (fits s.look (stands.within some).0 (stands.within some).1)
+
+    pub lowers-none : v.charge ≡ 0 → Lowers b qs q a s (last_below 0 0)
+    lowers-none none = record {
+      most = zero-le;
+      caps = λ y le fits. omega (arith, looked y le fits);
+      calm = λ one. absurd (omega arith);
+      down = zero-le;
+      less = omega arith;
+      stands = stands-last a 0 0;
+    }
+
+    -- what is asked for at the last length: as it was held, or by the look itself
+    pub asked-before : s.look < s.end - 1 → s.rest + s.jobs * v.charge ≤ s.end - 1
+    asked-before early = omega (arith, stands.fits early, mul-le-mul_left s.jobs level.most)
 
     pub asked-last : s.end - 1 ≤ s.look → 1 ≤ v.charge → (y : ℕ) → beside b qs q y (s.end - 1) ≡ v.rest + v.jobs * y
     asked-last last one y =

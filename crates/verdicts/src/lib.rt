@@ -1,7 +1,8 @@
 // The engine: the verdict on a core, its busy length, its demand and tight windows. What each of these means stands in `demand`.
 //
 // A run of records is asked about at once (`judge_records` to `tight_window`), and refused as document 01 refuses it. Or charged pieces are looked at once, by
-// `Core::of`, and asked about as often as needed by the methods of `Core`. The functions in `laid_` ask pieces that may be no core, and refuse them (`specs/Laid.antt`).
+// `Core::of`, and asked about as often as needed by the methods of `Core`. The functions in `laid_` ask pieces that may be no core, and then refuse, but for the
+// two whose answer needs none, the largest window and the least live length (`specs/Laid.antt`).
 //
 // Every public function takes any input, and its contract is an equation with one definition.
 #![tactic(auto)]
@@ -29,7 +30,7 @@ use busy_climb::climb_busy;
 pub use cores::Core;
 use demand::{
     BUSY_MOST, COST_MOST, Costs, RUN_MOST, Record, Refusal, Run, Shown, TIME_MOST, Verdict,
-    records_of,
+    check_records, no_charge, records_of,
 };
 use demands::demand_at;
 pub use laid::{
@@ -37,8 +38,8 @@ pub use laid::{
     laid_tight_window, laid_verdict, laid_wait,
 };
 use lengths::tight_of;
-pub use runs::lay_records;
 use runs::lay_run;
+pub use runs::{laid_piece, lay_piece, lay_records};
 pub use shows::ask_of;
 use shows::show_core;
 use spans::judge_core;
@@ -78,11 +79,12 @@ pub enum Sum {
 pub fn judge_records(costs: Costs, records: &[Record]) -> Result<Verdict, Refusal>
     ensures exact { result ≡ answer_of costs (length records.now) (pieces_in records.now) }
 {
-    let run = lay_run(costs, records)?;
+    let mut pieces = [no_charge(); RUN_MOST];
+    let stall = lay_run(&mut pieces, costs, records)?;
     let core = Core {
-        pieces: &run.pieces[..records.len()],
+        pieces: &pieces[..records.len()],
     };
-    Ok(judge_core(&stalled(&core, run.stall)))
+    Ok(judge_core(&stalled(&core, stall)))
 }
 
 /// The same of a run by value.
@@ -100,20 +102,22 @@ pub fn judge(costs: Costs, run: Run) -> Result<Verdict, Refusal>
 pub fn show_records(costs: Costs, records: &[Record]) -> Result<Shown, Refusal>
     ensures exact { result ≡ showing_of costs (length records.now) (pieces_in records.now) }
 {
-    let run = lay_run(costs, records)?;
+    let mut pieces = [no_charge(); RUN_MOST];
+    let stall = lay_run(&mut pieces, costs, records)?;
     let core = Core {
-        pieces: &run.pieces[..records.len()],
+        pieces: &pieces[..records.len()],
     };
-    Ok(show_core(&stalled(&core, run.stall)))
+    Ok(show_core(&stalled(&core, stall)))
 }
 
 /// The busy length L of a run of records, if there is one up to the limit; refused as their verdict is.
 pub fn busy_length(costs: Costs, records: &[Record]) -> Result<Option<u64>, Refusal>
     ensures exact { result ≡ busy_figure costs (length records.now) (pieces_in records.now) }
 {
-    let run = lay_run(costs, records)?;
+    let mut pieces = [no_charge(); RUN_MOST];
+    lay_run(&mut pieces, costs, records)?;
     let core = Core {
-        pieces: &run.pieces[..records.len()],
+        pieces: &pieces[..records.len()],
     };
     Ok(climb_busy(&core))
 }
@@ -122,23 +126,30 @@ pub fn busy_length(costs: Costs, records: &[Record]) -> Result<Option<u64>, Refu
 pub fn demand_of(costs: Costs, records: &[Record], t: u64) -> Result<Option<u64>, Refusal>
     ensures exact { result ≡ demand_figure costs (length records.now) (pieces_in records.now) t }
 {
-    let run = lay_run(costs, records)?;
     if LENGTH_MOST < t {
+        check_records(costs, records)?;
         return Ok(None);
     }
+    let mut pieces = [no_charge(); RUN_MOST];
+    let stall = lay_run(&mut pieces, costs, records)?;
     let core = Core {
-        pieces: &run.pieces[..records.len()],
+        pieces: &pieces[..records.len()],
     };
-    Ok(Some(demand_at(&stalled(&core, run.stall), t)))
+    Ok(Some(demand_at(&stalled(&core, stall), t)))
 }
 
 /// The tight window of the last of them beside those before it, where that is at most its own window.
 pub fn tight_window(costs: Costs, records: &[Record]) -> Result<Option<u64>, Refusal>
     ensures exact { result ≡ tight_figure costs (length records.now) (pieces_in records.now) }
 {
-    let run = lay_run(costs, records)?;
+    if records.is_empty() {
+        check_records(costs, records)?;
+        return Ok(None);
+    }
+    let mut pieces = [no_charge(); RUN_MOST];
+    let stall = lay_run(&mut pieces, costs, records)?;
     let core = Core {
-        pieces: &run.pieces[..records.len()],
+        pieces: &pieces[..records.len()],
     };
-    Ok(tight_of(&core, run.stall))
+    Ok(tight_of(&core, stall))
 }

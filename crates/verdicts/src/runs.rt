@@ -2,13 +2,35 @@
 ghost use Rattle.std.specs.Prelude.{◌≡◌, length, take};
 ghost use Rattle.demand.specs.Records.{pieces_in};
 ghost use Rattle.demand.specs.Sizes.{run_most};
-ghost use Rattle.verdicts.specs.Cores.{lay_records};
+ghost use Rattle.verdicts.specs.Cores.{laid_piece, lay_piece, lay_records};
 ghost use Rattle.verdicts.specs.Ways.Runs.{Lays};
 
 use demand::{
     Charged, Costs, RUN_MOST, Record, Refusal, charged_piece, check_records, no_charge, piece_in,
     stall_of,
 };
+
+/// The charged piece at a place from 0; past the last place all numbers are 0.
+#[tactic(auto, using(crate::proofs::CoreLaws::piece_there, crate::proofs::CoreLaws::piece_past))]
+pub fn laid_piece(pieces: &[Charged], i: usize) -> Charged
+    ensures exact { result ≡ laid_piece pieces.now i }
+{
+    if i < pieces.len() {
+        pieces[i]
+    } else {
+        no_charge()
+    }
+}
+
+/// Lays a charged piece out at a place from 0; past the last place nothing changes.
+#[tactic(auto, using(crate::proofs::CoreLaws::lay_there, crate::proofs::CoreLaws::lay_past))]
+pub fn lay_piece(room: &mut [Charged], i: usize, q: Charged)
+    ensures exact { room.new ≡ lay_piece room.old i q }
+{
+    if i < room.len() {
+        room[i] = q;
+    }
+}
 
 /// Charges the records of a run, each in its place; the places behind them stay as they were. A record past the last place is left out.
 pub fn lay_records<'a>(core: &'a mut [Charged; RUN_MOST], costs: Costs, records: &'a [Record])
@@ -20,22 +42,16 @@ pub fn lay_records<'a>(core: &'a mut [Charged; RUN_MOST], costs: Costs, records:
     }
 }
 
-// A run that is taken: its charged pieces, and how long the core can be held up.
-#[derive(Clone, Copy)]
-pub struct LaidRun {
-    pub pieces: [Charged; RUN_MOST],
-    pub stall: u64,
-}
-
-// The records of a run as a core, where they are taken: 6, then 2, then 3 with the record's place.
-pub fn lay_run(costs: Costs, records: &[Record]) -> Result<LaidRun, Refusal>
-    ensures { Lays costs (length records.now) (pieces_in records.now) result }
+// Lays out the records of a run, each charged in its place, and says how long the core can be held up; or 6, then 2, then 3 with the record's place. The room is lent, since
+// an array in an answer is cleared and copied by every call.
+pub fn lay_run<'a>(
+    pieces: &'a mut [Charged; RUN_MOST],
+    costs: Costs,
+    records: &'a [Record],
+) -> Result<u64, Refusal>
+    ensures { Lays costs (length records.now) (pieces_in records.now) pieces.new result }
 {
     check_records(costs, records)?;
-    let mut pieces = [no_charge(); RUN_MOST];
-    lay_records(&mut pieces, costs, records);
-    Ok(LaidRun {
-        pieces,
-        stall: stall_of(costs),
-    })
+    lay_records(pieces, costs, records);
+    Ok(stall_of(costs))
 }

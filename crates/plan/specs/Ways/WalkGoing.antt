@@ -1,18 +1,22 @@
--- How the code carries a walk: the core with the number of the first piece on it, and what was placed.
+-- How the code carries a walk: the core with its row of piece numbers by value, and what was placed.
 --
---   row_from n placed     the pieces from the number n on: of a core that no other has got a piece behind, its row
+--   row_numbers row       the numbers that a row has
+--   pieces_of_row placed row    the pieces whose numbers these are
+--   Seated placed row     they are numbers of pieces placed
 --   AskFits c row         the verdict on a row can be asked
 --   LandFits c placed g   a task can be placed
 --   WalkFits              the walk over an order can begin
 --   Reach base placed r o      r and what was placed is what the ending o of a walk is, behind base; where it stuck there is no r, and what was placed is base
 --   stuck_place o         the place of the task that a walk stuck at
 --   EndsOver W placed r ks     the walk over the places ks has ended so: where it stuck, with what was placed before
-use Rattle.std.specs.Prelude.{◌≡◌, List, ◌++◌, map, Option, None, Some, ℕ, ◌+◌, ◌<◌, ◌≤◌, length, drop}
+use Rattle.std.specs.Prelude.{◌≡◌, List, ◌++◌, map, Option, None, Some, ℕ, ◌+◌, ◌<◌, ◌≤◌, length, take, get_or}
 use Rattle.demand.specs.declared.Piece.{Piece}
 use Rattle.demand.specs.declared.Costs.{Costs}
+use Rattle.demand.specs.Records.{outside}
 use Rattle.demand.specs.Sizes.{Sized, SizedCosts, Each}
 use Rattle.task.specs.declared.Machine.{Machine}
 use Rattle.task.specs.declared.Task.{Task}
+use Rattle.plan.specs.declared.Row.{Row}
 use Rattle.plan.specs.declared.walk.Going.{Going}
 use Rattle.walks.specs.Way.{Way, Placed, Ending, fine, stuck, walk_over, placed_until}
 use Rattle.walks.specs.Halves.{Stand}
@@ -20,8 +24,15 @@ use Rattle.plan.specs.Walk.{whole_at}
 use Rattle.task.specs.Tasks.{cores_most, tasks_most}
 use Rattle.plan.specs.Sizes.{row_most}
 
-abbrev pub row_from : ℕ → List (Placed ℕ) → List Piece
-row_from n placed = map (λ e. e.piece) (drop n placed)
+abbrev pub row_numbers : Row → List ℕ
+row_numbers row = take row.len row.numbers
+
+abbrev pub pieces_of_row : List (Placed ℕ) → Row → List Piece
+pieces_of_row placed row = map (λ i. get_or (map (λ e. e.piece) placed) i outside) (row_numbers row)
+
+pub record Seated (placed : List (Placed ℕ)) (row : Row) : Type 0 where
+  pub long : length (row_numbers row) ≡ row.len
+  pub below : Each (λ i. i < length placed) (row_numbers row)
 
 pub record AskFits (c : Costs) (row : List Piece) : Type 0 where
   pub costs : SizedCosts c
@@ -32,14 +43,14 @@ pub record AskFits (c : Costs) (row : List Piece) : Type 0 where
 pub record LandFits (c : Costs) (placed : List (Placed ℕ)) (g : Going) : Type 0 where
   pub costs : SizedCosts c
   pub room : length placed ≤ 63 + g.core
-  pub begun : g.first ≤ length placed
-  pub free : length placed < g.first + row_most
-  pub sizes : Each Sized (row_from g.first placed)
+  pub seated : Seated placed g.row
+  pub free : g.row.len < row_most
+  pub sizes : Each Sized (pieces_of_row placed g.row)
 
 pub record Reached (base placed : List (Placed ℕ)) (g : Going) (s : Stand) (l : List (Placed ℕ)) : Type 0 where
   pub core_is : g.core ≡ s.core
-  pub begun : g.first ≤ length placed
-  pub row_is : row_from g.first placed ≡ s.row
+  pub seated : Seated placed g.row
+  pub row_is : pieces_of_row placed g.row ≡ s.row
   pub placed-is : placed ≡ base ++ l
 
 abbrev pub Reach : (base placed : List (Placed ℕ)) → Option Going → Ending Stand ℕ → Type 0

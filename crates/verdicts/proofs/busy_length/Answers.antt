@@ -3,18 +3,18 @@ use Rattle.std.proofs.Common.{Err, ◌≡◌, rules}
 use Rattle.demand.specs.Answer.{busy_figure}
 use Rattle.verdicts.proofs.busy_length.Goals as goal
 
-pub returns-in_err-run : goal.returns-in_err-run
+pub returns-in_err-lay_run : goal.returns-in_err-lay_run
 unfolding busy_figure
-returns-in_err-run c = record {
+returns-in_err-lay_run c = record {
   exact =
-      let same : c.from_residual.result ≡ Err c.in_err-run.field-0.0 = search rules in
-      rw (same, c.in_err-run.ensures);
+      let same : c.from_residual.result ≡ Err c.in_err-lay_run.field-0.0 = search rules in
+      rw (same, c.in_err-lay_run.ensures);
 }
 
 pub returns : goal.returns
 unfolding busy_figure
 returns c = record {
   exact =
-      let run = c.in_ok-run.ensures in
+      let run = c.in_ok-lay_run.ensures in
       rw (c.climb_busy.ensures, run.exact, run.taken);
 }

@@ -1,5 +1,6 @@
 -- `demand_of` meets its contract: the refusal, or the demand of the charged pieces.
 use Rattle.std.proofs.Common.{Err, ◌≡◌, rules}
+use mathlib.Core.Path.{sym, ◌∙◌}
 use Rattle.demand.specs.Answer.{demand_figure}
 use borrow.Author.Tests.{le-leb, lt-leb}
 use Rattle.demand.specs.Sizes.{length_most}
@@ -7,20 +8,29 @@ use Rattle.verdicts.proofs.demand_of.Goals as goal
 
 pub returns-then-t-gt-LENGTH_MOST : goal.returns-then-t-gt-LENGTH_MOST
 unfolding demand_figure
-returns-then-t-gt-LENGTH_MOST c = record { exact = simp (c.in_ok-run.ensures.taken, lt-leb c.args.t length_most c.if-t-gt-LENGTH_MOST.true) }
+returns-then-t-gt-LENGTH_MOST c = record { exact = simp (sym c.check_records.ensures.exact ∙ c.in_ok-check_records.was, lt-leb c.args.t length_most c.if-t-gt-LENGTH_MOST.true) }
 
-pub returns-in_err-run : goal.returns-in_err-run
+-- refused, whatever the length
+pub returns-in_err-check_records : goal.returns-in_err-check_records
 unfolding demand_figure
-returns-in_err-run c = record {
+returns-in_err-check_records c = record {
   exact =
-      let same : c.from_residual.result ≡ Err c.in_err-run.field-0.0 = search rules in
-      rw (same, c.in_err-run.ensures);
+      let same : c.from_residual.result ≡ Err c.in_err-check_records.field-0.0 = search rules in
+      rw (same, sym c.check_records.ensures.exact ∙ c.in_err-check_records.was);
+}
+
+pub returns-in_err-stall : goal.returns-in_err-stall
+unfolding demand_figure
+returns-in_err-stall c = record {
+  exact =
+      let same : c.from_residual-in_err-stall.result ≡ Err c.in_err-stall.field-0.0 = search rules in
+      rw (same, c.in_err-stall.ensures);
 }
 
 pub returns : goal.returns
 unfolding demand_figure
 returns c = record {
   exact =
-      let run = c.in_ok-run.ensures in
+      let run = c.in_ok-stall.ensures in
       simp (c.demand_at.ensures, c.stalled.ensures.0, c.stalled.ensures.1, run.stall-is, run.exact, run.taken, le-leb c.args.t length_most c.if-t-gt-LENGTH_MOST.false);
 }

@@ -4,18 +4,18 @@ use Rattle.std.proofs.Common.{Err, ◌≡◌, rules}
 use Rattle.demand.specs.Verdict.{verdict_of}
 use Rattle.verdicts.proofs.judge_records.Goals as goal
 
-pub returns-in_err-run : goal.returns-in_err-run
+pub returns-in_err-stall : goal.returns-in_err-stall
 unfolding answer_of
-returns-in_err-run c = record {
+returns-in_err-stall c = record {
   exact =
-      let same : c.from_residual.result ≡ Err c.in_err-run.field-0.0 = search rules in
-      rw (same, c.in_err-run.ensures);
+      let same : c.from_residual.result ≡ Err c.in_err-stall.field-0.0 = search rules in
+      rw (same, c.in_err-stall.ensures);
 }
 
 pub returns : goal.returns
 unfolding answer_of verdict_of
 returns c = record {
   exact =
-      let run = c.in_ok-run.ensures in
+      let run = c.in_ok-stall.ensures in
       rw (c.judge_core.ensures, c.stalled.ensures.0, c.stalled.ensures.1, run.stall-is, run.exact, run.taken);
 }

@@ -3,4 +3,4 @@ use Rattle.plan.proofs.GoingLaws.{Trying}
 use Rattle.plan.proofs.walk.land.Given as goal
 
 abbrev pub invariant-loop-core : goal.invariant-loop-core
-invariant-loop-core l = Trying l.machine.cores l.costs l.machine.grain l.whole l.initial.placed l.fn.going l.core l.first l.placed
+invariant-loop-core l = Trying l.machine.cores l.costs l.machine.grain l.whole l.initial.placed l.fn.going l.core l.row l.placed

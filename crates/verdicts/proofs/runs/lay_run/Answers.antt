@@ -6,4 +6,4 @@ use Rattle.verdicts.proofs.runs.lay_run.Goals as goal
 pub returns : goal.returns
 returns c =
     let s = c.args in
-    lays-out s.costs s.records.now _ (sym c.check_records.ensures.exact ∙ c.in_ok-check_records.was) _ c.lay_records.ensures.exact c.stall_of.ensures.exact
+    lays-out s.costs s.records.now _ (sym c.check_records.ensures.exact ∙ c.in_ok-check_records.was) c.lay_records.ensures.exact c.stall_of.ensures.exact
