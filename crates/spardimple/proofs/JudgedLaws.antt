@@ -27,10 +27,10 @@ use Rattle.demand.specs.Tables.{Kept}
 use Rattle.demand.specs.Refusals.{record_table}
 use Rattle.demand.proofs.RunLaws.{taken-answer}
 use Rattle.demand.proofs.RefusalLaws.{record-judged}
-use Rattle.demand.proofs.Tests.{both_left, both_right}
 use Rattle.demand.proofs.AnswerLaws.{answer-judged, answer-passes, answer-overloaded, answer-undecided, split-best}
 use Rattle.spardimple.specs.Bytes.{pieces_of, costs_spelt}
 use Rattle.spardimple.specs.Numbers.{number, said, measured, reply_of, verdict_number}
+use Rattle.spardimple.proofs.LentLaws.{measured-whole}
 use Rattle.spardimple.specs.Refusals.{lent_table}
 use Rattle.spardimple.proofs.NumberLaws.{reply-true, reply-false, reply-formed, reply-carries, number-one, number-reply}
 use Rattle.demand.specs.declared.Refusal.{Refusal}
@@ -72,19 +72,11 @@ module _ (rs cs : List ℕ) where
   abbrev answered : Result Verdict Refusal
   answered = answer_of (costs_spelt cs) (length (pieces_of rs)) (pieces_of rs)
 
-  -- the bytes are whole records and nine costs
-  whole : measured rs cs ≡ true → (length rs % 28 ≡ 0) × (length cs ≡ 36)
-  unfolding measured
-  whole e =
-      let records = eqb (length rs % 28) 0 in
-      let costs = eqb (length cs) 36 in
-      (eqb-true (length rs % 28) 0 (both_left records costs e), eqb-true (length cs) 36 (both_right records costs e))
-
   pub reply-judged : (v : Verdict) → (reply_of rs cs ≡ said (Ok v)) ↔ ((length rs % 28 ≡ 0) × (length cs ≡ 36) × (answered ≡ Ok v))
   reply-judged v = ((λ is. by is (measured rs cs) refl), λ h. reply-formed rs cs h.0 h.1 ∙ (rw h.2 refl))
     where
       by : reply_of rs cs ≡ said (Ok v) → (b : Bool) → measured rs cs ≡ b → (length rs % 28 ≡ 0) × (length cs ≡ 36) × (answered ≡ Ok v)
-      by is true e = ((whole e).0, (whole e).1, (let h : said answered ≡ said (Ok v) = sym (reply-true rs cs e) ∙ is in cc))
+      by is true e = ((measured-whole rs cs e).0, (measured-whole rs cs e).1, (let h : said answered ≡ said (Ok v) = sym (reply-true rs cs e) ∙ is in cc))
       by is false e = let h = sym (reply-false rs cs e) ∙ is in let z : ◌≡◌ {A = ℕ} 0 1 = cc in absurd (omega arith)
 
   -- a verdict by the number that is given back

@@ -1,7 +1,7 @@
 -- What lent bytes come to, step by step as the code goes.
 -- Assumes nothing.
 --
---   is-measured, unmeasured     the form of lent bytes
+--   is-measured, measured-whole, unmeasured     the form of lent bytes: whole records and nine costs
 --   unlent-small, unlent-told, unlent-why, unlent-demand    where they are refused before they are judged
 --   lent-told, lent-why, lent-demand          where they are read
 --   refused-said          a refusal of the run's has its number
@@ -13,7 +13,8 @@ use mathlib.Core.List.{List, [], map}
 use Prim.Native.Nat.{ℕ, ◌%◌, ◌^◌, ◌<◌}
 use native.Mathlib.Decide.{dec_le}
 use native.Mathlib.Omega.{arith}
-use borrow.Author.Tests.{eq-eqb, ne_eqb}
+use borrow.Author.Tests.{eq-eqb, ne_eqb, eqb-true}
+use lib.Dec.{eqb}
 use lib.ListN.{length}
 use Rattle.demand.specs.declared.Piece.{Piece}
 use Rattle.demand.specs.declared.Costs.{Costs}
@@ -24,6 +25,7 @@ use Rattle.demand.specs.declared.Verdict.{Verdict}
 use Rattle.demand.specs.Answer.{told, answer_of, demand_figure}
 use Rattle.demand.specs.Records.{piece_in}
 use Rattle.demand.specs.Sizes.{run_most}
+use Rattle.demand.proofs.Tests.{both_left, both_right}
 use Rattle.demand.proofs.RecordLaws.{pieces-length}
 use Rattle.demand.proofs.RunLaws.{check-many, answer-bad}
 use Rattle.task.specs.declared.faults.Refused.{Refused}
@@ -54,6 +56,13 @@ module _ (rs cs : List ℕ) where
   pub is-measured : length rs % 28 ≡ 0 → length cs ≡ 36 → measured rs cs ≡ true
   unfolding measured
   is-measured whole nine = simp (eq-eqb (length rs % 28) 0 whole, eq-eqb (length cs) 36 nine)
+
+  pub measured-whole : measured rs cs ≡ true → (length rs % 28 ≡ 0) × (length cs ≡ 36)
+  unfolding measured
+  measured-whole e =
+      let records = eqb (length rs % 28) 0 in
+      let costs = eqb (length cs) 36 in
+      (eqb-true (length rs % 28) 0 (both_left records costs e), eqb-true (length cs) 36 (both_right records costs e))
 
   pub unmeasured : (length rs % 28 ≡ 0 → length cs ≡ 36 → ⊥) → measured rs cs ≡ false
   unfolding measured

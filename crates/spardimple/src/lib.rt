@@ -17,7 +17,7 @@ ghost use Rattle.spardimple.specs.Diffs.{diff_number, diff_left};
 ghost use Rattle.spardimple.specs.Whys.{why_records_number, why_records_left, why_core_number, why_core_left, demand_number};
 
 use demand::{Costs, Piece, RUN_MOST, Refusal, Run, Verdict, outside};
-use lent::{judged, lent, run_room, run_shown};
+use lent::{judged, lent, measure, run_room, run_shown};
 use numbers::{note_number, number_of, refusal_number};
 use sheets::{compared, core_shown, listed, planned};
 use verdicts::demand_of;
@@ -78,6 +78,9 @@ pub fn why_core(sheet: &[u8], core: u64, out: &mut [u8]) -> u64
 pub fn demand_at(records: &[u8], costs: &[u8], t: u64) -> u64
     ensures exact { result ≡ demand_number records.now costs.now t }
 {
+    let Ok(()) = measure(records, costs) else {
+        return 0;
+    };
     let mut room = run_room();
     let Ok((costs, run)) = lent(&mut room, records, costs) else {
         return 0;

@@ -79,8 +79,9 @@ pub enum Sum {
 pub fn judge_records(costs: Costs, records: &[Record]) -> Result<Verdict, Refusal>
     ensures exact { result ≡ answer_of costs (length records.now) (pieces_in records.now) }
 {
+    check_records(costs, records)?;
     let mut pieces = [no_charge(); RUN_MOST];
-    let stall = lay_run(&mut pieces, costs, records)?;
+    let stall = lay_run(&mut pieces, costs, records);
     let core = Core {
         pieces: &pieces[..records.len()],
     };
@@ -102,8 +103,9 @@ pub fn judge(costs: Costs, run: Run) -> Result<Verdict, Refusal>
 pub fn show_records(costs: Costs, records: &[Record]) -> Result<Shown, Refusal>
     ensures exact { result ≡ showing_of costs (length records.now) (pieces_in records.now) }
 {
+    check_records(costs, records)?;
     let mut pieces = [no_charge(); RUN_MOST];
-    let stall = lay_run(&mut pieces, costs, records)?;
+    let stall = lay_run(&mut pieces, costs, records);
     let core = Core {
         pieces: &pieces[..records.len()],
     };
@@ -114,8 +116,9 @@ pub fn show_records(costs: Costs, records: &[Record]) -> Result<Shown, Refusal>
 pub fn busy_length(costs: Costs, records: &[Record]) -> Result<Option<u64>, Refusal>
     ensures exact { result ≡ busy_figure costs (length records.now) (pieces_in records.now) }
 {
+    check_records(costs, records)?;
     let mut pieces = [no_charge(); RUN_MOST];
-    lay_run(&mut pieces, costs, records)?;
+    lay_run(&mut pieces, costs, records);
     let core = Core {
         pieces: &pieces[..records.len()],
     };
@@ -126,12 +129,12 @@ pub fn busy_length(costs: Costs, records: &[Record]) -> Result<Option<u64>, Refu
 pub fn demand_of(costs: Costs, records: &[Record], t: u64) -> Result<Option<u64>, Refusal>
     ensures exact { result ≡ demand_figure costs (length records.now) (pieces_in records.now) t }
 {
+    check_records(costs, records)?;
     if LENGTH_MOST < t {
-        check_records(costs, records)?;
         return Ok(None);
     }
     let mut pieces = [no_charge(); RUN_MOST];
-    let stall = lay_run(&mut pieces, costs, records)?;
+    let stall = lay_run(&mut pieces, costs, records);
     let core = Core {
         pieces: &pieces[..records.len()],
     };
@@ -142,12 +145,12 @@ pub fn demand_of(costs: Costs, records: &[Record], t: u64) -> Result<Option<u64>
 pub fn tight_window(costs: Costs, records: &[Record]) -> Result<Option<u64>, Refusal>
     ensures exact { result ≡ tight_figure costs (length records.now) (pieces_in records.now) }
 {
+    check_records(costs, records)?;
     if records.is_empty() {
-        check_records(costs, records)?;
         return Ok(None);
     }
     let mut pieces = [no_charge(); RUN_MOST];
-    let stall = lay_run(&mut pieces, costs, records)?;
+    let stall = lay_run(&mut pieces, costs, records);
     let core = Core {
         pieces: &pieces[..records.len()],
     };

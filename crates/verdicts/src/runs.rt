@@ -1,14 +1,12 @@
 // A run of records, each charged, so that it can be asked about as a core.
 ghost use Rattle.std.specs.Prelude.{◌≡◌, length, take};
+ghost use Rattle.demand.specs.Answer.{Taken};
 ghost use Rattle.demand.specs.Records.{pieces_in};
 ghost use Rattle.demand.specs.Sizes.{run_most};
 ghost use Rattle.verdicts.specs.Cores.{laid_piece, lay_piece, lay_records};
-ghost use Rattle.verdicts.specs.Ways.Runs.{Lays};
+ghost use Rattle.verdicts.specs.Ways.Runs.{LaysOut};
 
-use demand::{
-    Charged, Costs, RUN_MOST, Record, Refusal, charged_piece, check_records, no_charge, piece_in,
-    stall_of,
-};
+use demand::{Charged, Costs, RUN_MOST, Record, charged_piece, no_charge, piece_in, stall_of};
 
 /// The charged piece at a place from 0; past the last place all numbers are 0.
 #[tactic(auto, using(crate::proofs::CoreLaws::piece_there, crate::proofs::CoreLaws::piece_past))]
@@ -42,16 +40,12 @@ pub fn lay_records<'a>(core: &'a mut [Charged; RUN_MOST], costs: Costs, records:
     }
 }
 
-// Lays out the records of a run, each charged in its place, and says how long the core can be held up; or 6, then 2, then 3 with the record's place. The room is lent, since
-// an array in an answer is cleared and copied by every call.
-pub fn lay_run<'a>(
-    pieces: &'a mut [Charged; RUN_MOST],
-    costs: Costs,
-    records: &'a [Record],
-) -> Result<u64, Refusal>
-    ensures { Lays costs (length records.now) (pieces_in records.now) pieces.new result }
+// Lays out the records of a run that is taken, each charged in its place, and says how long the core can be held up. The room is lent, since an array in an answer is
+// cleared and copied by every call.
+pub fn lay_run<'a>(pieces: &'a mut [Charged; RUN_MOST], costs: Costs, records: &'a [Record]) -> u64
+    requires { Taken costs (length records.now) (pieces_in records.now) }
+    ensures { LaysOut costs (length records.now) (pieces_in records.now) pieces.new result }
 {
-    check_records(costs, records)?;
     lay_records(pieces, costs, records);
-    Ok(stall_of(costs))
+    stall_of(costs)
 }

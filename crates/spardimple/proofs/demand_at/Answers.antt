@@ -13,20 +13,23 @@ found-number (Some n) = refl
 pub returns-in_default : goal.returns-in_default
 returns-in_default c = record { exact = unlent-demand c.args.records.now c.args.costs.now c.in_default.field-0 c.in_default.ensures c.args.t }
 
+pub returns-in_default-lent : goal.returns-in_default-lent
+returns-in_default-lent c = record { exact = unlent-demand c.args.records.now c.args.costs.now c.in_default-lent.field-0 c.in_default-lent.ensures c.args.t }
+
 pub returns-in_default-demand_of : goal.returns-in_default-demand_of
 returns-in_default-demand_of c = record {
   exact =
       let s = c.args in
-      let read = c.in-Ok.ensures in
+      let read = c.in-Ok-lent.ensures in
       sym (ap figure_number c.in_default-demand_of.is)
-      ∙ lent-demand s.records.now s.costs.now c.in-Ok.costs c.in-Ok.run'.now read.0 read.1 read.2 s.t c.demand_of.result c.demand_of.ensures.exact;
+      ∙ lent-demand s.records.now s.costs.now c.in-Ok-lent.costs c.in-Ok-lent.run'.now read.0 read.1 read.2 s.t c.demand_of.result c.demand_of.ensures.exact;
 }
 
 pub returns : goal.returns
 returns c = record {
   exact =
       let s = c.args in
-      let read = c.in-Ok.ensures in
+      let read = c.in-Ok-lent.ensures in
       c.unwrap_or.ensures ∙ found-number c.in-Ok-demand_of.demand ∙ sym (ap figure_number c.in-Ok-demand_of.is)
-      ∙ lent-demand s.records.now s.costs.now c.in-Ok.costs c.in-Ok.run'.now read.0 read.1 read.2 s.t c.demand_of.result c.demand_of.ensures.exact;
+      ∙ lent-demand s.records.now s.costs.now c.in-Ok-lent.costs c.in-Ok-lent.run'.now read.0 read.1 read.2 s.t c.demand_of.result c.demand_of.ensures.exact;
 }

@@ -1,6 +1,7 @@
 -- `demand_of` meets its contract: the refusal, or the demand of the charged pieces.
 use Rattle.std.proofs.Common.{Err, ◌≡◌, rules}
 use mathlib.Core.Path.{sym, ◌∙◌}
+use Rattle.demand.proofs.RunLaws.{check-taken}
 use Rattle.demand.specs.Answer.{demand_figure}
 use borrow.Author.Tests.{le-leb, lt-leb}
 use Rattle.demand.specs.Sizes.{length_most}
@@ -19,18 +20,13 @@ returns-in_err-check_records c = record {
       rw (same, sym c.check_records.ensures.exact ∙ c.in_err-check_records.was);
 }
 
-pub returns-in_err-stall : goal.returns-in_err-stall
-unfolding demand_figure
-returns-in_err-stall c = record {
-  exact =
-      let same : c.from_residual-in_err-stall.result ≡ Err c.in_err-stall.field-0.0 = search rules in
-      rw (same, c.in_err-stall.ensures);
-}
+pub lay_run-stall-requires : goal.lay_run-stall-requires
+lay_run-stall-requires c = check-taken _ _ _ (sym c.check_records.ensures.exact ∙ c.in_ok-check_records.was)
 
 pub returns : goal.returns
 unfolding demand_figure
 returns c = record {
   exact =
-      let run = c.in_ok-stall.ensures in
+      let run = c.lay_run-stall.ensures in
       simp (c.demand_at.ensures, c.stalled.ensures.0, c.stalled.ensures.1, run.stall-is, run.exact, run.taken, le-leb c.args.t length_most c.if-t-gt-LENGTH_MOST.false);
 }

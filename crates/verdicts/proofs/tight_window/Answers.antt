@@ -2,6 +2,7 @@
 use Rattle.std.proofs.Common.{Err, ◌≡◌, length, rules}
 use Rattle.demand.specs.Answer.{tight_figure}
 use mathlib.Core.Path.{sym, ◌∙◌}
+use Rattle.demand.proofs.RunLaws.{check-taken}
 use Rattle.verdicts.proofs.LaidRunLaws.{tight-none}
 use Rattle.verdicts.proofs.tight_window.Goals as goal
 
@@ -21,18 +22,13 @@ returns-in_err-check_records c = record {
       rw (same, sym c.check_records.ensures.exact ∙ c.in_err-check_records.was);
 }
 
-pub returns-in_err-stall : goal.returns-in_err-stall
-unfolding tight_figure
-returns-in_err-stall c = record {
-  exact =
-      let same : c.from_residual-in_err-stall.result ≡ Err c.in_err-stall.field-0.0 = search rules in
-      rw (same, c.in_err-stall.ensures);
-}
+pub lay_run-stall-requires : goal.lay_run-stall-requires
+lay_run-stall-requires c = check-taken _ _ _ (sym c.check_records.ensures.exact ∙ c.in_ok-check_records.was)
 
 pub returns : goal.returns
 unfolding tight_figure
 returns c = record {
   exact =
-      let run = c.in_ok-stall.ensures in
+      let run = c.lay_run-stall.ensures in
       rw (c.tight_of.ensures, run.stall-is, run.exact, run.taken);
 }

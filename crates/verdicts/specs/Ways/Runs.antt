@@ -1,12 +1,10 @@
--- What a run that is laid out promises. It is a way and no meaning; the laws are in `proofs/RunLaws.antt`.
+-- What a run that is laid out promises. It is a way and no meaning; the laws are in `proofs/LaidRunLaws.antt`.
 --
 --   LaysOut c n ps qs b   the first n of qs are the first n records of ps, each charged, as a core, and b is its stall
---   Lays c n ps qs r      they are where the records are taken, and r is b; and r is the refusal where they are not
-use Rattle.std.specs.Prelude.{◌≡◌, List, ℕ, ◌≤◌, take, Result, Ok, Err}
+use Rattle.std.specs.Prelude.{◌≡◌, List, ℕ, ◌≤◌, take, Ok}
 use Rattle.demand.specs.declared.Piece.{Piece}
 use Rattle.demand.specs.declared.Costs.{Costs}
 use Rattle.demand.specs.declared.Charged.{Charged}
-use Rattle.demand.specs.declared.Refusal.{Refusal}
 use Rattle.demand.specs.Answer.{check_run}
 use Rattle.demand.specs.Charge.{core_of, stall}
 use Rattle.demand.specs.Sizes.{run_most}
@@ -20,7 +18,3 @@ pub record LaysOut (c : Costs) (n : ℕ) (ps : List Piece) (qs : List Charged) (
   pub stall-is : b ≡ stall c
   pub stall-fits : b ≤ stall_most
   pub taken : check_run c n ps ≡ Ok tt
-
-abbrev pub Lays : Costs → ℕ → List Piece → List Charged → Result ℕ Refusal → Type 0
-Lays c n ps qs (Ok b) = LaysOut c n ps qs b
-Lays c n ps qs (Err why) = check_run c n ps ≡ Err why

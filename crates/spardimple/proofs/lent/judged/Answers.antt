@@ -6,9 +6,14 @@ use Rattle.task.specs.Faults.{refused_as}
 use Rattle.spardimple.proofs.LentLaws.{unlent-told, lent-told, refused-said}
 use Rattle.spardimple.proofs.lent.judged.Goals as goal
 
+pub returns-in_err-measure : goal.returns-in_err-measure
+returns-in_err-measure c =
+    let same : c.from_residual.result ≡ Err c.in_err-measure.field-0.0 = search rules in
+    rw same (unlent-told c.args.records.now c.args.costs.now c.in_err-measure.field-0.0 c.in_err-measure.ensures)
+
 pub returns-in_err-costs : goal.returns-in_err-costs
 returns-in_err-costs c =
-    let same : c.from_residual.result ≡ Err c.in_err-costs.field-0.0 = search rules in
+    let same : c.from_residual-in_err-costs.result ≡ Err c.in_err-costs.field-0.0 = search rules in
     rw same (unlent-told c.args.records.now c.args.costs.now c.in_err-costs.field-0.0 c.in_err-costs.ensures)
 
 pub returns-in_err-judge_records : goal.returns-in_err-judge_records

@@ -10,10 +10,18 @@ use Rattle.spardimple.proofs.StepLaws.{refused-writes}
 use Rattle.spardimple.specs.Whys.{why_records}
 use Rattle.spardimple.proofs.lent.run_shown.Goals as goal
 
+pub returns-in_err-measure : goal.returns-in_err-measure
+returns-in_err-measure c =
+    let s = c.args in
+    let same : c.from_residual.result ≡ Err c.in_err-measure.field-0.0 = search rules in
+    let why = c.in_err-measure.ensures in
+    rw same (refused-writes (why_records s.records.now s.costs.now) c.in_err-measure.field-0.0
+    (unlent-why s.records.now s.costs.now c.in_err-measure.field-0.0 why) (unlent-small s.records.now s.costs.now c.in_err-measure.field-0.0 why) s.out.now)
+
 pub returns-in_err-costs : goal.returns-in_err-costs
 returns-in_err-costs c =
     let s = c.args in
-    let same : c.from_residual.result ≡ Err c.in_err-costs.field-0.0 = search rules in
+    let same : c.from_residual-in_err-costs.result ≡ Err c.in_err-costs.field-0.0 = search rules in
     let why = c.in_err-costs.ensures in
     rw same (refused-writes (why_records s.records.now s.costs.now) c.in_err-costs.field-0.0
     (unlent-why s.records.now s.costs.now c.in_err-costs.field-0.0 why) (unlent-small s.records.now s.costs.now c.in_err-costs.field-0.0 why) s.out.now)
